@@ -1,3 +1,4 @@
 pub mod Parts
 pub mod Tables
 pub mod Tests
+pub mod Pasting
