@@ -12,7 +12,7 @@ use Rattle.lists.specs.Lists.{within, part, pasted}
 use Rattle.lists.proofs.Parts.{in-within}
 use Rattle.lists.proofs.Pasting.{paste-in, length-pasted, part-pasted}
 use Rattle.fields.specs.declared.Field.the-variants.{Number}
-use Rattle.fields.specs.Fields.{digitsMax, isDigit, numberFrom, readNumber, digitsOf}
+use Rattle.fields.specs.Fields.{digitsMax, isDigit, numberFrom, readNumber, digitsOf, withPart}
 use Rattle.fields.proofs.Read.{inside, read-within}
 
 pub digits-length : (w v : ℕ) → length (digitsOf w v) ≡ w
@@ -75,3 +75,17 @@ read-written out at w v d h l s =
     let i : within (pasted out at (digitsOf w v)) at w ≡ true = in-within (pasted out at (digitsOf w v)) at w (omega arith) (omega arith) in
     let p : part (pasted out at (digitsOf w v)) at w ≡ digitsOf w v = part-pasted out at (digitsOf w v) w (digits-length w v) (omega arith) in
     read-within (pasted out at (digitsOf w v)) at w d i ∙ rw p (digits-number w v s)
+
+-- ---- a part of another list
+module _ (out : List ℕ) (to : ℕ) (s : List ℕ) (at n : ℕ) where
+  pub part-missing : within s at n ≡ false → out ≡ withPart out to s at n
+  unfolding withPart
+  part-missing e = simp e
+
+  -- as a slice gives it: from at up to end
+  pub part-there : (end : ℕ) (o : List ℕ) → at + n ≡ end → end ≤ length s → o ≡ pasted out to (take (end - at) (drop at s)) → o ≡ withPart out to s at n
+  unfolding withPart part
+  part-there end o e h q =
+      let d : end - at ≡ n = omega arith in
+      let w : within s at n ≡ true = in-within s at n (omega arith) (omega arith) in
+      q ∙ rw (d, w)

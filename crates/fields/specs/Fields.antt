@@ -53,3 +53,7 @@ digitsOf (suc w) v = digitsOf w (v / 10) ++ ((48 + v % 10) ∷ [])
 -- n blanks
 abbrev pub blanks : ℕ → List ℕ
 blanks n = replicate n 32
+
+-- the list with the n elements of s from at pasted in from to on, or the list itself where s does not have them
+unfoldable pub withPart : List ℕ → ℕ → List ℕ → ℕ → ℕ → List ℕ
+withPart out to s at n = cond (within s at n) (pasted out to (part s at n)) out

@@ -1,7 +1,7 @@
 // Fixed columns of bytes: digits, blanks and codes read, parts compared, and digits, blanks and bytes written.
 ghost use mathlib.Core.Path.{_≡_};
 ghost use Rattle.lists.specs.Lists.{pasted};
-ghost use Rattle.fields.specs.Fields.{readNumber, allBetween, allBlank, allVisible, samePart, digitsOf, blanks};
+ghost use Rattle.fields.specs.Fields.{readNumber, allBetween, allBlank, allVisible, samePart, digitsOf, blanks, withPart};
 
 // What a field of digits holds.
 pub enum Field {
@@ -172,4 +172,18 @@ pub fn put_bytes(out: &mut [u8], at: usize, s: &[u8])
         out[at + i] = s[i];
         i += 1;
     }
+}
+
+// Writes the n bytes of s from at into out from to on. Bytes that are not there or do not fit are not written.
+pub fn put_part(out: &mut [u8], to: usize, s: &[u8], at: usize, n: usize)
+    ensures { λ _. ⌜ now (out .exit) ≡ withPart (now (out .entry)) to (now (s .entry)) at n ⌝ }
+{
+    if s.len() < at {
+        return;
+    }
+    if s.len() - at < n {
+        return;
+    }
+    let end = at + n;
+    put_bytes(out, to, &s[at..end]);
 }
