@@ -1,4 +1,5 @@
 pub mod Parts
 pub mod Tables
 pub mod Tests
+pub mod Folds
 pub mod Pasting
