@@ -8,7 +8,7 @@ use Rattle.lists.specs.Lists.{sumOf, all}
 use Rattle.layout.specs.declared.Detail.{Detail}
 use Rattle.terminator.specs.declared.Kind.{Kind}
 use Rattle.terminator.specs.declared.Kind.the-variants.{Good, Odd, Bad}
-use Rattle.terminator.specs.Terminators.{isCanceled}
+use Rattle.terminator.specs.Terminators.{isCanceled, isGood, isOdd}
 use Rattle.terminator.specs.Lots.{Lot, lotKind, lotMillions, lots}
 
 -- a group: a run of 6 lots, then a run of 7 lots
@@ -31,16 +31,6 @@ groupsFrom os (n ∷ ns) (l ∷ ls) =
 
 unfoldable pub groups : List Detail → List Group
 groups ds = groupsFrom [] [] (lots ds)
-
-abbrev pub isGood : Kind → Bool
-isGood Good = true
-isGood Odd = false
-isGood Bad = false
-
-abbrev pub isOdd : Kind → Bool
-isOdd Good = false
-isOdd Odd = true
-isOdd Bad = false
 
 abbrev pub sameKind : Kind → Kind → Bool
 sameKind Good k = isGood k

@@ -10,6 +10,7 @@ use Rattle.fields.specs.Fields.{readNumber}
 use Rattle.layout.specs.declared.Detail.{Detail}
 use Rattle.terminator.specs.declared.Terminator.{Terminator}
 use Rattle.terminator.specs.declared.Terminator.the-variants.{Middle, BadMiddle, GoodEnd, OddEnd, BadEnd, Wrong}
+use Rattle.terminator.specs.declared.Mark.{Mark}
 use Rattle.terminator.specs.declared.Kind.{Kind}
 use Rattle.terminator.specs.declared.Kind.the-variants.{Good, Odd, Bad}
 
@@ -99,3 +100,26 @@ term d = terminatorOf (d .terminator)
 -- a pool that a CC cancels; every other pool is new
 abbrev pub isCanceled : Detail → Bool
 isCanceled d = eqb (one d) digitCanceled
+
+abbrev pub isGood : Kind → Bool
+isGood Good = true
+isGood Odd = false
+isGood Bad = false
+
+abbrev pub isOdd : Kind → Bool
+isOdd Good = false
+isOdd Odd = true
+isOdd Bad = false
+
+-- all that a pool's terminator says, taken apart
+unfoldable pub markOf : Detail → Mark
+markOf d =
+    record {
+      one = one d;
+      wrong = isWrong (term d);
+      end = isEnd (term d);
+      bad = isBad (term d);
+      good = isGood (kindOf (term d));
+      odd = isOdd (kindOf (term d));
+      millions = millionsOf (term d);
+    }

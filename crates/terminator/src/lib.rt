@@ -2,8 +2,10 @@
 use fields::Field;
 use layout::Detail;
 ghost use mathlib.Core.Path.{_≡_};
-ghost use Rattle.layout.specs.Details.{details};
-ghost use Rattle.terminator.specs.Terminators.{positions, terminatorOf, isEnd, isWrong, isBad, kindOf, millionsOf};
+ghost use Prim.Native.Nat.{_<_};
+ghost use Rattle.layout.specs.Details.{details, poolCount, detailAt, placeOf};
+ghost use Rattle.terminator.specs.Terminators.{positions, terminatorOf, isEnd, isWrong, isBad, kindOf, millionsOf, isGood, isOdd, markOf};
+ghost use Rattle.terminator.specs.Lots.{replacementCount, goodMillions};
 
 // What positions two to four say.
 pub enum Terminator {
@@ -21,6 +23,21 @@ pub enum Kind {
     Odd,
     Bad,
 }
+
+// What a pool's terminator says, taken apart.
+struct Mark {
+    one: u8,
+    wrong: bool,
+    end: bool,
+    bad: bool,
+    good: bool,
+    odd: bool,
+    millions: u64,
+}
+
+// Position one of a canceled and of a replacement pool.
+pub const CANCELED: u8 = 54;
+pub const REPLACEMENT: u8 = 55;
 
 pub fn positions_two_to_four(n: u64) -> Terminator
     ensures { λ r. ⌜ r ≡ positions n ⌝ }
@@ -44,4 +61,148 @@ pub fn terminator_of(terminator: [u8; 4]) -> Terminator
         Field::Number(n) => positions_two_to_four(n),
         Field::NotDigits => Terminator::Wrong,
     }
+}
+
+fn is_end(t: Terminator) -> bool
+    ensures { λ r. ⌜ r ≡ isEnd t ⌝ }
+{
+    match t {
+        Terminator::Middle => false,
+        Terminator::BadMiddle => false,
+        Terminator::GoodEnd(_) => true,
+        Terminator::OddEnd => true,
+        Terminator::BadEnd => true,
+        Terminator::Wrong => false,
+    }
+}
+
+fn is_wrong(t: Terminator) -> bool
+    ensures { λ r. ⌜ r ≡ isWrong t ⌝ }
+{
+    match t {
+        Terminator::Middle => false,
+        Terminator::BadMiddle => false,
+        Terminator::GoodEnd(_) => false,
+        Terminator::OddEnd => false,
+        Terminator::BadEnd => false,
+        Terminator::Wrong => true,
+    }
+}
+
+fn is_bad(t: Terminator) -> bool
+    ensures { λ r. ⌜ r ≡ isBad t ⌝ }
+{
+    match t {
+        Terminator::Middle => false,
+        Terminator::BadMiddle => true,
+        Terminator::GoodEnd(_) => false,
+        Terminator::OddEnd => false,
+        Terminator::BadEnd => true,
+        Terminator::Wrong => false,
+    }
+}
+
+fn kind_of(t: Terminator) -> Kind
+    ensures { λ r. ⌜ r ≡ kindOf t ⌝ }
+{
+    match t {
+        Terminator::Middle => Kind::Odd,
+        Terminator::BadMiddle => Kind::Odd,
+        Terminator::GoodEnd(_) => Kind::Good,
+        Terminator::OddEnd => Kind::Odd,
+        Terminator::BadEnd => Kind::Bad,
+        Terminator::Wrong => Kind::Odd,
+    }
+}
+
+fn millions_of(t: Terminator) -> u64
+    ensures { λ r. ⌜ r ≡ millionsOf t ⌝ }
+{
+    match t {
+        Terminator::Middle => 0,
+        Terminator::BadMiddle => 0,
+        Terminator::GoodEnd(n) => n,
+        Terminator::OddEnd => 0,
+        Terminator::BadEnd => 0,
+        Terminator::Wrong => 0,
+    }
+}
+
+fn is_good(k: Kind) -> bool
+    ensures { λ r. ⌜ r ≡ isGood k ⌝ }
+{
+    match k {
+        Kind::Good => true,
+        Kind::Odd => false,
+        Kind::Bad => false,
+    }
+}
+
+fn is_odd(k: Kind) -> bool
+    ensures { λ r. ⌜ r ≡ isOdd k ⌝ }
+{
+    match k {
+        Kind::Good => false,
+        Kind::Odd => true,
+        Kind::Bad => false,
+    }
+}
+
+fn mark_of(d: Detail) -> Mark
+    ensures { λ r. ⌜ r ≡ markOf d ⌝ }
+{
+    let bytes = d.terminator;
+    let t = terminator_of(bytes);
+    let k = kind_of(t);
+    Mark {
+        one: bytes[0],
+        wrong: is_wrong(t),
+        end: is_end(t),
+        bad: is_bad(t),
+        good: is_good(k),
+        odd: is_odd(k),
+        millions: millions_of(t),
+    }
+}
+
+// What the terminator of the i-th pool says.
+fn mark_at(body: &[u8], i: usize) -> Mark
+    requires { ⌜ i < poolCount (now body) ⌝ }
+    ensures { λ r. ⌜ r ≡ markOf (detailAt (now (body .entry)) (placeOf i)) ⌝ }
+{
+    let s = layout::next_detail(body, layout::HEADER_WIDTH + i * layout::DETAIL_WIDTH);
+    let d = s.detail;
+    mark_of(d)
+}
+
+// The number of replacement pools.
+pub fn replacement_count(body: &[u8]) -> usize
+    ensures { λ r. ⌜ r ≡ replacementCount (details (now (body .entry))) ⌝ }
+{
+    let n = layout::pool_count(body);
+    let mut count: usize = 0;
+    let mut i: usize = 0;
+    while i < n {
+        let m = mark_at(body, i);
+        i += 1;
+        if m.one == REPLACEMENT {
+            count += 1;
+        }
+    }
+    count
+}
+
+// The sum of the good millions of a message's lots.
+pub fn good_millions(body: &[u8]) -> u64
+    ensures { λ r. ⌜ r ≡ goodMillions (details (now (body .entry))) ⌝ }
+{
+    let n = layout::pool_count(body);
+    let mut sum: u64 = 0;
+    let mut i: usize = 0;
+    while i < n {
+        let m = mark_at(body, i);
+        i += 1;
+        sum += m.millions;
+    }
+    sum
 }

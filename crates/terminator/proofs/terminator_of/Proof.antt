@@ -1,3 +1,6 @@
+use mathlib.Core.Path.{sym, ap, _∙_}
+use Rattle.terminator.specs.Terminators.{positionsOf}
+use Rattle.terminator.proofs.Marks.{read-of}
 use borrow.Author.Needs.{needs}
 use Rattle.terminator.proofs.terminator_of.Statement.{statement}
 use Rattle.terminator.proofs.terminator_of.Tie as tie
@@ -28,11 +31,11 @@ enum-told c = search needs
 
 -- src/lib.rt:39:1
 returns : tie.Need-returns
-returns c = search needs
+returns c = c .positions-two-to-four .ensures ∙ ap positionsOf (sym (c .before .before .f .given .1)) ∙ read-of _ _ (c .before .before .before .before .read-number .ensures)
 
 -- src/lib.rt:39:1
 returns-2 : tie.Need-returns-2
-returns-2 c = search needs
+returns-2 c = ap positionsOf (sym (c .enum-told .given .1)) ∙ read-of _ _ (c .before .before .read-number .ensures)
 
 pub terminator-of-spec : {M : Type 1} → statement M
 terminator-of-spec =

@@ -1,0 +1,76 @@
+-- What a pool's terminator says, taken apart, and the laws of the positions.
+use mathlib.Core.Path.{_≡_, refl, sym, ap, _∙_}
+use mathlib.Core.List.{List, [], _∷_}
+use mathlib.Core.Bool.{Bool, true, false, cond, true≢false}
+use Prim.Native.Nat.{ℕ, suc, _+_, _≤_, _<_}
+use native.Mathlib.Omega.{arith}
+use lib.Dec.{eqb, leb}
+use borrow.Author.Tests.{le-leb, lt-leb, ne-eqb, leb-true}
+use Rattle.fields.specs.declared.Field.{Field}
+use Rattle.fields.specs.declared.Field.the-variants.{Number, NotDigits}
+use Rattle.fields.specs.Fields.{readNumber}
+use Rattle.layout.specs.declared.Detail.{Detail}
+use Rattle.terminator.specs.declared.Terminator.{Terminator}
+use Rattle.terminator.specs.declared.Terminator.the-variants.{Middle, BadMiddle, GoodEnd, OddEnd, BadEnd, Wrong}
+use Rattle.terminator.specs.declared.Mark.{Mark}
+use Rattle.terminator.specs.declared.Kind.{Kind}
+use Rattle.terminator.specs.Terminators.{positions, positionsOf, terminatorOf, isEnd, isWrong, isBad, kindOf, millionsOf, one, term, isGood, isOdd, markOf}
+
+pub good-end : (n : ℕ) → (n ≡ 0 → ⊥) → n ≤ 99 → GoodEnd n ≡ positions n
+unfolding positions
+good-end n z h = simp (ne-eqb n 0 z, le-leb n 99 h)
+
+pub wrong : (n : ℕ) → (n ≡ 0 → ⊥) → 99 < n → (n ≡ 888 → ⊥) → (n ≡ 889 → ⊥) → (n ≡ 999 → ⊥) → Wrong ≡ positions n
+unfolding positions
+wrong n z h a b o = simp (ne-eqb n 0 z, lt-leb n 99 h, ne-eqb n 888 a, ne-eqb n 889 b, ne-eqb n 999 o)
+
+pub read-of : (t : List ℕ) (f : Field) → f ≡ readNumber t 1 3 → positionsOf f ≡ terminatorOf t
+unfolding terminatorOf
+read-of t f e = ap positionsOf e
+
+pub mark-is : (d : Detail) (t : Terminator) (k : Kind) (w e b g o : Bool) (m : ℕ) → t ≡ term d → k ≡ kindOf t → w ≡ isWrong t → e ≡ isEnd t → b ≡ isBad t
+    → g ≡ isGood k → o ≡ isOdd k → m ≡ millionsOf t
+    → _≡_ {A = Mark} (record { one = one d; wrong = w; end = e; bad = b; good = g; odd = o; millions = m }) (markOf d)
+unfolding markOf
+mark-is d t k w e b g o m et ek ew ee eb eg eo em = rw (ew, ee, eb, eg, eo, em, ek, et)
+
+-- a good lot has at most 99 millions
+positions-small : (n : ℕ) → millionsOf (positions n) ≤ 99
+unfolding positions
+positions-small n = go (eqb n 0) (leb n 99) refl (eqb n 888) (eqb n 889) (eqb n 999)
+  where
+    go : (z s : Bool) → leb n 99 ≡ s → (a b o : Bool)
+        → millionsOf (cond z Middle (cond s (GoodEnd n) (cond a BadMiddle (cond b BadEnd (cond o OddEnd Wrong))))) ≤ 99
+    go true s e a b o = omega arith
+    go false true e a b o = leb-true n 99 e
+    go false false e true b o = omega arith
+    go false false e false true o = omega arith
+    go false false e false false true = omega arith
+    go false false e false false false = omega arith
+
+pub millions-small : (d : Detail) → millionsOf (term d) ≤ 99
+unfolding terminatorOf
+millions-small d = go (readNumber (d .terminator) 1 3)
+  where
+    go : (f : Field) → millionsOf (positionsOf f) ≤ 99
+    go (Number n) = positions-small n
+    go NotDigits = omega arith
+
+-- only an end has millions
+pub middle-none : (t : Terminator) → isEnd t ≡ false → millionsOf t ≡ 0
+middle-none Middle e = refl
+middle-none BadMiddle e = refl
+middle-none (GoodEnd n) e = absurd (true≢false e)
+middle-none OddEnd e = refl
+middle-none BadEnd e = refl
+middle-none Wrong e = refl
+
+-- the parts of a mark
+module _ (d : Detail) (m : Mark) (e : m ≡ markOf d) where
+  pub mark-one : m .one ≡ one d
+  unfolding markOf
+  mark-one = ap (λ (x : Mark). x .one) e
+
+  pub mark-millions : m .millions ≡ millionsOf (term d)
+  unfolding markOf
+  mark-millions = ap (λ (x : Mark). x .millions) e
