@@ -1,12 +1,11 @@
 -- A frame that is found lies ahead of the place and within the tape: its 02 stands at or after the place, and its 03 after that, before the end. So a loop from frame to frame ends.
-use mathlib.Core.Path.{_≡_, refl, sym, ap, _∙_}
+use mathlib.Core.Path.{_≡_}
 use mathlib.Core.List.{List, [], _∷_}
 use mathlib.Core.Bool.{Bool, true, false, cond}
 use Prim.Native.Nat.{ℕ, _+_, _-_, _≤_, _<_}
 use native.Mathlib.Omega.{arith}
 use lib.ListN.{length, drop, length-drop}
 use lib.Dec.{eqb}
-use Rattle.framing.specs.declared.Frame.{Frame}
 use Rattle.framing.specs.declared.Frame.the-variants.{Body, Nothing}
 use Rattle.framing.specs.Framing.{START, END, inside, outside, nextFrame}
 

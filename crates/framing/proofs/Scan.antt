@@ -1,10 +1,9 @@
 -- The finder's loop: what is left of the tape still gives the answer, read inside the frame that the last 02 started, or outside where there is none yet.
 use mathlib.Core.Path.{_≡_, refl, sym, ap, _∙_}
 use mathlib.Core.List.{List, [], _∷_}
-use mathlib.Core.Bool.{Bool, true, false, cond}
+use mathlib.Core.Bool.{Bool, true, false}
 use Prim.Native.Nat.{ℕ, _+_, _≤_, _<_}
 use lib.ListN.{length, getD, drop, drop-of-length-le}
-use lib.Dec.{eqb}
 use borrow.Author.Tests.{eq-eqb, ne-eqb}
 use Rattle.lists.proofs.Parts.{drop-turn}
 use Rattle.framing.specs.declared.Frame.{Frame}

@@ -1,7 +1,7 @@
 -- The tally of four types by three answers (01, What goes out).
 use Prim.Native.Nat.{ℕ, _+_}
 use mathlib.Core.List.{List, []}
-use mathlib.Core.Bool.{Bool, cond}
+use mathlib.Core.Bool.{cond}
 use lib.ListN.{getD, set}
 use lib.Dec.{ltb}
 use Rattle.tally.specs.declared.MessageType.{MessageType}
