@@ -11,6 +11,7 @@ use Rattle.sequence.specs.declared.Line.{Line}
 use Rattle.sequence.specs.declared.Arrival.{Arrival}
 use Rattle.sequence.specs.declared.Arrival.the-variants.{Refused, Duplicate, Expected, Gap}
 
+-- the first number that a line expects
 abbrev pub FIRST : ℕ
 FIRST = 1
 
@@ -18,6 +19,7 @@ FIRST = 1
 abbrev pub INBOUND-MAX : ℕ
 INBOUND-MAX = 999998
 
+-- six digits hold no higher outbound number
 abbrev pub OUTBOUND-MAX : ℕ
 OUTBOUND-MAX = 999999
 
@@ -25,9 +27,11 @@ OUTBOUND-MAX = 999999
 abbrev pub OUTBOUND-LAST-MAX : ℕ
 OUTBOUND-LAST-MAX = 999997
 
+-- a number of the sender's side
 abbrev pub inbound : ℕ → Inbound
 inbound n = record { 0 = n }
 
+-- a number of our side
 abbrev pub outbound : ℕ → Outbound
 outbound n = record { 0 = n }
 
