@@ -1,0 +1,4 @@
+pub mod Tables
+pub mod Days
+pub mod Holidays
+pub mod Business
