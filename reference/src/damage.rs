@@ -1,0 +1,188 @@
+//! Damage: ways to break one clause of 41 or of 42, each by its name.
+
+use crate::book::{kind_code, Book, OpeningValues, PoolRecord};
+use crate::generator::Random;
+use crate::opening::*;
+use crate::sequence::{Inbound, RECEIVED_MAX, SEQUENCE_MAX};
+
+/// An opening's values and the length of the table lent with them.
+pub struct Lent {
+    pub values: OpeningValues,
+    pub records: usize,
+}
+
+/// A clause of 41 and a way to break it in an opening with at least two trades and a holiday.
+pub type OpeningDamage = (&'static str, fn(&mut Lent));
+
+pub const OPENING_DAMAGES: [OpeningDamage; 45] = [
+    ("more than 64 trades", |lent| {
+        let trade = lent.values.trades[0].clone();
+        for number in lent.values.trades.len()..=TRADES_MAX {
+            let id = format!("more{number}").into_bytes();
+            lent.values.trades.push(crate::terms::Trade { id, ..trade.clone() });
+        }
+    }),
+    ("more than 32 holidays", |lent| lent.values.holidays.resize(HOLIDAYS_MAX + 1, *b"12252026")),
+    ("table too long", |lent| lent.records = TABLE_MAX + 1),
+    ("empty ID", |lent| lent.values.trades[1].id.clear()),
+    ("ID of 17 characters", |lent| lent.values.trades[1].id = vec![b'A'; 17]),
+    ("ID with a blank", |lent| lent.values.trades[1].id = b"A B".to_vec()),
+    ("ID with code 127", |lent| lent.values.trades[1].id = b"A\x7f".to_vec()),
+    ("ID with an equals sign", |lent| lent.values.trades[1].id = b"A=B".to_vec()),
+    ("equal IDs", |lent| lent.values.trades[1].id = lent.values.trades[0].id.clone()),
+    ("seller equal to buyer", |lent| lent.values.trades[1].buyer = lent.values.trades[1].seller),
+    ("seller with a blank", |lent| lent.values.trades[1].seller = *b"MBA "),
+    ("seller with code 127", |lent| lent.values.trades[1].seller = *b"MBA\x7f"),
+    ("buyer with a zero byte", |lent| lent.values.trades[1].buyer = *b"MB\0B"),
+    ("buyer with code 255", |lent| lent.values.trades[1].buyer = *b"MB\xffB"),
+    ("contra FICC", |lent| lent.values.trades[1].contra = *b"FICC"),
+    ("contra in small letters", |lent| lent.values.trades[1].contra = *b"ftba"),
+    ("CUSIP with a blank", |lent| lent.values.trades[1].cusip = *b"01F08263 "),
+    ("CUSIP with code 127", |lent| lent.values.trades[1].cusip = *b"01F08263\x7f"),
+    ("settlement on a Saturday", |lent| lent.values.trades[1].settlement = *b"07042026"),
+    ("settlement on a Sunday", |lent| lent.values.trades[1].settlement = *b"07052026"),
+    ("settlement on no date", |lent| lent.values.trades[1].settlement = *b"02292026"),
+    ("settlement not digits", |lent| lent.values.trades[1].settlement = *b"7142026 "),
+    ("settlement before 1990", |lent| lent.values.trades[1].settlement = *b"12291989"),
+    ("settlement after 2099", |lent| lent.values.trades[1].settlement = *b"01012100"),
+    ("settlement on a holiday", |lent| {
+        lent.values.holidays[0] = lent.values.trades[1].settlement;
+    }),
+    ("price 0", |lent| lent.values.trades[1].price = 0),
+    ("price too wide", |lent| lent.values.trades[1].price = PRICE_MAX + 1),
+    ("price far too wide", |lent| lent.values.trades[1].price = u64::MAX),
+    ("par 0", |lent| lent.values.trades[1].par_cents = 0),
+    ("par too wide", |lent| lent.values.trades[1].par_cents = CENTS_MAX + 1),
+    ("holiday that is no date", |lent| lent.values.holidays[0] = *b"02302028"),
+    ("holiday of blanks", |lent| lent.values.holidays[0] = *b"        "),
+    ("subscriber with a blank", |lent| lent.values.subscriber = *b"012 "),
+    ("subscriber with code 127", |lent| lent.values.subscriber = *b"012\x7f"),
+    ("connection with a zero byte", |lent| lent.values.connection = *b"120\0"),
+    ("last message ID too high", |lent| lent.values.last_message_id = MESSAGE_ID_MAX + 1),
+    ("last outbound number too high", |lent| lent.values.last_outbound = SEQUENCE_MAX + 1),
+    ("GDMM ceiling too high", |lent| lent.values.limits.gdmm_ceiling = GDMM_CEILING_MAX + 1),
+    ("variance too high", |lent| {
+        lent.values.limits.variance_cents_a_million = VARIANCE_CENTS_MAX + 1;
+    }),
+    ("no pools a million", |lent| lent.values.limits.pools_a_million = 0),
+    ("too many pools a million", |lent| {
+        lent.values.limits.pools_a_million = POOLS_A_MILLION_MAX + 1;
+    }),
+    ("least face 0", |lent| lent.values.limits.least_face_dollars = 0),
+    ("least face too high", |lent| lent.values.limits.least_face_dollars = FACE_DOLLARS_MAX + 1),
+    ("least face far too high", |lent| lent.values.limits.least_face_dollars = u64::MAX),
+    ("table far too long", |lent| lent.records = 10 * TABLE_MAX),
+];
+
+/// A clause of 42 and a way to break it in a sound book with at least two trades, three live
+/// lots under one message, the first of two good pools and the last not good, and room left.
+pub type BookDamage = (&'static str, fn(&mut Book, &mut Vec<PoolRecord>));
+
+pub const BOOK_DAMAGES: [BookDamage; 40] = [
+    ("table too long", |_, table| table.resize(TABLE_MAX + 1, PoolRecord::EMPTY)),
+    ("a limit out of range", |book, _| book.values.limits.pools_a_million = 0),
+    ("equal IDs", |book, _| book.values.trades[1].id = book.values.trades[0].id.clone()),
+    ("settlement made a holiday", |book, _| {
+        let settlement = book.values.trades[0].settlement;
+        book.values.holidays.push(settlement);
+    }),
+    ("last message ID too high", |book, _| book.values.last_message_id = MESSAGE_ID_MAX + 1),
+    ("last outbound number too high", |book, _| book.values.last_outbound = SEQUENCE_MAX + 1),
+    ("inbound received too high", |book, _| {
+        book.inbound = Inbound { received: Some(RECEIVED_MAX + 1), expected: RECEIVED_MAX + 2 };
+    }),
+    ("inbound received as high as can be", |book, _| {
+        book.inbound = Inbound { received: Some(u32::MAX), expected: 0 };
+    }),
+    ("expected not one more", |book, _| book.inbound.expected += 1),
+    ("expected equal to received", |book, _| {
+        book.inbound = Inbound { received: Some(3), expected: 3 };
+    }),
+    ("none received but not expecting 1", |book, _| {
+        book.inbound = Inbound { received: None, expected: 2 };
+    }),
+    ("none received and expecting 0", |book, _| {
+        book.inbound = Inbound { received: None, expected: 0 };
+    }),
+    ("live count over the table", |book, table| book.live_count = table.len() + 1),
+    ("live count far over the table", |book, _| book.live_count = usize::MAX),
+    ("live count too low", |book, _| book.live_count -= 1),
+    ("live count too high", |book, _| book.live_count += 1),
+    ("live count 0", |book, _| book.live_count = 0),
+    ("no such trade", |book, table| table[0].trade = book.values.trades.len()),
+    ("no such trade by far", |book, table| table[book.live_count - 1].trade = usize::MAX),
+    ("message ID 0", |_, table| table[0].message_id = 0),
+    ("message ID over the last", |book, table| {
+        table[book.live_count - 1].message_id = book.values.last_message_id + 1;
+    }),
+    ("ordinal 0", |_, table| table[0].ordinal = 0),
+    ("current face over eleven digits", |book, table| {
+        let added = CENTS_MAX + 1 - table[0].current_face_cents;
+        table[0].current_face_cents += added;
+        book.values.trades[0].par_cents = book.values.trades[0].par_cents.max(1);
+    }),
+    ("current face as high as can be", |_, table| table[0].current_face_cents = u64::MAX),
+    ("kind 0", |_, table| table[0].kind = 0),
+    ("kind 4", |_, table| table[0].kind = 4),
+    ("good lot of no millions", |book, table| set_lot(book, table, kind_code::GOOD, 0)),
+    ("good lot of 100 millions", |book, table| set_lot(book, table, kind_code::GOOD, 100)),
+    ("odd lot with millions", |book, table| set_lot(book, table, kind_code::ODD, 1)),
+    ("bad lot with millions", |book, table| set_lot(book, table, kind_code::BAD, 1)),
+    ("ordinal falling", |book, table| table[..book.live_count].reverse()),
+    ("message ID falling", |_, table| table[0].message_id += 1),
+    ("a message on two trades", |_, table| table[0].trade = 1 - table[0].trade),
+    ("a lot of two kinds", |_, table| {
+        table[1].kind = kind_code::ODD;
+        table[1].lot_millions = 0;
+    }),
+    ("a lot with two millions", |_, table| table[1].lot_millions = table[0].lot_millions % 99 + 1),
+    ("matched fields twice in a lot", |_, table| table[1].matched = table[0].matched),
+    ("matched fields twice in a message", |_, table| table[2].matched = table[0].matched),
+    ("nonzero after the live ones", |_, table| {
+        let last = table.len() - 1;
+        table[last].matched.original_face[8] = 1;
+    }),
+    ("open par too high", |book, _| book.open_par_cents[0] += 1),
+    ("open par too low", |book, _| book.open_par_cents[1] -= 1),
+];
+
+fn set_lot(book: &Book, table: &mut [PoolRecord], kind: u32, millions: u64) {
+    let first = table[0];
+    for pool in table[..book.live_count].iter_mut().filter(|pool| pool.same_lot(&first)) {
+        pool.kind = kind;
+        pool.lot_millions = millions;
+    }
+}
+
+/// Writes one random value over one random field of a book or table; often that is damage.
+pub fn scribble(random: &mut Random, book: &mut Book, table: &mut [PoolRecord]) {
+    let value = match random.below(4) {
+        0 => random.number(),
+        1 => u64::MAX,
+        _ => random.below(5),
+    };
+    let place = random.below(book.live_count as u64 + 2) as usize;
+    let trade = random.below(book.values.trades.len() as u64) as usize;
+    let byte = value as u8;
+    match (random.below(18), table.get_mut(place)) {
+        (0, _) => book.values.last_message_id = value,
+        (1, _) => book.values.last_outbound = value as u32,
+        (2, _) => book.inbound.expected = value as u32,
+        (3, _) => book.inbound.received = (value > 1).then_some(value as u32),
+        (4, _) => book.live_count = value as usize,
+        (5, _) => book.open_par_cents[trade] = value,
+        (6, _) => book.values.trades[trade].par_cents = value,
+        (7, _) => book.values.trades[trade].cusip[0] = byte,
+        (8, _) => book.values.limits.variance_cents_a_million = value,
+        (9, _) => book.values.subscriber[3] = byte,
+        (10, Some(pool)) => pool.message_id = value,
+        (11, Some(pool)) => pool.ordinal = value,
+        (12, Some(pool)) => pool.trade = value as usize,
+        (13, Some(pool)) => pool.matched.lot_id[0] = byte,
+        (14, Some(pool)) => pool.current_face_cents = value,
+        (15, Some(pool)) => pool.kind = value as u32,
+        (16, Some(pool)) => pool.lot_millions = value,
+        (_, Some(pool)) => pool.matched.pool_number[6] = byte,
+        (_, None) => book.values.limits.gdmm_ceiling = value,
+    }
+}
