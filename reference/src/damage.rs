@@ -1,7 +1,9 @@
 //! Damage: ways to break one clause of 41 or of 42, each by its name.
 
-use crate::book::{kind_code, Book, OpeningValues, PoolRecord};
+use crate::book::{kind_code, live_lots, live_weight_cents, Book, OpeningValues, PoolRecord};
+use crate::digits::digits;
 use crate::generator::Random;
+use crate::lots::CENTS_A_MILLION;
 use crate::opening::*;
 use crate::sequence::{Inbound, RECEIVED_MAX, SEQUENCE_MAX};
 
@@ -74,11 +76,10 @@ pub const OPENING_DAMAGES: [OpeningDamage; 45] = [
     ("table far too long", |lent| lent.records = 10 * TABLE_MAX),
 ];
 
-/// A clause of 42 and a way to break it in a sound book with at least two trades, three live
-/// lots under one message, the first of two good pools and the last not good, and room left.
+/// A clause of 42 and a way to break it alone, in the book of `sound_book`.
 pub type BookDamage = (&'static str, fn(&mut Book, &mut Vec<PoolRecord>));
 
-pub const BOOK_DAMAGES: [BookDamage; 40] = [
+pub const BOOK_DAMAGES: [BookDamage; 37] = [
     ("table too long", |_, table| table.resize(TABLE_MAX + 1, PoolRecord::EMPTY)),
     ("a limit out of range", |book, _| book.values.limits.pools_a_million = 0),
     ("equal IDs", |book, _| book.values.trades[1].id = book.values.trades[0].id.clone()),
@@ -104,38 +105,41 @@ pub const BOOK_DAMAGES: [BookDamage; 40] = [
     ("none received and expecting 0", |book, _| {
         book.inbound = Inbound { received: None, expected: 0 };
     }),
-    ("live count over the table", |book, table| book.live_count = table.len() + 1),
-    ("live count far over the table", |book, _| book.live_count = usize::MAX),
-    ("live count too low", |book, _| book.live_count -= 1),
-    ("live count too high", |book, _| book.live_count += 1),
-    ("live count 0", |book, _| book.live_count = 0),
-    ("no such trade", |book, table| table[0].trade = book.values.trades.len()),
-    ("no such trade by far", |book, table| table[book.live_count - 1].trade = usize::MAX),
-    ("message ID 0", |_, table| table[0].message_id = 0),
-    ("message ID over the last", |book, table| {
-        table[book.live_count - 1].message_id = book.values.last_message_id + 1;
+    ("live count over the table", |book, table| {
+        table.truncate(book.live_count);
+        book.live_count += 1;
     }),
-    ("ordinal 0", |_, table| table[0].ordinal = 0),
-    ("current face over eleven digits", |book, table| {
-        let added = CENTS_MAX + 1 - table[0].current_face_cents;
-        table[0].current_face_cents += added;
-        book.values.trades[0].par_cents = book.values.trades[0].par_cents.max(1);
+    ("live count far over the table", |book, table| {
+        table.truncate(book.live_count);
+        book.live_count = usize::MAX;
     }),
+    ("no such trade", |book, table| {
+        on_message(table, 2, |pool| (pool.trade, pool.current_face_cents) = (2, 0));
+        balance(book, table);
+    }),
+    ("no such trade by far", |book, table| {
+        on_message(table, 2, |pool| (pool.trade, pool.current_face_cents) = (usize::MAX, 0));
+        balance(book, table);
+    }),
+    ("message ID 0", |_, table| on_message(table, 1, |pool| pool.message_id = 0)),
+    ("message ID over the last", |_, table| on_message(table, 2, |pool| pool.message_id = 3)),
+    ("ordinal 0", |_, table| on_lot(table, 1, 1, |pool| pool.ordinal = 0)),
+    ("current face over eleven digits", |_, table| table[0].current_face_cents = CENTS_MAX + 1),
     ("current face as high as can be", |_, table| table[0].current_face_cents = u64::MAX),
-    ("kind 0", |_, table| table[0].kind = 0),
-    ("kind 4", |_, table| table[0].kind = 4),
+    ("kind 0", |book, table| set_lot(book, table, 0, 0)),
+    ("kind 4", |book, table| set_lot(book, table, 4, 0)),
     ("good lot of no millions", |book, table| set_lot(book, table, kind_code::GOOD, 0)),
     ("good lot of 100 millions", |book, table| set_lot(book, table, kind_code::GOOD, 100)),
     ("odd lot with millions", |book, table| set_lot(book, table, kind_code::ODD, 1)),
     ("bad lot with millions", |book, table| set_lot(book, table, kind_code::BAD, 1)),
-    ("ordinal falling", |book, table| table[..book.live_count].reverse()),
-    ("message ID falling", |_, table| table[0].message_id += 1),
-    ("a message on two trades", |_, table| table[0].trade = 1 - table[0].trade),
-    ("a lot of two kinds", |_, table| {
-        table[1].kind = kind_code::ODD;
-        table[1].lot_millions = 0;
+    ("message ID falling", |book, table| table[..book.live_count].rotate_left(5)),
+    ("ordinal falling", |_, table| table[..5].reverse()),
+    ("a message on two trades", |book, table| {
+        on_lot(table, 1, 1, |pool| pool.trade = 1);
+        balance(book, table);
     }),
-    ("a lot with two millions", |_, table| table[1].lot_millions = table[0].lot_millions % 99 + 1),
+    ("a lot of two kinds", |_, table| table[4].kind = kind_code::BAD),
+    ("a lot with two millions", |_, table| table[1].lot_millions = 3),
     ("matched fields twice in a lot", |_, table| table[1].matched = table[0].matched),
     ("matched fields twice in a message", |_, table| table[2].matched = table[0].matched),
     ("nonzero after the live ones", |_, table| {
@@ -146,11 +150,71 @@ pub const BOOK_DAMAGES: [BookDamage; 40] = [
     ("open par too low", |book, _| book.open_par_cents[1] -= 1),
 ];
 
-fn set_lot(book: &Book, table: &mut [PoolRecord], kind: u32, millions: u64) {
+/// A sound book with pools: under message 1 on the first trade two good lots of two millions, of
+/// two pools and of one, and an odd lot of two pools; under message 2 on the second trade an odd
+/// lot of two pools.
+pub fn sound_book() -> (Book, Vec<PoolRecord>) {
+    let mut values = crate::day::opening_values();
+    values.trades[0].par_cents = CENTS_MAX;
+    let second = crate::terms::Trade { id: b"T2".to_vec(), ..values.trades[0].clone() };
+    values.trades.push(second);
+    values.holidays.push(*b"12252026");
+    let mut table = vec![PoolRecord::EMPTY; 12];
+    let mut book = open(&values, &mut table).expect("the opening is in range");
+    let pool = |message_id, ordinal, current_face_cents, kind, lot_millions| PoolRecord {
+        message_id,
+        ordinal,
+        trade: if message_id == 1 { 0 } else { 1 },
+        current_face_cents,
+        kind,
+        lot_millions,
+        ..PoolRecord::EMPTY
+    };
+    let pools = [
+        pool(1, 1, CENTS_A_MILLION, kind_code::GOOD, 2),
+        pool(1, 1, CENTS_A_MILLION, kind_code::GOOD, 2),
+        pool(1, 2, 2 * CENTS_A_MILLION, kind_code::GOOD, 2),
+        pool(1, 3, 1, kind_code::ODD, 0),
+        pool(1, 3, 2, kind_code::ODD, 0),
+        pool(2, 1, 1, kind_code::ODD, 0),
+        pool(2, 1, 2, kind_code::ODD, 0),
+    ];
+    for (place, pool) in pools.into_iter().enumerate() {
+        table[place] = pool;
+        table[place].matched.pool_number = digits(place as u64);
+    }
+    book.live_count = pools.len();
+    book.values.last_message_id = 2;
+    book.inbound = Inbound::after(2);
+    balance(&mut book, &table);
+    (book, table)
+}
+
+fn on_message(table: &mut [PoolRecord], message_id: u64, change: fn(&mut PoolRecord)) {
+    table.iter_mut().filter(|pool| pool.message_id == message_id).for_each(change);
+}
+
+fn on_lot(table: &mut [PoolRecord], message_id: u64, ordinal: u64, change: fn(&mut PoolRecord)) {
+    let mut pools: Vec<&mut PoolRecord> = table.iter_mut().collect();
+    pools.retain(|pool| pool.message_id == message_id && pool.ordinal == ordinal);
+    pools.into_iter().for_each(change);
+}
+
+/// Gives the first lot a kind and millions, and the trades their open par.
+fn set_lot(book: &mut Book, table: &mut [PoolRecord], kind: u32, millions: u64) {
     let first = table[0];
-    for pool in table[..book.live_count].iter_mut().filter(|pool| pool.same_lot(&first)) {
-        pool.kind = kind;
-        pool.lot_millions = millions;
+    for pool in table.iter_mut().filter(|pool| pool.same_lot(&first)) {
+        (pool.kind, pool.lot_millions) = (kind, millions);
+    }
+    balance(book, table);
+}
+
+/// Makes each open par its par less its lots' weights.
+fn balance(book: &mut Book, table: &[PoolRecord]) {
+    for trade in 0..book.values.trades.len() {
+        let lots = live_lots(book.live(table)).filter(|lot| lot[0].trade == trade);
+        let weight: u128 = lots.map(live_weight_cents).sum();
+        book.open_par_cents[trade] = book.values.trades[trade].par_cents - weight as u64;
     }
 }
 

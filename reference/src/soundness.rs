@@ -6,8 +6,7 @@ use crate::book::{kind_code, live_lots, live_weight_cents, Book, PoolRecord};
 use crate::opening::{self, CENTS_MAX};
 use crate::terminator::LOT_MILLIONS_MAX;
 
-/// A fact of soundness: its name in the paper's words, and its test. A fact is asked only
-/// where all facts before it hold.
+/// A fact of soundness: its name in the paper's words, and its test on any book and table.
 type Fact = (&'static str, fn(&Book, &[PoolRecord]) -> bool);
 
 pub const FACTS: [Fact; 9] = [
@@ -29,7 +28,7 @@ pub const FACTS: [Fact; 9] = [
         live.all(|pool| seen.insert((pool.message_id, pool.matched)))
     }),
     ("zeros after the live ones", |book, table| {
-        table[book.live_count..].iter().all(|pool| *pool == PoolRecord::EMPTY)
+        table[book.live(table).len()..].iter().all(|pool| *pool == PoolRecord::EMPTY)
     }),
     ("open par is par less its lots' weights", open_par_is_sound),
 ];
@@ -69,7 +68,9 @@ fn open_par_is_sound(book: &Book, table: &[PoolRecord]) -> bool {
     let trades = &book.values.trades;
     let mut weights = vec![0u128; trades.len()];
     for lot in live_lots(book.live(table)) {
-        weights[lot[0].trade] += live_weight_cents(lot);
+        if let Some(weight) = weights.get_mut(lot[0].trade) {
+            *weight += live_weight_cents(lot);
+        }
     }
     book.open_par_cents.len() == trades.len()
         && (0..trades.len()).all(|trade| {
