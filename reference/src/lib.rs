@@ -14,6 +14,7 @@ pub mod claims;
 pub mod columns;
 pub mod damage;
 pub mod day;
+pub mod desk;
 pub mod digits;
 pub mod draft;
 pub mod faces;
