@@ -8,7 +8,8 @@ pub const AA_WIDTH: usize = 64;
 pub const TX_WIDTH: usize = 153;
 /// The room that check 44 asks for: a TX and an AA.
 pub const OUTPUT_MIN: usize = TX_WIDTH + AA_WIDTH;
-pub const VERSION: &[u8; 3] = b"002";
+/// The version that check 14 wants and that goes out again.
+pub const EPN_VERSION: &[u8; 3] = b"002";
 const TEXT_WIDTH: usize = 130;
 
 /// What stands at the beginning of every message that goes out.
@@ -25,7 +26,7 @@ impl Sender {
         let mut bytes = vec![START_OF_FRAME];
         bytes.extend_from_slice(message_type);
         bytes.extend_from_slice(&number);
-        bytes.extend_from_slice(VERSION);
+        bytes.extend_from_slice(EPN_VERSION);
         bytes.extend_from_slice(&self.subscriber);
         bytes.extend_from_slice(&self.connection);
         bytes

@@ -2,7 +2,7 @@
 
 use std::collections::BTreeSet;
 
-use crate::acknowledgment::{OUTPUT_MIN, VERSION};
+use crate::acknowledgment::{EPN_VERSION, OUTPUT_MIN};
 use crate::answer::Number;
 use crate::book::{Book, PoolRecord};
 use crate::calendar::business_date;
@@ -54,7 +54,7 @@ pub const CHECKS: [Check; 29] = [
     (12, Every, duplicate_sequence),
     // The sender's system.
     (13, Every, |case| case.message().message_type().is_none()),
-    (14, Every, |case| case.message().field(crate::columns::VERSION) != VERSION),
+    (14, Every, |case| case.message().field(VERSION) != EPN_VERSION),
     (15, Every, filler_or_pos_dup),
     (16, Every, par_price_or_gdmm),
     (17, Every, unknown_party),

@@ -1,5 +1,6 @@
 //! Draft: a message being written, column by column, until it is a body.
 
+use crate::acknowledgment::EPN_VERSION;
 use crate::columns::*;
 use crate::digits::digits;
 use crate::lots::Kind;
@@ -46,7 +47,7 @@ impl Draft {
     pub fn new(message_type: &[u8; 2]) -> Draft {
         let mut draft = Draft { header: [b' '; HEADER_WIDTH], details: Vec::new() };
         draft.put(TYPE, message_type);
-        draft.put(VERSION, crate::acknowledgment::VERSION);
+        draft.put(VERSION, EPN_VERSION);
         draft.put_number(SEQUENCE, 1);
         draft.put_number(PAR, 1);
         draft.put_number(GDMM, 0);

@@ -94,7 +94,7 @@ pub fn day(seed: u64) -> Day {
     let mut random = Random::from_seed(seed);
     let (opening, records) = opening(&mut random);
     let crowded = records == TABLE_MAX && random.percent(30);
-    let count = random.between(20, 70);
+    let count = if crowded { 70 } else { random.between(20, 60) };
     let calls = calls(&mut random, &opening, records, crowded, count);
     Day { seed, opening, records, calls }
 }
@@ -261,7 +261,7 @@ impl Sender<'_> {
     /// A valid message of a type that the wanted fault can be put into.
     fn draft(&mut self, fault: Option<Number>) -> Draft {
         let live = self.book.live_count > 0;
-        let draw = self.random.below(100);
+        let draw = self.random.between(if self.crowded { 45 } else { 0 }, 99);
         match fault {
             Some(20..=23) if live => self.cc(),
             Some(24 | 25) if live => self.dk(),
@@ -328,7 +328,7 @@ impl Sender<'_> {
         let mut budget_cents = self.book.open_par_cents[at];
         let mut draft = self.header(b"ON", &trade, trade.seller);
         let lots = match self.crowded {
-            true => self.random.between(60, 80),
+            true => self.random.between(60, 83),
             false => self.random.pick(&[1, 1, 2, 3, 5]),
         };
         let mut millions = 0;
@@ -356,7 +356,7 @@ impl Sender<'_> {
         let under = live_lots(live).filter(|lot| lot[0].message_id == target);
         let mut lots: Vec<Vec<PoolRecord>> = under.map(<[PoolRecord]>::to_vec).collect();
         self.random.shuffle(&mut lots);
-        let whole = self.random.percent(40);
+        let whole = !self.crowded && self.random.percent(40);
         let count = if whole { lots.len() } else { self.random.between(1, 3) as usize };
         lots.truncate(count);
         lots
@@ -452,6 +452,8 @@ impl Sender<'_> {
 
     /// A lot of any kind that the budget can bear.
     fn lot(&mut self, number: u64, budget_cents: u64) -> DraftLot {
+        // A crowded day is made of many light lots.
+        let budget_cents = if self.crowded { budget_cents.min(1_000) } else { budget_cents };
         let millions_max = (budget_cents / CENTS_A_MILLION).min(99);
         let kind = self.random.pick(&[Kind::Good, Kind::Good, Kind::Odd, Kind::Bad]);
         if kind == Kind::Good && millions_max > 0 {
