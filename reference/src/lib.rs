@@ -27,6 +27,7 @@ pub mod lots;
 pub mod message;
 pub mod opening;
 pub mod pool_detail;
+pub mod script;
 pub mod sequence;
 pub mod soundness;
 pub mod tally;
