@@ -188,7 +188,7 @@ fn par_price_or_gdmm(case: &Case) -> bool {
     let ceiling = case.book.values.limits.gdmm_ceiling;
     matches!(message.number(PAR), None | Some(0))
         || matches!(message.number(PRICE), None | Some(0))
-        || !message.number(GDMM).is_some_and(|gdmm| gdmm <= ceiling)
+        || message.number(GDMM).is_none_or(|gdmm| gdmm > ceiling)
 }
 
 fn unknown_party(case: &Case) -> bool {

@@ -1,11 +1,12 @@
 //! Damage: ways to break one clause of 41 or of 42, each by its name.
 
-use crate::book::{kind_code, live_lots, live_weight_cents, Book, OpeningValues, PoolRecord};
+use crate::book::{kind_code, live_lots, live_weight_cents, Book, PoolRecord};
 use crate::digits::digits;
 use crate::generator::Random;
 use crate::lots::CENTS_A_MILLION;
 use crate::opening::*;
 use crate::sequence::{Inbound, RECEIVED_MAX, SEQUENCE_MAX};
+use crate::values::OpeningValues;
 
 /// An opening's values and the length of the table lent with them.
 pub struct Lent {
@@ -225,7 +226,7 @@ pub fn scribble(random: &mut Random, book: &mut Book, table: &mut [PoolRecord]) 
         1 => u64::MAX,
         _ => random.below(5),
     };
-    let place = random.below(book.live_count as u64 + 2) as usize;
+    let place = random.below(book.live(table).len() as u64 + 2) as usize;
     let trade = random.below(book.values.trades.len() as u64) as usize;
     let byte = value as u8;
     match (random.below(18), table.get_mut(place)) {

@@ -2,11 +2,12 @@
 
 use crate::acknowledgment::OUTPUT_MIN;
 use crate::answer::Answer;
-use crate::book::{Limits, OpeningValues, PoolRecord};
+use crate::book::PoolRecord;
 use crate::frame::bodies;
 use crate::frame_call::frame_call;
 use crate::opening::open;
 use crate::terms::{Trade, FTBA};
+use crate::values::{Limits, OpeningValues};
 
 /// The program reads this much of its input and no more: 64 KiB.
 pub const TAPE_MAX: usize = 65_536;

@@ -2,7 +2,7 @@
 
 use crate::acknowledgment::OUTPUT_MIN;
 use crate::answer::Answer;
-use crate::book::{Book, OpeningValues, PoolRecord};
+use crate::book::{Book, PoolRecord};
 use crate::claims::{demand_3, Claims};
 use crate::columns::*;
 use crate::digits::digits;
@@ -12,6 +12,7 @@ use crate::history::History;
 use crate::opening::open;
 use crate::pool_detail::MatchedFields;
 use crate::tally::Tally;
+use crate::values::OpeningValues;
 
 pub struct Desk {
     pub book: Book,

@@ -1,9 +1,9 @@
 //! Faces: whether new pools and good lots keep within the limits (checks 34 and 35).
 
-use crate::book::Limits;
 use crate::lots::{current_faces_cents, Kind, Lot, CENTS_A_MILLION};
 use crate::opening::FACE_DOLLARS_MAX;
 use crate::pool_detail::PoolDetail;
+use crate::values::Limits;
 
 /// Check 34 of one new pool: both faces are digits, the original face is within its bounds.
 pub fn pool_passes_34(pool: &PoolDetail, limits: &Limits) -> bool {

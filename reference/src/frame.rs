@@ -22,8 +22,8 @@ pub struct Found {
 /// here it is exact: the bytes before the frame's 02, or all that are left where there is none.
 pub fn next_frame(tape: &[u8], at: usize) -> Found {
     let mut start = None;
-    for place in at..tape.len() {
-        match (tape[place], start) {
+    for (place, byte) in tape.iter().enumerate().skip(at) {
+        match (*byte, start) {
             (START_OF_FRAME, _) => start = Some(place + 1),
             (END_OF_FRAME, Some(start)) => {
                 return Found {

@@ -2,7 +2,7 @@
 
 use crate::acknowledgment::OUTPUT_MIN;
 use crate::answer::Number;
-use crate::book::{kind_code, live_lots, Book, Limits, OpeningValues, PoolRecord};
+use crate::book::{kind_code, live_lots, Book, PoolRecord};
 use crate::calendar::{business_date, days_of_month, FIRST_YEAR, LAST_YEAR};
 use crate::columns::*;
 use crate::digits::digits;
@@ -14,6 +14,7 @@ use crate::opening::{open, CENTS_MAX, FACE_DOLLARS_MAX, MESSAGE_ID_MAX, PRICE_MA
 use crate::pool_detail::MatchedFields;
 use crate::sequence::RECEIVED_MAX;
 use crate::terms::{Trade, FSTI, FTBA};
+use crate::values::{Limits, OpeningValues};
 
 /// A small generator of random numbers (splitmix64).
 #[derive(Clone, Debug)]

@@ -3,13 +3,13 @@
 //! It is fed opening's values, then each call's body and whether it was accepted. It never
 //! sees a book or a table.
 
-use crate::book::OpeningValues;
 use crate::columns::TARGET;
 use crate::groups::Group;
-use crate::lots::{weight_cents, Lot};
+use crate::lots::{good_millions, weight_cents, Lot};
 use crate::message::{Message, Type};
 use crate::pool_detail::{MatchedFields, PoolDetail};
 use crate::terms::{trade_of_on, Trade};
+use crate::values::OpeningValues;
 
 /// A lot that an accepted message brought.
 #[derive(Clone, Debug, PartialEq, Eq)]
@@ -71,7 +71,7 @@ impl History {
         let weight = weight_cents(&lots, &details).unwrap_or_default();
         let trade = trade_of_on(message, &self.trades, &self.open_pars(), weight);
         if let Some(trade) = trade {
-            self.millions_by_on[trade] += u128::from(crate::lots::good_millions(&lots));
+            self.millions_by_on[trade] += u128::from(good_millions(&lots));
         }
         self.bring(&lots, &details, trade);
     }

@@ -35,3 +35,4 @@ pub mod target;
 pub mod terminator;
 pub mod terms;
 pub mod trade_id;
+pub mod values;

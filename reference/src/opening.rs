@@ -1,11 +1,12 @@
 //! Opening: judges the values an operator lends (41) and makes a book of them.
 
 use crate::answer::{Number, OPENING};
-use crate::book::{Book, Limits, OpeningValues, PoolRecord};
+use crate::book::{Book, PoolRecord};
 use crate::calendar::{business_date, date};
 use crate::sequence::{Inbound, SEQUENCE_MAX};
 use crate::terms::{Trade, FSTI, FTBA};
 use crate::trade_id::TRADE_ID_MAX;
+use crate::values::{Limits, OpeningValues};
 
 pub const TRADES_MAX: usize = 64;
 pub const HOLIDAYS_MAX: usize = 32;

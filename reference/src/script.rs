@@ -1,10 +1,11 @@
 //! Script: a day and all that its calls leave, in the line forms of `vectors/README.md`.
 
-use crate::book::{Book, Limits, OpeningValues, PoolRecord};
+use crate::book::{Book, PoolRecord};
 use crate::frame_call::frame_call;
 use crate::generator::{Call, Day};
 use crate::opening::open;
 use crate::terms::Trade;
+use crate::values::{Limits, OpeningValues};
 
 /// The lines of a day: its opening, its frames with what each leaves, and its end.
 pub fn lines(day: &Day) -> Vec<String> {

@@ -1,6 +1,6 @@
 //! Target: the live pools that a CC or DK concerns, and which of them it lists (checks 30 and 37).
 
-use crate::book::{code_of, live_lots, Book, PoolRecord};
+use crate::book::{code_of, live_lots, live_weight_cents, Book, PoolRecord};
 use crate::columns::TARGET;
 use crate::lots::Lot;
 use crate::message::{Message, Type};
@@ -84,6 +84,6 @@ impl<'a> Target<'a> {
     pub fn weight_cents(&self, positions: &[usize]) -> u128 {
         let pools: Vec<PoolRecord> =
             positions.iter().map(|position| self.live[*position]).collect();
-        live_lots(&pools).map(crate::book::live_weight_cents).sum()
+        live_lots(&pools).map(live_weight_cents).sum()
     }
 }

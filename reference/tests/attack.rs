@@ -1,7 +1,7 @@
 //! Throws at the engine what no sender should send, and at the claims what no book should hold.
 
 use reference::answer::Answer::{self, Accepted, DKed, Rejected};
-use reference::book::{OpeningValues, PoolRecord};
+use reference::book::PoolRecord;
 use reference::claims::{demand_3, Claims};
 use reference::columns::*;
 use reference::day;
@@ -11,6 +11,7 @@ use reference::frame_call::frame_call;
 use reference::generator::{tape, Random};
 use reference::history::History;
 use reference::opening::open;
+use reference::values::OpeningValues;
 
 const MILLION: u64 = 100_000_000;
 
@@ -66,7 +67,7 @@ fn every_length() {
     let (desk, [on, ..]) = desk_and_bodies();
     let long = [&on[..], &on[HEADER_WIDTH..], &on[HEADER_WIDTH..]].concat();
     for length in 0..long.len() {
-        let whole = length > HEADER_WIDTH && (length - HEADER_WIDTH) % DETAIL_WIDTH == 0;
+        let whole = length > HEADER_WIDTH && (length - HEADER_WIDTH).is_multiple_of(DETAIL_WIDTH);
         let answer = put(&desk, &long[..length], &mut [0; 217]);
         assert_eq!(answer == Rejected(10), !whole, "{length}");
     }
@@ -194,6 +195,17 @@ fn claims_fail_for_drifted_figures() {
     let (mut drifted, _) = desk_and_bodies();
     drifted.table[0].lot_millions = 3;
     assert!(!judge(&drifted).standing_millions_are_on_less_dk);
+}
+
+#[test]
+fn the_history_knows_no_book() {
+    let source = include_str!("../src/history.rs");
+    let known = source.lines().filter(|line| line.starts_with("use "));
+    for module in ["book", "change", "checks", "frame_call", "opening", "soundness", "target"] {
+        let path = format!("crate::{module}::");
+        assert!(known.clone().all(|line| !line.contains(&path)), "{module}");
+        assert!(!source.contains(&path), "{module}");
+    }
 }
 
 #[test]

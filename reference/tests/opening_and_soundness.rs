@@ -1,7 +1,7 @@
 //! Breaks each clause of 41 and of 42, one at a time.
 
 use reference::answer::{Answer, OPENING, UNSOUND_BOOK};
-use reference::book::{Book, OpeningValues, PoolRecord};
+use reference::book::{Book, PoolRecord};
 use reference::columns::*;
 use reference::damage::{scribble, sound_book, Lent, BOOK_DAMAGES, OPENING_DAMAGES};
 use reference::day;
@@ -13,6 +13,7 @@ use reference::opening::{open, CENTS_MAX, MESSAGE_ID_MAX, PRICE_MAX, TABLE_MAX};
 use reference::pool_detail::MatchedFields;
 use reference::soundness::{first_broken, is_sound, FACTS};
 use reference::terms::{Trade, FSTI};
+use reference::values::OpeningValues;
 
 const MILLION: u64 = 100_000_000;
 

@@ -2,7 +2,6 @@
 
 use reference::acknowledgment::{aa, tx, Sender};
 use reference::answer::Answer::{self, Accepted, DKed, Rejected};
-use reference::book::OpeningValues;
 use reference::columns::*;
 use reference::day;
 use reference::desk::{pool, Desk};
@@ -12,6 +11,7 @@ use reference::lots::{lots_of_cc, lots_of_on, Kind, Lot};
 use reference::message::Message;
 use reference::pool_detail::PoolDetail;
 use reference::terms::{Trade, FSTI, FTBA};
+use reference::values::OpeningValues;
 
 const MILLION: u64 = 100_000_000;
 
@@ -433,7 +433,8 @@ fn targets_in_another_form_have_no_live_pool() {
 fn header_checks_in_order() {
     let mut desk = desk_with_pools();
     // Each entry spoils one more field, from the last check to the first.
-    let spoil: [(Answer, fn(&mut Draft)); 10] = [
+    type Spoil = (Answer, fn(&mut Draft));
+    let spoil: [Spoil; 10] = [
         (Rejected(24), |draft| draft.put(REASON, b"0000")),
         (Rejected(17), |draft| draft.put(CONTRA, b"FICC")),
         (Rejected(16), |draft| draft.put_number(GDMM, 2_501)),
