@@ -131,7 +131,7 @@ fn damaged_is_sound(random: &mut Random, book: &Book, table: &[PoolRecord], body
 #[test]
 fn demand_3_holds_after_every_message_and_every_number_is_met() {
     let (mut met, mut situations) = (Met::new(), Situations::new());
-    for seed in 0..2_000 {
+    for seed in 0..1_500 {
         run(&day(seed), &mut met, &mut situations);
     }
     let of = |number| {
