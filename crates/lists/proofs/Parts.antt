@@ -1,14 +1,13 @@
 -- Laws of parts: a loop that goes through a list, or through a part of one, from the front.
-use mathlib.Core.Path.{_≡_, refl, sym, ap, _∙_}
-use mathlib.Core.List.{List, [], _∷_, _++_}
-use mathlib.Core.Bool.{Bool, true, false, _&&_, and-false}
-use Prim.Native.Nat.{ℕ, zero, suc, _+_, _-_, _≤_, _<_}
+use mathlib.Core.Path.{_≡_, refl}
+use mathlib.Core.List.{List, [], _∷_}
+use mathlib.Core.Bool.{true, false, and-false}
+use Prim.Native.Nat.{ℕ, suc, _+_, _-_, _≤_, _<_}
 use native.Mathlib.Numerals.{add-one}
 use native.Mathlib.Omega.{arith}
-use lib.ListN.{length, getD, take, drop, length-drop}
+use lib.ListN.{length, getD, drop, length-drop}
 use lib.Seq.{drop-cons, length-take-le}
-use lib.Dec.{leb}
-use borrow.Author.Tests.{le-leb, lt-leb, leb-true}
+use borrow.Author.Tests.{le-leb, lt-leb}
 use Rattle.lists.specs.Lists.{within, part}
 
 module _ {A : Type 0} where

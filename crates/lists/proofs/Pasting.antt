@@ -1,8 +1,8 @@
 -- Laws of a list pasted into another: written from the front, read where it stands, and two pastes end to end.
 use mathlib.Core.Path.{_≡_, refl, sym, ap, _∙_}
 use mathlib.Core.List.{List, [], _∷_, _++_, append-assoc, append-nil}
-use mathlib.Core.Bool.{Bool, true, false, cond, _&&_, false≢true}
-use Prim.Native.Nat.{ℕ, zero, suc, _+_, _-_, _≤_, _<_}
+use mathlib.Core.Bool.{Bool, true, false}
+use Prim.Native.Nat.{ℕ, suc, _+_, _-_, _≤_, _<_}
 use native.Mathlib.Nat.{add-zero}
 use native.Mathlib.Numerals.{add-one}
 use native.Mathlib.Omega.{arith}
@@ -70,10 +70,10 @@ module _ {A : Type 0} where
       let p : pasted out at xs ≡ (take at out ++ xs) ++ drop n out = paste-in out at xs w ∙ rw (e) (sym (append-assoc (take at out) xs (drop n out))) in
       let f : take n (pasted out at xs) ≡ take at out ++ xs = ap (take n) p ∙ take-at (take at out ++ xs) (drop n out) n t in
       let g : drop (n + length ys) (pasted out at xs) ≡ drop (n + length ys) out =
-          ap (drop (n + length ys)) p
-          ∙ ap (λ (m : ℕ). drop (m + length ys) ((take at out ++ xs) ++ drop n out)) (sym t)
-          ∙ drop-append-add (take at out ++ xs) (drop n out) (length ys)
-          ∙ drop-drop (length ys) n out in
+      ap (drop (n + length ys)) p
+      ∙ ap (λ (m : ℕ). drop (m + length ys) ((take at out ++ xs) ++ drop n out)) (sym t)
+      ∙ drop-append-add (take at out ++ xs) (drop n out) (length ys)
+      ∙ drop-drop (length ys) n out in
       let z : at + length (xs ++ ys) ≡ n + length ys = omega arith in
       let a : pasted (pasted out at xs) n ys ≡ (take at out ++ xs) ++ (ys ++ drop (n + length ys) out) = paste-in (pasted out at xs) n ys v ∙ rw (f, g) in
       let b : pasted out at (xs ++ ys) ≡ take at out ++ ((xs ++ ys) ++ drop (n + length ys) out) = paste-in out at (xs ++ ys) u ∙ rw z in

@@ -1,0 +1,73 @@
+-- The blanks written so far, those left to write and the rest of the list are the list that is wanted.
+use Prim.Native.Nat.{ℕ, _≤_, _-_}
+use native.Mathlib.Omega.{arith}
+use mathlib.Core.Path.{_≡_, refl}
+use lib.ListN.{length, length-set, length-replicate, getD-replicate}
+use Rattle.lists.proofs.Pasting.{Pasting, pasting-none, pasting-past, pasting-short, pasting-more, pasting-done}
+use Rattle.fields.specs.Fields.{blanks}
+use borrow.Author.Needs.{needs}
+use Rattle.fields.proofs.put_blanks.Statement.{statement}
+use Rattle.fields.proofs.put_blanks.Tie as tie
+
+abbrev Inv-loop : tie.InvT-loop
+Inv-loop out₀ at n i₀ out i = (i ≤ n) × (length out ≡ length out₀) × Pasting out₀ at (blanks n) n (length-replicate {A = ℕ} n 32) out i
+
+abbrev μ-loop : tie.MeasureT-loop
+μ-loop out₀ at n i₀ out i = n - i
+
+returns : tie.Need-returns Inv-loop μ-loop
+returns c = let a = c .before .args in pasting-past (a .out .now) (a .at) (blanks (a .n)) (a .n) (length-replicate {A = ℕ} (a .n) 32) (omega arith)
+
+sub-if2 : tie.Need-sub-if2 Inv-loop μ-loop
+sub-if2 c = search needs
+
+returns-2 : tie.Need-returns-2 Inv-loop μ-loop
+returns-2 c = let a = c .before .before .args in pasting-short (a .out .now) (a .at) (blanks (a .n)) (a .n) (length-replicate {A = ℕ} (a .n) 32) (omega arith)
+
+loop-holds : tie.Need-loop-holds Inv-loop μ-loop
+loop-holds c = let a = c .before .before .args in (search needs, refl, pasting-none (a .out .now) (a .at) (blanks (a .n)) (a .n) (length-replicate {A = ℕ} (a .n) 32))
+
+add-out : tie.Need-add-out Inv-loop μ-loop
+add-out c = search needs
+
+slice-write-out : tie.Need-slice-write-out Inv-loop μ-loop
+slice-write-out c = search needs
+
+add-i : tie.Need-add-i Inv-loop μ-loop
+add-i c = search needs
+
+loop-less : tie.Need-loop-less Inv-loop μ-loop
+loop-less c = search needs
+
+loop-again : tie.Need-loop-again Inv-loop μ-loop
+loop-again c =
+    let a = c .before .before .before .before .args in
+    let l = c .before .loop in
+    (omega arith, simp length-set (l .inv .1), pasting-more (a .out .now) (a .at) (blanks (a .n)) (a .n) (length-replicate {A = ℕ} (a .n) 32) (l .out) (l .i) (l .inv .2) 32 0 (getD-replicate {A = ℕ} (a .n) (l .i) 32 0 (omega arith)) (omega arith) (omega arith))
+
+same-length : tie.Need-same-length Inv-loop μ-loop
+same-length c = search needs
+
+returns-3 : tie.Need-returns-3 Inv-loop μ-loop
+returns-3 c =
+    let a = c .before .before .before .before .args in
+    let l = c .before .loop in
+    pasting-done (a .out .now) (a .at) (blanks (a .n)) (a .n) (length-replicate {A = ℕ} (a .n) 32) (l .out) (l .i) (l .inv .2) (omega arith) (omega arith) (omega arith) (omega arith)
+
+pub put-blanks-spec : {M : Type 1} → statement M
+put-blanks-spec =
+    tie.close
+    (tie.spec
+    Inv-loop
+    μ-loop
+    returns
+    sub-if2
+    returns-2
+    loop-holds
+    add-out
+    slice-write-out
+    add-i
+    loop-less
+    loop-again
+    same-length
+    returns-3)
