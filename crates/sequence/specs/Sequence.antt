@@ -1,0 +1,85 @@
+-- Sequence numbers: inbound and outbound are separate counters (01, The book; 11, 12, 42, 43).
+use Prim.Native.Nat.{ℕ, _+_}
+use mathlib.Core.List.{List, [], _∷_}
+use mathlib.Core.Bool.{Bool, false, cond, _&&_}
+use lib.Dec.{eqb, leb, ltb}
+use Rattle.sequence.specs.declared.Inbound.{Inbound}
+use Rattle.sequence.specs.declared.Outbound.{Outbound}
+use Rattle.sequence.specs.declared.Received.{Received}
+use Rattle.sequence.specs.declared.Received.the-variants.{Nothing, Last}
+use Rattle.sequence.specs.declared.Line.{Line}
+use Rattle.sequence.specs.declared.Arrival.{Arrival}
+use Rattle.sequence.specs.declared.Arrival.the-variants.{Refused, Duplicate, Expected, Gap}
+
+abbrev pub FIRST : ℕ
+FIRST = 1
+
+-- 11 refuses 999999, and six digits hold no more
+abbrev pub INBOUND-MAX : ℕ
+INBOUND-MAX = 999998
+
+abbrev pub OUTBOUND-MAX : ℕ
+OUTBOUND-MAX = 999999
+
+-- 43 refuses a last outbound number over this one
+abbrev pub OUTBOUND-LAST-MAX : ℕ
+OUTBOUND-LAST-MAX = 999997
+
+abbrev pub inbound : ℕ → Inbound
+inbound n = record { 0 = n }
+
+abbrev pub outbound : ℕ → Outbound
+outbound n = record { 0 = n }
+
+-- inbound starts expecting 1, none received
+abbrev pub startLine : Line
+startLine = record { received = Nothing; expected = inbound FIRST }
+
+-- whether a number is the last received
+abbrev pub isLast : Received → Inbound → Bool
+isLast Nothing number = false
+isLast (Last last) number = eqb (number .0) (last .0)
+
+-- 11, then 12, then the expected one; any other is a gap
+unfoldable pub arrivalOf : Line → Inbound → Arrival
+arrivalOf line number =
+    cond (ltb INBOUND-MAX (number .0)) Refused
+    (cond (isLast (line .received) number) Duplicate
+    (cond (eqb (number .0) (line .expected .0)) Expected Gap))
+
+-- the line once a number is processed: it is received, and one more is expected
+abbrev pub processed : Inbound → Line
+processed number = record { received = Last number; expected = inbound (number .0 + 1) }
+
+-- a line after a number of that arrival: only the expected one and a gap are processed
+abbrev pub moved : Arrival → Line → Inbound → Line
+moved Refused line number = line
+moved Duplicate line number = line
+moved Expected line number = processed number
+moved Gap line number = processed number
+
+-- the line after a number
+unfoldable pub lineAfter : Line → Inbound → Line
+lineAfter line number = moved (arrivalOf line number) line number
+
+-- what the numbers of a list are to the line, one after another
+abbrev pub arrivals : Line → List ℕ → List Arrival
+arrivals line [] = []
+arrivals line (n ∷ ns) = arrivalOf line (inbound n) ∷ arrivals (lineAfter line (inbound n)) ns
+
+-- 42: expected is 1 where none is received
+abbrev pub soundAfter : Received → Inbound → Bool
+soundAfter Nothing expected = eqb (expected .0) FIRST
+soundAfter (Last last) expected = leb (last .0) INBOUND-MAX && eqb (expected .0) (last .0 + 1)
+
+-- 42: received is at most 999998, and expected one more
+unfoldable pub soundLine : Line → Bool
+soundLine line = soundAfter (line .received) (line .expected)
+
+-- the outbound number after the last one used; 999999 is the highest and stays
+unfoldable pub nextOutbound : Outbound → Outbound
+nextOutbound last = cond (ltb (last .0) OUTBOUND-MAX) (outbound (last .0 + 1)) last
+
+-- 43: the last outbound number is over 999997
+abbrev pub outboundSpent : Outbound → Bool
+outboundSpent last = ltb OUTBOUND-LAST-MAX (last .0)
