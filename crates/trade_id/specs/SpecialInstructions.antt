@@ -18,9 +18,11 @@ equalsSign = 61
 abbrev pub mark : List ℕ
 mark = 84 ∷ 82 ∷ 73 ∷ 68 ∷ equalsSign ∷ []
 
+-- the most characters of an ID
 abbrev pub idLengthMax : ℕ
 idLengthMax = 16
 
+-- whether the mark stands at the front; case counts
 unfoldable pub beginsWithMark : List ℕ → Bool
 beginsWithMark s = same (take (length mark) s) mark
 
