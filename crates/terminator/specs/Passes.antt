@@ -1,5 +1,5 @@
 -- The states of the passes over a message's pools: what the private functions promise. The checks themselves are in Lots and Groups.
-use Prim.Native.Nat.{ℕ, _+_}
+use Prim.Native.Nat.{ℕ, _+_, _*_, _≤_}
 use mathlib.Core.Bool.{Bool, true, false, cond, not, _&&_, _||_, Bool·beq}
 use lib.Dec.{eqb, leb, ltb}
 use Rattle.terminator.specs.declared.Mark.{Mark}
@@ -93,3 +93,10 @@ runOn g m =
     (cond (ltb 0 (g .replacement)) (withCanceled (emptyRun (judged g .formed) (judged g .balanced)) m) (withCanceled g m))
     (withReplacement g m))
     g
+
+-- the sizes of the group at hand after so many pools: no lot without a pool, and at most 99 millions each
+pub record Small (n : ℕ) (g : Run) : Type 0 where
+  pub lotsCanceled : g .canceled ≤ n
+  pub lotsReplacement : g .replacement ≤ n
+  pub canceledSum : g .millionsCanceled ≤ 99 * n
+  pub replacementSum : g .millionsReplacement ≤ 99 * n

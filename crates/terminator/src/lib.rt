@@ -2,11 +2,12 @@
 use fields::Field;
 use layout::Detail;
 ghost use mathlib.Core.Path.{_≡_};
-ghost use Prim.Native.Nat.{_<_};
+ghost use Prim.Native.Nat.{_+_, _<_, _≤_};
 ghost use Rattle.layout.specs.Details.{details, poolCount, detailAt, placeOf};
 ghost use Rattle.terminator.specs.Terminators.{positions, terminatorOf, isEnd, isWrong, isBad, kindOf, millionsOf, isGood, isOdd, markOf};
 ghost use Rattle.terminator.specs.Lots.{replacementCount, goodMillions, formedFor};
-ghost use Rattle.terminator.specs.Passes.{walkOn};
+ghost use Rattle.terminator.specs.Passes.{walkOn, judged, emptyRun, withCanceled, withReplacement, runOn, Small};
+ghost use Rattle.terminator.specs.Groups.{groupsJudged};
 
 // What positions two to four say.
 pub enum Terminator {
@@ -282,4 +283,100 @@ pub fn lots_formed(body: &[u8], cc: bool) -> bool
         i += 1;
     }
     w.formed & !w.begun
+}
+
+// Checks 20 and 21 of the groups so far and the one at hand.
+fn judge(g: Run) -> Groups
+    ensures { λ r. ⌜ r ≡ judged g ⌝ }
+{
+    let some = (1 <= g.canceled) & (1 <= g.replacement);
+    let single = (g.canceled == 1) & (g.replacement == 1);
+    Groups {
+        formed: g.formed & (some & (g.good | (single & (g.odd | g.bad)))),
+        balanced: g.balanced & (g.millionsCanceled == g.millionsReplacement),
+    }
+}
+
+fn empty_run(formed: bool, balanced: bool) -> Run
+    ensures { λ r. ⌜ r ≡ emptyRun formed balanced ⌝ }
+{
+    Run {
+        formed: formed,
+        balanced: balanced,
+        canceled: 0,
+        replacement: 0,
+        good: true,
+        odd: true,
+        bad: true,
+        millionsCanceled: 0,
+        millionsReplacement: 0,
+    }
+}
+
+fn with_canceled(g: Run, m: Mark) -> Run
+    requires { ⌜ (g .canceled < 4096) × (g .millionsCanceled + m .millions < 4294967296) ⌝ }
+    ensures { λ r. ⌜ r ≡ withCanceled g m ⌝ }
+{
+    Run {
+        formed: g.formed,
+        balanced: g.balanced,
+        canceled: g.canceled + 1,
+        replacement: g.replacement,
+        good: g.good & m.good,
+        odd: g.odd & m.odd,
+        bad: g.bad & !(m.good | m.odd),
+        millionsCanceled: g.millionsCanceled + m.millions,
+        millionsReplacement: g.millionsReplacement,
+    }
+}
+
+fn with_replacement(g: Run, m: Mark) -> Run
+    requires { ⌜ (g .replacement < 4096) × (g .millionsReplacement + m .millions < 4294967296) ⌝ }
+    ensures { λ r. ⌜ r ≡ withReplacement g m ⌝ }
+{
+    Run {
+        formed: g.formed,
+        balanced: g.balanced,
+        canceled: g.canceled,
+        replacement: g.replacement + 1,
+        good: g.good & m.good,
+        odd: g.odd & m.odd,
+        bad: g.bad & !(m.good | m.odd),
+        millionsCanceled: g.millionsCanceled,
+        millionsReplacement: g.millionsReplacement + m.millions,
+    }
+}
+
+// The groups after one more pool.
+fn run_on(g: Run, m: Mark) -> Run
+    requires { ⌜ Small 250 g × (m .millions ≤ 99) ⌝ }
+    ensures { λ r. ⌜ r ≡ runOn g m ⌝ }
+{
+    if !m.end {
+        return g;
+    }
+    if m.one != CANCELED {
+        return with_replacement(g, m);
+    }
+    if g.replacement == 0 {
+        return with_canceled(g, m);
+    }
+    let closed = judge(g);
+    let next = empty_run(closed.formed, closed.balanced);
+    with_canceled(next, m)
+}
+
+// Checks 20 and 21: whether the groups of a CC are formed, and whether each has like sums.
+pub fn groups_of(body: &[u8]) -> Groups
+    ensures { λ r. ⌜ r ≡ groupsJudged (details (now (body .entry))) ⌝ }
+{
+    let n = layout::pool_count(body);
+    let mut g = empty_run(true, true);
+    let mut i: usize = 0;
+    while i < n {
+        let m = mark_at(body, i);
+        g = run_on(g, m);
+        i += 1;
+    }
+    judge(g)
 }
