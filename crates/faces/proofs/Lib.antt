@@ -1,0 +1,8 @@
+pub mod Limits
+pub mod Kept
+pub mod Faced
+pub mod Widths
+pub mod Lotwise
+pub mod Checking
+pub mod Weighing
+pub mod Staging
