@@ -17,7 +17,7 @@ use Rattle.faces.specs.Faces.{isNew, isNewLot, goodLotFails, lotFails, l
 use Rattle.faces.specs.Runs.{faceLimit, endFails, checkPool}
 use Rattle.faces.proofs.Kept.{orKept, fold-any}
 use Rattle.faces.proofs.Lotwise.{lotOf, lotwise, cents-snoc, length-snoc}
-use Rattle.faces.proofs.Widths.{cents-small}
+use Rattle.terminator.proofs.Found.{cents-small}
 
 pub end-good : (t : Terminator) (millions sum pools variance most : ℕ) (f : Bool) → t ≡ GoodEnd millions → f ≡ goodLotFails sum pools millions variance most
     → f ≡ endFails t sum pools variance most

@@ -1,7 +1,6 @@
 pub mod Limits
 pub mod Kept
 pub mod Faced
-pub mod Widths
 pub mod Lotwise
 pub mod Checking
 pub mod Weighing

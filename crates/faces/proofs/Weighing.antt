@@ -18,7 +18,7 @@ use Rattle.faces.specs.Faces.{isNew, isNewLot, newWeight}
 use Rattle.faces.specs.Runs.{faceLimit, weighPool}
 use Rattle.faces.proofs.Kept.{addKept, fold-kept}
 use Rattle.faces.proofs.Lotwise.{lotOf, lotwise, cents-snoc}
-use Rattle.faces.proofs.Widths.{cents-small}
+use Rattle.terminator.proofs.Found.{cents-small}
 
 abbrev pub noneWeighed : Weighed
 noneWeighed = record { cents = 0; weight = 0 }

@@ -14,20 +14,8 @@ ghost use Rattle.faces.specs.Runs.{faceLimit, endFails, checkPool, weigh
 // The highest original face, in whole dollars.
 pub const ORIGINAL_MOST: u64 = 50000000;
 
-// The cents of a million dollars.
-pub const MILLION_CENTS: u64 = 100000000;
-
 // What a terminator is staged as where it is not four digits.
 pub const NO_TERMINATOR: u64 = 10000;
-
-// The i-th pool.
-fn pool_at(body: &[u8], i: usize) -> Detail
-    requires { ⌜ i < poolCount (now body) ⌝ }
-    ensures { λ r. ⌜ r ≡ detailAt (now (body .entry)) (placeOf i) ⌝ }
-{
-    let s = layout::next_detail(body, layout::HEADER_WIDTH + i * layout::DETAIL_WIDTH);
-    s.detail
-}
 
 fn is_new(d: Detail) -> bool
     ensures { λ r. ⌜ r ≡ isNew d ⌝ }
@@ -73,7 +61,7 @@ pub fn faces_fail(body: &[u8], least: u64) -> bool
     let mut fails = false;
     let mut i: usize = 0;
     while i < n {
-        let d = pool_at(body, i);
+        let d = layout::pool_at(body, i);
         i += 1;
         fails = fails | (is_new(d) & face_fails(d, least));
     }
@@ -97,8 +85,12 @@ fn over(a: u64, b: u64, c: u64) -> bool
 fn too_heavy(sum: u64, millions: u64, variance: u64) -> bool
     ensures { λ r. ⌜ r ≡ ltb (variance * millions) (sum - millions * millionCents) ⌝ }
 {
-    if over(sum, millions, MILLION_CENTS) {
-        return over(sum - millions * MILLION_CENTS, millions, variance);
+    if over(sum, millions, terminator::MILLION_CENTS) {
+        return over(
+            sum - millions * terminator::MILLION_CENTS,
+            millions,
+            variance,
+        );
     }
     false
 }
@@ -107,10 +99,10 @@ fn too_heavy(sum: u64, millions: u64, variance: u64) -> bool
 fn too_light(sum: u64, millions: u64, variance: u64) -> bool
     ensures { λ r. ⌜ r ≡ ltb (variance * millions) (millions * millionCents - sum) ⌝ }
 {
-    if MILLION_CENTS <= variance {
+    if terminator::MILLION_CENTS <= variance {
         return false;
     }
-    sum / (MILLION_CENTS - variance) < millions
+    sum / (terminator::MILLION_CENTS - variance) < millions
 }
 
 // 35's arithmetic: the sum of a good lot's current faces, its pools and its millions against the limits.
@@ -126,37 +118,6 @@ pub fn good_lot_fails(
     too_heavy(sum, millions, variance)
         | too_light(sum, millions, variance)
         | over(pools, millions, pools_a_million)
-}
-
-fn value_of(f: Field) -> u64
-    ensures { λ r. ⌜ r ≡ valueOf f ⌝ }
-{
-    match f {
-        Field::Number(n) => n,
-        Field::NotDigits => 0,
-    }
-}
-
-// A pool's current face in cents, 0 where it is not digits.
-fn current_cents(d: Detail) -> u64
-    ensures { λ r. ⌜ r ≡ currentCents d ⌝ }
-{
-    let current = d.current;
-    let f = fields::read_number(&current, 0, layout::CURRENT_FACE.width);
-    value_of(f)
-}
-
-fn is_end(t: Terminator) -> bool
-    ensures { λ r. ⌜ r ≡ isEnd t ⌝ }
-{
-    match t {
-        Terminator::Middle => false,
-        Terminator::BadMiddle => false,
-        Terminator::GoodEnd(_) => true,
-        Terminator::OddEnd => true,
-        Terminator::BadEnd => true,
-        Terminator::Wrong => false,
-    }
 }
 
 // 35 of a lot by its end, the sum of its current faces and its pools.
@@ -187,7 +148,7 @@ fn end_weight(t: Terminator, sum: u64) -> u64
     match t {
         Terminator::Middle => sum,
         Terminator::BadMiddle => sum,
-        Terminator::GoodEnd(millions) => millions * MILLION_CENTS,
+        Terminator::GoodEnd(millions) => millions * terminator::MILLION_CENTS,
         Terminator::OddEnd => sum,
         Terminator::BadEnd => sum,
         Terminator::Wrong => sum,
@@ -207,12 +168,12 @@ fn check_pool(s: Checked, d: Detail, variance: u64, pools_a_million: u64) -> Che
     requires { ⌜ s .pools ≤ poolsMax ⌝ }
     ensures { λ r. ⌜ r ≡ checkPool variance «pools_a_million» s d ⌝ }
 {
-    let cents = s.cents + current_cents(d);
+    let cents = s.cents + terminator::current_cents(d);
     let pools = s.pools + 1;
     let fails = s.fails;
     let bytes = d.terminator;
     let t = terminator::terminator_of(bytes);
-    if !is_end(t) {
+    if !terminator::is_end(t) {
         return Checked {
             cents: cents,
             pools: pools,
@@ -238,7 +199,7 @@ pub fn lots_fail(body: &[u8], variance: u64, pools_a_million: u64) -> bool
     };
     let mut i: usize = 0;
     while i < n {
-        let d = pool_at(body, i);
+        let d = layout::pool_at(body, i);
         i += 1;
         s = check_pool(s, d, variance, pools_a_million);
     }
@@ -256,11 +217,11 @@ fn weigh_pool(s: Weighed, d: Detail) -> Weighed
     requires { ⌜ s .cents + s .weight ≤ poolsMax * faceLimit ⌝ }
     ensures { λ r. ⌜ r ≡ weighPool s d ⌝ }
 {
-    let cents = s.cents + current_cents(d);
+    let cents = s.cents + terminator::current_cents(d);
     let weight = s.weight;
     let bytes = d.terminator;
     let t = terminator::terminator_of(bytes);
-    if !is_end(t) {
+    if !terminator::is_end(t) {
         return Weighed {
             cents: cents,
             weight: weight,
@@ -289,7 +250,7 @@ pub fn new_weight(body: &[u8]) -> u64
     };
     let mut i: usize = 0;
     while i < n {
-        let d = pool_at(body, i);
+        let d = layout::pool_at(body, i);
         i += 1;
         s = weigh_pool(s, d);
     }
@@ -329,8 +290,8 @@ pub fn stage(body: &[u8]) -> Staged
     let n = layout::pool_count(body);
     let mut i: usize = 0;
     while i < n {
-        let d = pool_at(body, i);
-        faces[i] = current_cents(d);
+        let d = layout::pool_at(body, i);
+        faces[i] = terminator::current_cents(d);
         terminators[i] = terminator_number(d);
         i += 1;
     }

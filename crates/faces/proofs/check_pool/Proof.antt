@@ -2,7 +2,7 @@
 use native.Mathlib.Omega.{arith}
 use mathlib.Core.Path.{sym, _∙_}
 use borrow.Author.Tests.{not-true, not-false}
-use Rattle.faces.proofs.Widths.{cents-small}
+use Rattle.terminator.proofs.Found.{cents-small}
 use Rattle.faces.proofs.Checking.{check-middle, check-end}
 use borrow.Author.Needs.{needs}
 use Rattle.faces.proofs.check_pool.Statement.{statement}

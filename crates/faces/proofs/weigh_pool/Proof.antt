@@ -4,7 +4,7 @@ use mathlib.Core.Path.{sym, ap, _∙_}
 use borrow.Author.Tests.{not-true, not-false}
 use Rattle.terminator.specs.Terminators.{millionsOf}
 use Rattle.terminator.proofs.Marks.{millions-small}
-use Rattle.faces.proofs.Widths.{cents-small}
+use Rattle.terminator.proofs.Found.{cents-small}
 use Rattle.faces.proofs.Weighing.{end-small, weigh-middle, weigh-canceled, weigh-new}
 use borrow.Author.Needs.{needs}
 use Rattle.faces.proofs.weigh_pool.Statement.{statement}
