@@ -1,0 +1,5 @@
+pub mod Matched
+pub mod Laid
+pub mod Taking
+pub mod Bringing
+pub mod Moving
