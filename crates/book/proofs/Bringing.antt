@@ -14,7 +14,7 @@ use Rattle.terminator.specs.Lots.{Lot, lotMillions}
 use Rattle.book.specs.Records.{Fields, distinct}
 use Rattle.book.specs.Checks.{lotFields}
 use Rattle.book.specs.History.{Brought, due, bring, tradeShare, fieldsOfLots, millionsByOns, millionsByDks}
-use Rattle.book.proofs.Matched.{distinct-right, distinct-cross, in-fieldsOfLots}
+use Rattle.book.proofs.Targets.{distinct-right, distinct-cross, in-fieldsOfLots}
 use Rattle.book.proofs.Laid.{Other, Apart}
 use Rattle.book.proofs.Taking.{Fine, Pair, Lots, standing}
 

@@ -1,4 +1,4 @@
-pub mod Matched
+pub mod Targets
 pub mod Laid
 pub mod Taking
 pub mod Bringing
