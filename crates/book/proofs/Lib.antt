@@ -1,1 +1,3 @@
+pub mod ListLaws
 pub mod Passed
+pub mod Pools

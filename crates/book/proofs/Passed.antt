@@ -19,7 +19,7 @@ use Rattle.book.specs.Records.{fieldsOf, distinct}
 use Rattle.book.specs.Messages.{typeOf, idIn, targetOf, under}
 use Rattle.book.specs.Opening.{elevenDigitsMax, between}
 use Rattle.book.specs.Soundness.{isSound}
-use Rattle.book.specs.Checks.{Call, live, sequenceFails, arrived, isDuplicate, isOther, isOn, isCc, isDk, isCx, onOrCc, ccOrDk, idFails, termsFail, listedFine, parFine, tableFine, Check, checks, refusal, answerFrom, answerOf}
+use Rattle.book.specs.Checks.{Call, live, sequenceFails, arrived, isDuplicate, isOther, isCc, isDk, isCx, onOrCc, ccOrDk, idFails, termsFail, listedFine, parFine, tableFine, Check, checks, refusal, answerFrom, answerOf}
 
 -- whether the first check of a number is for the type and fails
 abbrev pub failsFor : ℕ → List Check → Call → Bool
