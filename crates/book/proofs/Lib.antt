@@ -1,3 +1,4 @@
 pub mod ListLaws
 pub mod Passed
 pub mod Pools
+pub mod Ordered
