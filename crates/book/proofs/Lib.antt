@@ -2,3 +2,4 @@ pub mod ListLaws
 pub mod Passed
 pub mod Pools
 pub mod Ordered
+pub mod Matched

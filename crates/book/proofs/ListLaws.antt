@@ -1,9 +1,9 @@
 -- Laws of tests and of lists kept by a test, that nothing of the book stands in.
 use Prim.Native.Nat.{ℕ, zero, suc, _+_, _≤_}
-use mathlib.Core.Path.{_≡_, refl, sym, _∙_}
+use mathlib.Core.Path.{_≡_, refl, sym, ap, _∙_}
 use mathlib.Core.Logic.{_⊎_, inl, inr}
 use mathlib.Core.List.{List, [], _∷_, _++_, map}
-use mathlib.Core.Bool.{Bool, true, false, cond, not, _||_, false≢true, true≢false}
+use mathlib.Core.Bool.{Bool, true, false, cond, not, _&&_, _||_, false≢true, true≢false}
 use native.Mathlib.Omega.{arith}
 use lib.ListN.{length, replicate}
 use Rattle.lists.specs.Lists.{keep, any, all}
@@ -100,3 +100,40 @@ module _ {A B : Type 0} where
   pub all-map : (p : B → Bool) (f : A → B) → ((x : A) → p (f x) ≡ true) → (xs : List A) → all p (map f xs) ≡ true
   all-map p f h [] = refl
   all-map p f h (x ∷ xs) = both (p (f x)) (all p (map f xs)) (h x) (all-map p f h xs)
+
+  pub all-of-map : (p : B → Bool) (f : A → B) (xs : List A) → all p (map f xs) ≡ all (λ (x : A). p (f x)) xs
+  all-of-map p f [] = refl
+  all-of-map p f (x ∷ xs) = ap (λ (b : Bool). p (f x) && b) (all-of-map p f xs)
+
+pub not-any : {A : Type 0} (p : A → Bool) (xs : List A) → not (any p xs) ≡ all (λ (x : A). not (p x)) xs
+not-any p [] = refl
+not-any {A} p (x ∷ xs) = rw (← not-any p xs) (elim (p x) as (λ b. not (b || any p xs) ≡ (not b && not (any p xs))) [ true ↦ refl | false ↦ refl ])
+
+-- ---- a relation that holds of each element and all that come later
+module _ {A : Type 0} (before : A → A → Bool) where
+  abbrev pub pairwise : List A → Bool
+  pairwise [] = true
+  pairwise (x ∷ xs) = all (before x) xs && pairwise xs
+
+  pub pairwise-keep : (p : A → Bool) (xs : List A) → pairwise xs ≡ true → pairwise (keep p xs) ≡ true
+  pairwise-keep p [] e = refl
+  pairwise-keep p (x ∷ xs) e = go (p x) (pairwise-keep p xs (and-right (all (before x) xs) (pairwise xs) e))
+    where
+      go : (b : Bool) → pairwise (keep p xs) ≡ true → pairwise (cond b (x ∷ keep p xs) (keep p xs)) ≡ true
+      go true h = both (all (before x) (keep p xs)) (pairwise (keep p xs)) (all-keep (before x) p xs (and-left (all (before x) xs) (pairwise xs) e)) h
+      go false h = h
+
+  pub pairwise-append : (xs ys : List A) → pairwise xs ≡ true → pairwise ys ≡ true → all (λ (x : A). all (before x) ys) xs ≡ true → pairwise (xs ++ ys) ≡ true
+  pairwise-append [] ys e f a = f
+  pairwise-append (x ∷ xs) ys e f a =
+      both (all (before x) (xs ++ ys)) (pairwise (xs ++ ys))
+      (all-both (before x) xs ys (and-left (all (before x) xs) (pairwise xs) e) (and-left (all (before x) ys) (all (λ (y : A). all (before y) ys) xs) a))
+      (pairwise-append xs ys (and-right (all (before x) xs) (pairwise xs) e) f (and-right (all (before x) ys) (all (λ (y : A). all (before y) ys) xs) a))
+
+pub pairwise-map : {A B : Type 0} (before : A → A → Bool) (over : B → B → Bool) (f : A → B) → ((x y : A) → over (f x) (f y) ≡ true → before x y ≡ true)
+    → (xs : List A) → pairwise over (map f xs) ≡ true → pairwise before xs ≡ true
+pairwise-map before over f h [] e = refl
+pairwise-map {A} before over f h (x ∷ xs) e =
+    let near : all (λ (y : A). over (f x) (f y)) xs ≡ true = sym (all-of-map (over (f x)) f xs) ∙ and-left (all (over (f x)) (map f xs)) (pairwise over (map f xs)) e in
+    both (all (before x) xs) (pairwise before xs) (all-implied (λ (y : A). over (f x) (f y)) (before x) (h x) xs near)
+    (pairwise-map before over f h xs (and-right (all (over (f x)) (map f xs)) (pairwise over (map f xs)) e))

@@ -4,7 +4,7 @@ use Prim.Native.Nat.{ℕ, _+_, _≤_, _<_}
 use mathlib.Core.Path.{_≡_, refl, sym, _∙_}
 use mathlib.Core.Logic.{_⊎_, inl, inr}
 use mathlib.Core.List.{List, [], _∷_, _++_, map}
-use mathlib.Core.Bool.{Bool, true, false, cond, _&&_, _||_}
+use mathlib.Core.Bool.{Bool, true, _&&_, _||_}
 use native.Mathlib.Omega.{arith}
 use lib.Dec.{eqb, leb, ltb}
 use borrow.Author.Tests.{ltb-true, leb-true, eqb-true, lt-ltb, le-leb, eq-eqb}
@@ -15,7 +15,7 @@ use Rattle.terminator.specs.Lots.{Lot, poolsOf}
 use Rattle.book.specs.declared.Pool.{Pool}
 use Rattle.book.specs.Records.{poolOf, recordsOf}
 use Rattle.book.specs.Soundness.{follows, inOrder}
-use Rattle.book.proofs.ListLaws.{or-split, or-right, all-keep, all-implied, all-both, all-map}
+use Rattle.book.proofs.ListLaws.{or-split, or-right, all-keep, all-implied, all-both, all-map, pairwise, pairwise-keep, pairwise-append}
 
 -- ---- the test as an order
 abbrev LotAfter : Pool → Pool → Type 0
@@ -81,9 +81,8 @@ pub follows-trans : (q r s : Pool) → follows q r ≡ true → follows r s ≡ 
 follows-trans q r s e f = is-follows q s (after-trans q r s (follows-is q r e) (follows-is r s f))
 
 -- ---- each record before all that come later
-abbrev pub chained : List Pool → Bool
-chained [] = true
-chained (q ∷ rs) = all (follows q) rs && chained rs
+abbrev chained : List Pool → Bool
+chained = pairwise follows
 
 order-chained : (rs : List Pool) → inOrder rs ≡ true → chained rs ≡ true
 order-chained [] e = refl
@@ -102,21 +101,6 @@ chained-order (q ∷ r ∷ rs) e =
     both (follows q r) (inOrder (r ∷ rs))
     (and-left (follows q r) (all (follows q) rs) (and-left (all (follows q) (r ∷ rs)) (chained (r ∷ rs)) e))
     (chained-order (r ∷ rs) (and-right (all (follows q) (r ∷ rs)) (chained (r ∷ rs)) e))
-
-chained-keep : (p : Pool → Bool) (rs : List Pool) → chained rs ≡ true → chained (keep p rs) ≡ true
-chained-keep p [] e = refl
-chained-keep p (q ∷ rs) e = go (p q) (chained-keep p rs (and-right (all (follows q) rs) (chained rs) e))
-  where
-    go : (b : Bool) → chained (keep p rs) ≡ true → chained (cond b (q ∷ keep p rs) (keep p rs)) ≡ true
-    go true h = both (all (follows q) (keep p rs)) (chained (keep p rs)) (all-keep (follows q) p rs (and-left (all (follows q) rs) (chained rs) e)) h
-    go false h = h
-
-chained-append : (xs ys : List Pool) → chained xs ≡ true → chained ys ≡ true → all (λ (q : Pool). all (follows q) ys) xs ≡ true → chained (xs ++ ys) ≡ true
-chained-append [] ys e f a = f
-chained-append (q ∷ xs) ys e f a =
-    both (all (follows q) (xs ++ ys)) (chained (xs ++ ys))
-    (all-both (follows q) xs ys (and-left (all (follows q) xs) (chained xs) e) (and-left (all (follows q) ys) (all (λ (r : Pool). all (follows r) ys) xs) a))
-    (chained-append xs ys (and-right (all (follows q) xs) (chained xs) e) f (and-right (all (follows q) ys) (all (λ (r : Pool). all (follows r) ys) xs) a))
 
 -- ---- the records of new lots
 -- a record under a message ID and a trade, with an ordinal from a number on
@@ -154,7 +138,7 @@ lot-chained id t o l (d ∷ ds) =
 records-chained : (id t o : ℕ) (ls : List Lot) → chained (recordsOf id t o ls) ≡ true
 records-chained id t o [] = refl
 records-chained id t o (l ∷ ls) =
-    chained-append (map (poolOf id o t l) (poolsOf l)) (recordsOf id t (o + 1) ls) (lot-chained id t o l (poolsOf l)) (records-chained id t (o + 1) ls)
+    pairwise-append follows (map (poolOf id o t l) (poolsOf l)) (recordsOf id t (o + 1) ls) (lot-chained id t o l (poolsOf l)) (records-chained id t (o + 1) ls)
     (all-map (λ (q : Pool). all (follows q) (recordsOf id t (o + 1) ls)) (poolOf id o t l)
     (λ (d : Detail). all-implied (isFrom id t (o + 1)) (follows (poolOf id o t l d)) (follows-from id t o l d) (recordsOf id t (o + 1) ls) (records-from id t (o + 1) ls))
     (poolsOf l))
@@ -174,7 +158,7 @@ pub ordered-after : (last t : ℕ) (p : Pool → Bool) (rs : List Pool) (ls : Li
 ordered-after last t p rs ls old e =
     let new : List Pool = recordsOf (last + 1) t 1 ls in
     chained-order (keep p rs ++ new)
-    (chained-append (keep p rs) new (chained-keep p rs (order-chained rs e)) (records-chained (last + 1) t 1 ls)
+    (pairwise-append follows (keep p rs) new (pairwise-keep follows p rs (order-chained rs e)) (records-chained (last + 1) t 1 ls)
     (all-implied (isOld last) (λ (q : Pool). all (follows q) new)
     (λ (q : Pool) h. all-implied (isFrom (last + 1) t 1) (follows q) (λ (r : Pool) f. old-before last t q r h f) new (records-from (last + 1) t 1 ls))
     (keep p rs) (all-keep (isOld last) p rs old)))
