@@ -3,3 +3,4 @@ pub mod Passed
 pub mod Pools
 pub mod Ordered
 pub mod Matched
+pub mod Stored
