@@ -1,3 +1,9 @@
+pub mod ListLaws
+pub mod Passed
+pub mod Pools
+pub mod Ordered
+pub mod Matched
+pub mod Stored
 pub mod Targets
 pub mod Laid
 pub mod Taking

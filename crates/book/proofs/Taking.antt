@@ -19,7 +19,8 @@ use Rattle.book.specs.Records.{Fields, fieldsOf, liveFields, sameFields,
 use Rattle.book.specs.Messages.{under}
 use Rattle.book.specs.Checks.{isTaken, allLive, wholeLots, exactLots, firstUnder, lotFields}
 use Rattle.book.specs.History.{Brought, isTarget, touches, once, takeOff, stands, tradeShare}
-use Rattle.book.proofs.Targets.{fields-equal, under-is, target-one}
+use Rattle.book.proofs.Matched.{fields-equal}
+use Rattle.book.proofs.Targets.{under-is, target-one}
 use Rattle.book.proofs.Laid.{recordOf, laid, flat, flat-same, flat-takeOff, flat-keep, in-flat, flat-in, Other, Apart, value, run-flat, value-weight}
 
 -- ---- what holds of the history's lots: each by itself, and any two under one ID

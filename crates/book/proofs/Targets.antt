@@ -6,8 +6,7 @@ use mathlib.Core.List.{List, [], _∷_, _++_, map, append-assoc, List·Memᴰ·h
 use Prim.Native.Nat.{ℕ}
 use lib.Dec.{eqb}
 use borrow.Author.Tests.{eq-eqb, eqb-true}
-use Rattle.lists.specs.Lists.{same, any}
-use Rattle.lists.proofs.Tests.{_∈_, and-left, and-right, both, not-is, clash, any-in, any-out, same-refl, same-equal}
+use Rattle.lists.proofs.Tests.{_∈_, and-left, and-right, both, not-is, clash, any-in, any-out, same-refl}
 use Rattle.fields.specs.declared.Field.{Field}
 use Rattle.fields.specs.declared.Field.the-variants.{Number, NotDigits}
 use Rattle.terminator.specs.Lots.{Lot, poolsOf}
@@ -16,16 +15,9 @@ use Rattle.book.specs.Records.{Fields, fieldsOf, sameFields, hasFields, 
 use Rattle.book.specs.Messages.{under}
 use Rattle.book.specs.Checks.{lotFields}
 use Rattle.book.specs.History.{isTarget, fieldsOfLots}
+use Rattle.book.proofs.Matched.{fields-equal}
 
 -- ---- matched fields
-
-pub fields-equal : (f g : Fields) → sameFields f g ≡ true → f ≡ g
-fields-equal f g e =
-    let r = and-right (same (f .lot) (g .lot)) (same (f .pool) (g .pool) && same (f .original) (g .original)) e in
-    let p = same-equal (f .lot) (g .lot) (and-left (same (f .lot) (g .lot)) (same (f .pool) (g .pool) && same (f .original) (g .original)) e) in
-    let q = same-equal (f .pool) (g .pool) (and-left (same (f .pool) (g .pool)) (same (f .original) (g .original)) r) in
-    let o = same-equal (f .original) (g .original) (and-right (same (f .pool) (g .pool)) (same (f .original) (g .original)) r) in
-    λ i. record { lot = p i; pool = q i; original = o i }
 
 pub fields-refl : (f : Fields) → sameFields f f ≡ true
 fields-refl f = rw (same-refl (f .lot), same-refl (f .pool), same-refl (f .original))
