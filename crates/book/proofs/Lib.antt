@@ -9,3 +9,4 @@ pub mod Laid
 pub mod Taking
 pub mod Bringing
 pub mod Moving
+pub mod Substituting
