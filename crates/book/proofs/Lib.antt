@@ -10,3 +10,4 @@ pub mod Taking
 pub mod Bringing
 pub mod Moving
 pub mod Substituting
+pub mod Stepping

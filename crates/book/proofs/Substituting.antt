@@ -89,9 +89,10 @@ module _ (n last : ℕ) (tgt : Field) (hs : List Brought) (lots : Lots n last hs
       each : (r : Pool) → r ∈ keep q F → (r .ordinal ≡ firstOrdinal (keep q F)) × (r .millions ≡ lotMillions l)
       each r m =
           let t = all-out alike m (and-right (wholeLots tgt (lotFields l) F) (all alike (keep q F)) one) in
-          let u = and-right (eqb (r .ordinal) (firstOrdinal (keep q F))) (eqb (r .kind) (kindNumber (lotKind l)) && eqb (r .millions) (lotMillions l)) t in
-          (eqb-true (r .ordinal) (firstOrdinal (keep q F)) (and-left (eqb (r .ordinal) (firstOrdinal (keep q F))) (eqb (r .kind) (kindNumber (lotKind l)) && eqb (r .millions) (lotMillions l)) t),
-          eqb-true (r .millions) (lotMillions l) (and-right (eqb (r .kind) (kindNumber (lotKind l))) (eqb (r .millions) (lotMillions l)) u))
+          let u = and-right (eqb (r .ordinal) (firstOrdinal (keep q F))) (eqb (r .kind) (kindNumber (lotKind l)) && eqb (r .millions) (lotMillions l)) t in (
+            eqb-true (r .ordinal) (firstOrdinal (keep q F)) (and-left (eqb (r .ordinal) (firstOrdinal (keep q F))) (eqb (r .kind) (kindNumber (lotKind l)) && eqb (r .millions) (lotMillions l)) t),
+            eqb-true (r .millions) (lotMillions l) (and-right (eqb (r .kind) (kindNumber (lotKind l))) (eqb (r .millions) (lotMillions l)) u),
+          )
 
       at : (r : Pool) → q r ≡ true → isTarget tgt (r .message) ≡ true
       at r e = sym (under-is tgt r) ∙ and-left (under tgt r) (hasFields (liveFields r) (lotFields l)) e
@@ -182,12 +183,16 @@ module _ (n last : ℕ) (tgt : Field) (hs : List Brought) (lots : Lots n last hs
       formed : groupFormed g ≡ true
       formed = and-left (groupFormed g) (all groupFormed gs) ne
 
-      mine : tradeOfFirst (keep (touches tgt (fieldsOfLots (g .canceled))) hs) ≡ t
+      cs : List Fields
+      cs = fieldsOfLots (g .canceled)
+
+      first : (h : Brought) × (h ∈ hs) × (touches tgt cs h ≡ true) × ((xs : List Brought) × (keep (touches tgt cs) hs ≡ h ∷ xs)) → tradeOfFirst (keep (touches tgt cs) hs) ≡ t
+      first (h, mh, eh, (xs, k)) = rw k (there h mh (touches-target tgt cs h eh))
+
+      mine : tradeOfFirst (keep (touches tgt cs) hs) ≡ t
       mine =
           let (f, m) = some (g .canceled) (search (and-left, and-right)) in
-          let (h, mh, eh, (xs, k)) = keep-first (touches tgt (fieldsOfLots (g .canceled))) hs
-          (some-touched fs li (fieldsOfLots (g .canceled)) f (sub f (rw (fieldsOfLots-append (g .canceled) (canceledOf gs)) (Memᴰ·append-left (fieldsOfLots (canceledOf gs)) m))) m) in
-          ap tradeOfFirst k ∙ there h mh (touches-target tgt (fieldsOfLots (g .canceled)) h eh)
+          first (keep-first (touches tgt cs) hs (some-touched fs li cs f (sub f (rw (fieldsOfLots-append (g .canceled) (canceledOf gs)) (Memᴰ·append-left (fieldsOfLots (canceledOf gs)) m))) m))
 
 -- in each group, and so in all together, the canceled millions are those that replace them
 pub groups-even : (gs : List Group) → all groupBalanced gs ≡ true → sumOf lotMillions (canceledOf gs) ≡ sumOf lotMillions (replacementOf gs)
