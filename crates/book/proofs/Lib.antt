@@ -11,3 +11,5 @@ pub mod Bringing
 pub mod Moving
 pub mod Substituting
 pub mod Stepping
+pub mod Calls
+pub mod Demand3

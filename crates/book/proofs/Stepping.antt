@@ -83,7 +83,7 @@ same-trade body os ts us e =
 
 -- ---- what a body of a type lists and brings
 
-listed-as : (body : List ℕ) (k : MessageType) → typeOf body ≡ k → listed body ≡ map fieldsOf (listedOf k (details body))
+pub listed-as : (body : List ℕ) (k : MessageType) → typeOf body ≡ k → listed body ≡ map fieldsOf (listedOf k (details body))
 unfolding listed
 listed-as body k e = ap (λ (x : MessageType). map fieldsOf (listedOf x (details body))) e
 
