@@ -1,0 +1,15 @@
+pub mod ListLaws
+pub mod Passed
+pub mod Pools
+pub mod Ordered
+pub mod Matched
+pub mod Stored
+pub mod Targets
+pub mod Laid
+pub mod Taking
+pub mod Bringing
+pub mod Moving
+pub mod Substituting
+pub mod Stepping
+pub mod Calls
+pub mod Demand3
