@@ -4,3 +4,4 @@ pub mod Pools
 pub mod Ordered
 pub mod Matched
 pub mod Stored
+pub mod Kept
