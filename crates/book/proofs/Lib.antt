@@ -5,3 +5,4 @@ pub mod Ordered
 pub mod Matched
 pub mod Stored
 pub mod Kept
+pub mod Reached
