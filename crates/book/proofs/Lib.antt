@@ -6,3 +6,4 @@ pub mod Matched
 pub mod Stored
 pub mod Kept
 pub mod Reached
+pub mod Example
