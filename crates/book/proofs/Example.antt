@@ -4,24 +4,26 @@ use mathlib.Core.Path.{_≡_, refl}
 use mathlib.Core.List.{List, [], _∷_, _++_, map}
 use mathlib.Core.Bool.{true}
 use lib.ListN.{length, replicate}
+use Rattle.layout.specs.declared.Column.{Column}
+use Rattle.layout.specs.Columns as columns
 use Rattle.lists.specs.Lists.{within, part, pasted}
 use Rattle.fields.specs.Fields.{readNumber, allBetween, digitsOf, blanks}
-use Rattle.layout.specs.Details.{lengthFits, poolCount, detailAt, details}
+use Rattle.layout.specs.Details.{lengthFits, placeOf, poolCount, detailAt, details}
 use Rattle.terminator.specs.Terminators.{positions, terminatorOf}
 use Rattle.terminator.specs.Lots.{lots, currentCents, lotWeight, goodMillions, formedFor, replacementCount}
 use Rattle.terminator.specs.Groups.{groups, groupsFormed, groupsBalanced}
 use Rattle.faces.specs.Faces.{faceFails, facesFail, goodLotFails, lotFails, lotsFail}
 use Rattle.calendar.specs.Calendar.{dayNumber, weekdayOf, isDate, businessDate}
 use Rattle.sequence.specs.Sequence.{outbound, arrivalOf, lineAfter, soundLine, nextOutbound}
-use Rattle.trade_id.specs.SpecialInstructions.{beginsWithMark, markIn, idAt, tradeIdOf}
+use Rattle.trade_id.specs.SpecialInstructions.{mark, beginsWithMark, markIn, idAt, tradeIdOf}
 use Rattle.book.specs.declared.Trade.{Trade}
 use Rattle.book.specs.declared.Values.{Values}
 use Rattle.book.specs.declared.Pool.{Pool}
 use Rattle.book.specs.declared.Answer.{Answer}
-use Rattle.book.specs.declared.Answer.the-variants.{Accepted, Rejected}
+use Rattle.book.specs.declared.Answer.the-variants.{Accepted, Rejected, Dked}
 use Rattle.book.specs.declared.Reason.the-variants as reason
 use Rattle.book.specs.Records.{weightOfRecords, tradeWeight, standingMillions, noPool}
-use Rattle.book.specs.Messages.{typeOf, ftba, listed, brought}
+use Rattle.book.specs.Messages.{typeOf, ftba, fsti, listed, brought}
 use Rattle.book.specs.Trades.{tradesOf, openPars, agrees, broughtWeight, tradeOfOn}
 use Rattle.book.specs.Opening.{valuesFine, openingFine, opened, cleared}
 use Rattle.book.specs.Soundness.{liveOf, isSound}
@@ -166,3 +168,74 @@ pub day : told start (put onBody ∷ put ccBody ∷ put dkBody ∷ put (pasted d
     ≡ tells (Accepted 1) 237654400 2 ∷ tells (Accepted 2) 230000000 2 ∷ tells (Accepted 3) 330000000 1 ∷ tells (Rejected reason.Listed) 330000000 1 ∷ []
 unfolding answerOf checks isSound valuesFine opened cleared values table trade put onBody header detail allBetween within part readNumber businessDate isDate weekdayOf dayNumber soundLine lengthFits poolCount detailAt details arrivalOf typeOf markIn beginsWithMark idAt tradeIdOf terminatorOf positions lots formedFor currentCents lotWeight goodMillions faceFails facesFail goodLotFails lotFails lotsFail listed brought agrees broughtWeight tradeOfOn concerned targetTrade weightOfRecords tradeWeight told tells start ccBody dkBody pasted after bookAfter tableAfter tradesMoved liveMoved tableMoved lineAfter nextOutbound standingMillions groups groupsFormed groupsBalanced replacementCount
 day = refl
+
+-- ---- refusals: a call for each number of a frame, 42 to 44 and 10 to 40; every other check before it passes
+-- a body with other bytes in a column, and with another field of the detail of an index
+abbrev pub altered : Column → List ℕ → List ℕ → List ℕ
+altered c bytes body = pasted body (c .at) bytes
+
+abbrev pub alteredPool : ℕ → Column → List ℕ → List ℕ → List ℕ
+alteredPool i c bytes body = pasted body (placeOf i + c .at) bytes
+
+-- the state after the ON
+unfoldable pub second : State
+second = after start (put onBody)
+
+-- a DK of the ON's odd lot
+unfoldable pub dkOdd : List ℕ
+dkOdd = altered columns.sequence (digitsOf 6 2) (altered columns.target (digitsOf 11 1) (alteredPool 0 columns.poolNumber (digitsOf 7 3) (alteredPool 0 columns.originalFace (digitsOf 9 200000) dkBody)))
+
+abbrev pub answered : State → List ℕ → Answer
+answered s body = answerOf (callOf s (put body))
+
+-- by the operator
+pub by-operator : answerOf (callOf (record { book = record { values = start .book .values; line = start .book .line; live = 9 }; table = table }) (put onBody))
+    ∷ answered (openedState (values 99999999999) table) onBody
+    ∷ answerOf (callOf start (record { body = onBody; room = 216 }))
+    ∷ answered (openedState (values 0) (replicate 3 noPool)) onBody
+    ∷ []
+    ≡ Rejected reason.Unsound ∷ Rejected reason.Spent ∷ Rejected reason.ShortOutput ∷ Rejected reason.TableFull ∷ []
+unfolding answerOf checks isSound valuesFine opened cleared values table trade put onBody header detail allBetween within part readNumber businessDate isDate weekdayOf dayNumber soundLine lengthFits poolCount detailAt details arrivalOf typeOf markIn beginsWithMark idAt tradeIdOf terminatorOf positions lots formedFor currentCents lotWeight goodMillions faceFails facesFail goodLotFails lotFails lotsFail listed brought agrees broughtWeight tradeOfOn concerned targetTrade weightOfRecords tradeWeight told tells start ccBody dkBody pasted after bookAfter tableAfter tradesMoved liveMoved tableMoved lineAfter nextOutbound standingMillions groups groupsFormed groupsBalanced replacementCount second dkOdd
+by-operator = refl
+
+-- by the line, and by the sender's system
+pub by-sender : answered start []
+    ∷ answered start (altered columns.sequence (digitsOf 6 999999) onBody)
+    ∷ answered second onBody
+    ∷ answered start (altered columns.messageType (88 ∷ 88 ∷ []) onBody)
+    ∷ answered start (altered columns.version (digitsOf 3 3) onBody)
+    ∷ answered start (altered columns.fillerOne (48 ∷ []) onBody)
+    ∷ answered start (altered columns.par (digitsOf 11 0) onBody)
+    ∷ answered start (altered columns.submitter (blanks 4) onBody)
+    ∷ answered start (altered columns.messageType (67 ∷ 88 ∷ []) onBody)
+    ∷ answered start (alteredPool 2 columns.terminator (digitsOf 4 100) onBody)
+    ∷ answered second (alteredPool 5 columns.terminator (digitsOf 4 6999) ccBody)
+    ∷ answered second (alteredPool 3 columns.terminator (digitsOf 4 7002) ccBody)
+    ∷ answered second (altered columns.numberOfPools (digitsOf 4 2) ccBody)
+    ∷ answered second (altered columns.settlement (digitsOf 8 7042026) ccBody)
+    ∷ answered second (altered columns.reason (digitsOf 4 0) dkOdd)
+    ∷ answered second (altered columns.contra fsti dkOdd)
+    ∷ []
+    ≡ Rejected reason.Length ∷ Rejected reason.Sequence ∷ Rejected reason.Duplicate ∷ Rejected reason.MessageType ∷ Rejected reason.Version ∷ Rejected reason.Filler
+    ∷ Rejected reason.Amounts ∷ Rejected reason.Parties ∷ Rejected reason.Cancel ∷ Rejected reason.LotForm ∷ Rejected reason.Groups ∷ Rejected reason.Sums
+    ∷ Rejected reason.Replacements ∷ Rejected reason.Settlement ∷ Rejected reason.ReasonCode ∷ Rejected reason.NoTradeId ∷ []
+unfolding answerOf checks isSound valuesFine opened cleared values table trade put onBody header detail allBetween within part readNumber businessDate isDate weekdayOf dayNumber soundLine lengthFits poolCount detailAt details arrivalOf typeOf markIn beginsWithMark idAt tradeIdOf terminatorOf positions lots formedFor currentCents lotWeight goodMillions faceFails facesFail goodLotFails lotFails lotsFail listed brought agrees broughtWeight tradeOfOn concerned targetTrade weightOfRecords tradeWeight told tells start ccBody dkBody pasted after bookAfter tableAfter tradesMoved liveMoved tableMoved lineAfter nextOutbound standingMillions groups groupsFormed groupsBalanced replacementCount second dkOdd
+by-sender = refl
+
+-- by the trader; the DK of the odd lot itself is accepted
+pub by-trader : answered second (altered columns.target (digitsOf 11 9) ccBody)
+    ∷ answered start (altered columns.special mark onBody)
+    ∷ answered start (altered columns.cusip (digitsOf 9 0) onBody)
+    ∷ answered start (altered columns.gdmm (digitsOf 4 3) onBody)
+    ∷ answered start (alteredPool 2 columns.originalFace (digitsOf 9 999) onBody)
+    ∷ answered start (alteredPool 1 columns.currentFace (digitsOf 11 100020001) onBody)
+    ∷ answered start (alteredPool 1 columns.poolNumber (digitsOf 7 1) onBody)
+    ∷ answered second (alteredPool 0 columns.poolNumber (digitsOf 7 4) ccBody)
+    ∷ answered start (alteredPool 2 columns.currentFace (digitsOf 11 250000001) onBody)
+    ∷ answered second (altered columns.target (digitsOf 11 9) dkOdd)
+    ∷ answered second dkOdd
+    ∷ []
+    ≡ Dked reason.Target ∷ Dked reason.TradeId ∷ Dked reason.Terms ∷ Dked reason.Millions ∷ Dked reason.Faces ∷ Dked reason.Variance ∷ Dked reason.Repeated
+    ∷ Dked reason.Listed ∷ Dked reason.Par ∷ Rejected reason.Target ∷ Accepted 2 ∷ []
+unfolding answerOf checks isSound valuesFine opened cleared values table trade put onBody header detail allBetween within part readNumber businessDate isDate weekdayOf dayNumber soundLine lengthFits poolCount detailAt details arrivalOf typeOf markIn beginsWithMark idAt tradeIdOf terminatorOf positions lots formedFor currentCents lotWeight goodMillions faceFails facesFail goodLotFails lotFails lotsFail listed brought agrees broughtWeight tradeOfOn concerned targetTrade weightOfRecords tradeWeight told tells start ccBody dkBody pasted after bookAfter tableAfter tradesMoved liveMoved tableMoved lineAfter nextOutbound standingMillions groups groupsFormed groupsBalanced replacementCount second dkOdd
+by-trader = refl
