@@ -13,3 +13,6 @@ pub mod Substituting
 pub mod Stepping
 pub mod Calls
 pub mod Demand3
+pub mod Kept
+pub mod Reached
+pub mod Example
