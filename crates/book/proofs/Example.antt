@@ -7,7 +7,8 @@ use lib.ListN.{length, replicate}
 use Rattle.layout.specs.declared.Column.{Column}
 use Rattle.layout.specs.Columns as columns
 use Rattle.lists.specs.Lists.{within, part, pasted}
-use Rattle.fields.specs.Fields.{readNumber, allBetween, digitsOf, blanks}
+use Rattle.fields.specs.Fields.{readNumber, allBetween}
+use Rattle.output.specs.Output.{digitsOf, blanks}
 use Rattle.layout.specs.Details.{lengthFits, placeOf, poolCount, detailAt, details}
 use Rattle.terminator.specs.Terminators.{positions, terminatorOf}
 use Rattle.terminator.specs.Lots.{lots, currentCents, lotWeight, goodMillions, formedFor, replacementCount}

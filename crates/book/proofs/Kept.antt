@@ -13,11 +13,11 @@ use Rattle.lists.specs.Lists.{all}
 use Rattle.lists.proofs.Tests.{and-left, and-right}
 use Rattle.calendar.specs.Calendar.{isDate}
 use Rattle.sequence.specs.declared.Outbound.{Outbound}
-use Rattle.sequence.specs.Sequence.{nextOutbound, OUTBOUND-MAX, outbound}
+use Rattle.sequence.specs.Sequence.{nextOutbound, outboundMax, outbound}
 use Rattle.book.specs.declared.Trade.{Trade}
 use Rattle.book.specs.declared.Values.{Values}
 use Rattle.book.specs.Trades.{tradesOf, tradeName}
-use Rattle.book.specs.Opening.{tradesMax, holidaysMax, elevenDigitsMax, outboundMax, holidaysOf, limitsFine, accountFine, tradeFine, namesRepeat, valuesFine}
+use Rattle.book.specs.Opening.{tradesMax, holidaysMax, elevenDigitsMax, holidaysOf, limitsFine, accountFine, tradeFine, namesRepeat, valuesFine}
 use Rattle.book.specs.Checks.{noTrade, tradeAt}
 use Rattle.book.specs.Step.{withLeft}
 use Rattle.book.proofs.ListLaws.{all-of-map}
@@ -103,10 +103,10 @@ module _ (v : Values) (e : valuesFine v ≡ true) where
 -- ---- the outbound number stops at its highest
 pub next-within : (o : Outbound) → leb (o .0) outboundMax ≡ true → leb (nextOutbound o .0) outboundMax ≡ true
 unfolding nextOutbound
-next-within o e = go (ltb (o .0) OUTBOUND-MAX) refl
+next-within o e = go (ltb (o .0) outboundMax) refl
   where
-    go : (b : Bool) → ltb (o .0) OUTBOUND-MAX ≡ b → leb ((cond b (outbound (o .0 + 1)) o) .0) outboundMax ≡ true
+    go : (b : Bool) → ltb (o .0) outboundMax ≡ b → leb ((cond b (outbound (o .0 + 1)) o) .0) outboundMax ≡ true
     go true f =
-        let h : o .0 < OUTBOUND-MAX = ltb-true (o .0) OUTBOUND-MAX f in
+        let h : o .0 < outboundMax = ltb-true (o .0) outboundMax f in
         le-leb (o .0 + 1) outboundMax (omega arith)
     go false f = e

@@ -16,7 +16,7 @@ use Rattle.layout.specs.declared.Detail.{Detail}
 use Rattle.layout.specs.Details.{details}
 use Rattle.terminator.specs.Lots.{Lot}
 use Rattle.faces.specs.Faces.{newLots, newPools}
-use Rattle.sequence.specs.Sequence.{soundLine, lineAfter, nextOutbound, outboundSpent}
+use Rattle.sequence.specs.Sequence.{outboundMax, soundLine, lineAfter, nextOutbound, outboundSpent}
 use Rattle.sequence.proofs.Soundness.{start-sound, stays-sound}
 use Rattle.tally.specs.declared.MessageType.{MessageType}
 use Rattle.tally.specs.declared.MessageType.the-variants.{On, Cc, Dk, Cx, Other}
@@ -29,7 +29,7 @@ use Rattle.book.specs.Reasons.{isAccepted}
 use Rattle.book.specs.Records.{fieldsOf, distinct, recordsOf, noPool, tradeWeight, weightOfRecords}
 use Rattle.book.specs.Messages.{typeOf, targetOf, listedOf, listed, broughtBy, brought}
 use Rattle.book.specs.Trades.{tradesOf, tradeName}
-use Rattle.book.specs.Opening.{recordsMax, elevenDigitsMax, outboundMax, holidaysOf, tradeFine, valuesFine, openingFine, atPar, opened, cleared}
+use Rattle.book.specs.Opening.{recordsMax, elevenDigitsMax, holidaysOf, tradeFine, valuesFine, openingFine, atPar, opened, cleared}
 use Rattle.book.specs.Soundness.{liveOf, recordFine, inOrder, fieldsOnce, isNone, parsFrom, Sound, isSound}
 use Rattle.book.specs.Checks.{Call, live, trades, arrived, concerned, onOrCc, ccOrDk, isCc, isTaken, taken, allLive, wholeLots, exactLots, tradeAt, answerOf}
 use Rattle.book.specs.Trades.{broughtWeight}
