@@ -1,17 +1,16 @@
 -- Every call keeps book and history side by side: a refused one changes neither, an accepted one is a move. What the promise says can be read off them.
 use mathlib.Core.Path.{_≡_, refl, sym, ap, _∙_}
-use mathlib.Core.Bool.{Bool, true, false, not, cond, _&&_, _||_, false≢true, true≢false}
+use mathlib.Core.Bool.{Bool, true, false, not, cond, _||_, false≢true}
 use mathlib.Core.List.{List, [], _∷_, _++_, map, List·Memᴰ·not-nil, Memᴰ·map, Memᴰ·cast}
-use Prim.Native.Nat.{ℕ, zero, suc, _+_, _-_, _≤_, _<_}
+use Prim.Native.Nat.{ℕ, _+_, _-_, _≤_, _<_}
 use native.Mathlib.Nat.{min-le-left}
 use native.Mathlib.Omega.{arith}
 use lib.Dec.{eqb, leb, ltb}
-use lib.ListN.{length, getD, set, take, replicate, length-take, List·getD-map}
+use lib.ListN.{length, set, take, replicate, length-take, List·getD-map}
 use lib.Seq.{take-append-seam, take-set-lt}
 use borrow.Author.Tests.{eqb-true, leb-true, ltb-true}
 use Rattle.lists.specs.Lists.{any, all, sumOf}
 use Rattle.lists.proofs.Tests.{_∈_, and-left, and-right, both, clash, any-in, sum-same, take-map}
-use Rattle.fields.specs.declared.Field.{Field}
 use Rattle.layout.specs.Details.{details}
 use Rattle.terminator.specs.Lots.{poolsOf, lotMillions}
 use Rattle.tally.specs.declared.MessageType.{MessageType}
@@ -20,12 +19,12 @@ use Rattle.book.specs.declared.Trade.{Trade}
 use Rattle.book.specs.declared.Values.{Values}
 use Rattle.book.specs.declared.Pool.{Pool}
 use Rattle.book.specs.Reasons.{isAccepted}
-use Rattle.book.specs.Records.{Fields, fieldsOf, noPool, runSum, millionsShare, shareOf, standingMillions, weightOfRecords}
+use Rattle.book.specs.Records.{Fields, fieldsOf, noPool, millionsShare, shareOf, standingMillions, weightOfRecords}
 use Rattle.book.specs.Messages.{typeOf, targetOf, listed, brought}
-use Rattle.book.specs.Trades.{tradesOf, broughtWeight, tradeOfOn, openPars}
-use Rattle.book.specs.Opening.{atPar, opened, cleared}
+use Rattle.book.specs.Trades.{tradesOf, broughtWeight}
+use Rattle.book.specs.Opening.{atPar, opened}
 use Rattle.book.specs.Soundness.{liveOf}
-use Rattle.book.specs.Checks.{Call, live, trades, isOther, isCc, isCx, onOrCc, ccOrDk, targetTrade, concernedFor, concerned, tradeAt, noTrade, taken, exactLots, oneLot, canceledLots, lotFields, answerOf}
+use Rattle.book.specs.Checks.{Call, live, trades, isOther, isCc, isCx, onOrCc, ccOrDk, concernedFor, concerned, tradeAt, noTrade, taken, exactLots, oneLot, canceledLots, lotFields, answerOf}
 use Rattle.book.specs.Step.{withLeft, tradesMoved, liveMoved, tableMoved, bookAfter, tableAfter}
 use Rattle.book.specs.History.{Brought, History, isTarget, touches, stands, tradeShare, standingWeight, millionsByOns, millionsByDks, atOpening, lotsAfter, feed, takesOffFor, takesOff}
 use Rattle.book.specs.Promise.{State, openedState, Demand3}

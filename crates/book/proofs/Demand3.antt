@@ -2,10 +2,9 @@
 -- opening par less the weights of the lots that accepted messages brought to it and that none took off; it lies between zero and the opening par; no lot was
 -- taken off twice; and its standing good millions are those that accepted ONs brought less those that accepted DKs took off. What was brought and taken off
 -- is read from the messages and from which of them were accepted, by a history that never sees a book or a table.
-use mathlib.Core.Path.{_≡_, refl, sym, ap, _∙_}
-use mathlib.Core.Bool.{Bool, true, false}
+use mathlib.Core.Path.{_≡_, refl}
+use mathlib.Core.Bool.{true, false}
 use mathlib.Core.List.{List, [], _∷_}
-use Prim.Native.Nat.{ℕ}
 use Rattle.lists.proofs.Tests.{_∈_}
 use Rattle.book.specs.declared.Values.{Values}
 use Rattle.book.specs.declared.Pool.{Pool}
@@ -16,7 +15,7 @@ use Rattle.book.specs.Messages.{targetOf, listed}
 use Rattle.book.specs.Opening.{openingFine}
 use Rattle.book.specs.Checks.{lotFields, answerOf}
 use Rattle.book.specs.Step.{bookAfter, tableAfter}
-use Rattle.book.specs.History.{Brought, History, Fed, atOpening, feed, history, isTarget, takesOff}
+use Rattle.book.specs.History.{Brought, History, Fed, atOpening, history, isTarget, takesOff}
 use Rattle.book.specs.Promise.{State, Put, callOf, after, afterAll, fed, openedState, Demand3}
 use Rattle.book.proofs.Calls.{Kept, opened-kept, call-kept, kept-demand, taken-stands, listed-source}
 
