@@ -4,6 +4,9 @@ pub mod Pools
 pub mod Ordered
 pub mod Matched
 pub mod Stored
+pub mod Kept
+pub mod Reached
+pub mod Example
 pub mod Targets
 pub mod Laid
 pub mod Taking

@@ -21,11 +21,9 @@ pub or-right : (a b : Bool) → b ≡ true → (a || b) ≡ true
 or-right true b e = refl
 or-right false b e = e
 
-pub or-neither : (a b : Bool) → a ≡ false → b ≡ false → (a || b) ≡ false
-or-neither a b p q = rw (p, q)
-
-pub clash : {A : Type 0} (b : Bool) → b ≡ true → b ≡ false → A
-clash b p q = absurd (true≢false (sym p ∙ q))
+pub neither-left : (a b : Bool) → (a || b) ≡ false → a ≡ false
+neither-left true b e = e
+neither-left false b e = refl
 
 -- ---- lists kept by a test
 module _ {A : Type 0} where
@@ -56,11 +54,6 @@ module _ {A : Type 0} where
   pub all-replicate : (p : A → Bool) (n : ℕ) (x : A) → p x ≡ true → all p (replicate n x) ≡ true
   all-replicate p zero x e = refl
   all-replicate p (suc n) x e = both (p x) (all p (replicate n x)) e (all-replicate p n x e)
-
-  -- no element passes a test where each passes another that rules it out
-  pub none-any : (p q : A → Bool) → ((x : A) → p x ≡ true → q x ≡ false) → (xs : List A) → all p xs ≡ true → any q xs ≡ false
-  none-any p q h [] e = refl
-  none-any p q h (x ∷ xs) e = or-neither (q x) (any q xs) (h x (and-left (p x) (all p xs) e)) (none-any p q h xs (and-right (p x) (all p xs) e))
 
   pub length-keep : (q : A → Bool) (xs : List A) → length (keep (λ (x : A). not (q x)) xs) + length (keep q xs) ≡ length xs
   length-keep q [] = refl
