@@ -16,3 +16,4 @@ pub mod Substituting
 pub mod Stepping
 pub mod Calls
 pub mod Demand3
+pub mod Undamaged

@@ -11,7 +11,7 @@ use lib.ListN.{length, take, drop, replicate, length-append, length-replicate}
 use lib.Seq.{take-append-seam, drop-append-seam, length-take-le}
 use borrow.Author.Tests.{ltb-true, leb-true, leb-false, le-leb, lt-ltb, eq-eqb}
 use Rattle.lists.specs.Lists.{keep, all}
-use Rattle.lists.proofs.Tests.{and-left, and-right, both}
+use Rattle.lists.proofs.Tests.{and-left, and-right, both, take-map}
 use Rattle.layout.specs.declared.Detail.{Detail}
 use Rattle.layout.specs.Details.{details}
 use Rattle.terminator.specs.Lots.{Lot}
@@ -73,12 +73,7 @@ sound-is b table s =
     rw (s .values, s .tableShort, s .inbound, s .liveWithin, s .records, s .ordered, s .once, s .zeros, s .pars)
 
 -- ---- opening
-take-map : {A B : Type 0} (f : A → B) (n : ℕ) (xs : List A) → take n (map f xs) ≡ map f (take n xs)
-take-map f zero xs = refl
-take-map f (suc n) [] = refl
-take-map {A} {B} f (suc n) (x ∷ xs) = ap (λ (ys : List B). f x ∷ ys) (take-map f n xs)
-
-at-par-blind : {B : Type 0} (f : Trade → B) → ((t : Trade) → f (atPar t) ≡ f t) → (ts : List Trade) → map f (map atPar ts) ≡ map f ts
+pub at-par-blind : {B : Type 0} (f : Trade → B) → ((t : Trade) → f (atPar t) ≡ f t) → (ts : List Trade) → map f (map atPar ts) ≡ map f ts
 at-par-blind f h [] = refl
 at-par-blind {B} f h (t ∷ ts) = ap₂ (λ (x : B) (xs : List B). x ∷ xs) (h t) (at-par-blind f h ts)
 
