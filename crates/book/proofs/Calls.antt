@@ -1,44 +1,44 @@
 -- Every call keeps book and history side by side: a refused one changes neither, an accepted one is a move. What the promise says can be read off them.
 use mathlib.Core.Path.{_≡_, refl, sym, ap, _∙_}
-use mathlib.Core.Bool.{Bool, true, false, not, cond, _&&_, _||_, false≢true, true≢false}
+use mathlib.Core.Bool.{Bool, true, false, not, cond, _||_, false≢true}
 use mathlib.Core.List.{List, [], _∷_, _++_, map, List·Memᴰ·not-nil, Memᴰ·map, Memᴰ·cast}
-use Prim.Native.Nat.{ℕ, zero, suc, _+_, _-_, _≤_, _<_}
-use native.Mathlib.Nat.{min-le-left}
+use Prim.Native.Nat.{ℕ, suc, _+_, _-_, _≤_, _<_}
+use native.Mathlib.Nat.{add-zero, zero-add, min-le-left}
 use native.Mathlib.Omega.{arith}
 use lib.Dec.{eqb, leb, ltb}
 use lib.ListN.{length, getD, set, take, replicate, length-take, List·getD-map}
 use lib.Seq.{take-append-seam, take-set-lt}
-use borrow.Author.Tests.{eqb-true, leb-true, ltb-true}
+use borrow.Author.Tests.{eq-eqb, eqb-true, leb-true, ltb-true}
 use Rattle.lists.specs.Lists.{any, all, sumOf}
 use Rattle.lists.proofs.Tests.{_∈_, and-left, and-right, both, clash, any-in, sum-same, take-map}
-use Rattle.fields.specs.declared.Field.{Field}
 use Rattle.layout.specs.Details.{details}
-use Rattle.terminator.specs.Lots.{poolsOf, lotMillions}
+use Rattle.terminator.specs.Lots.{Lot, poolsOf, lotWeight, lotMillions}
 use Rattle.tally.specs.declared.MessageType.{MessageType}
 use Rattle.tally.specs.declared.MessageType.the-variants.{On, Cc, Dk, Cx, Other}
 use Rattle.book.specs.declared.Trade.{Trade}
 use Rattle.book.specs.declared.Values.{Values}
 use Rattle.book.specs.declared.Pool.{Pool}
 use Rattle.book.specs.Reasons.{isAccepted}
-use Rattle.book.specs.Records.{Fields, fieldsOf, noPool, runSum, millionsShare, shareOf, standingMillions, weightOfRecords}
+use Rattle.book.specs.Records.{Fields, fieldsOf, noPool, runSum, weightShare, millionsShare, shareOf, tradeWeight, standingMillions, weightOfRecords}
 use Rattle.book.specs.Messages.{typeOf, targetOf, listed, brought}
-use Rattle.book.specs.Trades.{tradesOf, broughtWeight, tradeOfOn, openPars}
-use Rattle.book.specs.Opening.{atPar, opened, cleared}
-use Rattle.book.specs.Soundness.{liveOf}
-use Rattle.book.specs.Checks.{Call, live, trades, isOther, isCc, isCx, onOrCc, ccOrDk, targetTrade, concernedFor, concerned, tradeAt, noTrade, taken, exactLots, oneLot, canceledLots, lotFields, answerOf}
+use Rattle.book.specs.Trades.{tradesOf, broughtWeight}
+use Rattle.book.specs.Opening.{atPar, opened}
+use Rattle.book.specs.Soundness.{liveOf, parsFrom}
+use Rattle.book.specs.Checks.{Call, live, trades, isOther, isCc, isCx, onOrCc, ccOrDk, concernedFor, concerned, tradeAt, noTrade, taken, exactLots, oneLot, canceledLots, lotFields, answerOf}
 use Rattle.book.specs.Step.{withLeft, tradesMoved, liveMoved, tableMoved, bookAfter, tableAfter}
 use Rattle.book.specs.History.{Brought, History, isTarget, touches, stands, tradeShare, standingWeight, millionsByOns, millionsByDks, atOpening, lotsAfter, feed, takesOffFor, takesOff}
 use Rattle.book.specs.Promise.{State, openedState, Demand3}
 use Rattle.book.proofs.Passed.{Fine, fine}
+use Rattle.book.proofs.Reached.{at-par-blind, parsHold}
 use Rattle.book.proofs.Targets.{has-in}
-use Rattle.book.proofs.Laid.{flat, value, run-flat, value-share, value-millions}
+use Rattle.book.proofs.Laid.{flat, value, run-flat, value-share, value-weight, value-millions}
 use Rattle.book.proofs.Taking.{Exact, exact, isListed, standing, first-time, listed-lot}
-use Rattle.book.proofs.Moving.{Beside, Move, movedTrades, movedRecords, movedLots, move}
+use Rattle.book.proofs.Moving.{Beside, Move, same-count, movedTrades, movedRecords, movedLots, move}
 use Rattle.book.proofs.Stepping.{listed-as, on-move, on-lots, dk-move, dk-lots, cc-move, cc-lots}
 
--- a state beside the history of the same calls
-abbrev pub Kept : Values → State → History → Type 0
-Kept v s h = Beside v (s .book .values .last) (tradesOf (s .book .values)) (liveOf (s .book) (s .table)) h
+-- a state in step with the history of the same calls
+abbrev pub InStep : Values → State → History → Type 0
+InStep v s h = Beside v (s .book .values .last) (tradesOf (s .book .values)) (liveOf (s .book) (s .table)) h
 
 -- ---- an accepted call is a move
 
@@ -146,10 +146,10 @@ moved v c h w a =
     (lotsAfter (typeOf (c .body)) v (h .last + 1) (c .body) (h .lots)) (m .makes)
     (move v (c .book .values .last) (trades c) (live c) h w (concerned c) (targetOf (c .body)) (listed (c .body)) (brought (c .body)) byOn byDk (m .moves)))
 
-pub call-kept : (v : Values) (c : Call) (h : History) → Beside v (c .book .values .last) (trades c) (live c) h
+pub call-in-step : (v : Values) (c : Call) (h : History) → Beside v (c .book .values .last) (trades c) (live c) h
     → Beside v (bookAfter c .values .last) (tradesOf (bookAfter c .values)) (liveOf (bookAfter c) (tableAfter c)) (feed v h (c .body) (isAccepted (answerOf c)))
 unfolding bookAfter tableAfter feed tradesMoved tableMoved
-call-kept v c h w = go (isAccepted (answerOf c)) refl
+call-in-step v c h w = go (isAccepted (answerOf c)) refl
   where
     go : (a : Bool) → isAccepted (answerOf c) ≡ a
         → Beside v (cond a (c .book .values .last + 1) (c .book .values .last))
@@ -161,17 +161,13 @@ call-kept v c h w = go (isAccepted (answerOf c)) refl
 
 -- ---- opening
 
-twice-atPar : (ts : List Trade) → map atPar (map atPar ts) ≡ map atPar ts
-twice-atPar [] = refl
-twice-atPar (t ∷ ts) = ap (λ (l : List Trade). atPar t ∷ l) (twice-atPar ts)
-
-pub opened-kept : (v : Values) (table : List Pool) → Kept v (openedState v table) (atOpening v)
+pub opened-in-step : (v : Values) (table : List Pool) → InStep v (openedState v table) (atOpening v)
 unfolding opened standingWeight millionsByDks millionsByOns
-opened-kept v table =
+opened-in-step v table =
     record {
       last = refl;
       table = refl;
-      terms = rw (take-map atPar (v .count) (v .trades)) (twice-atPar (tradesOf v));
+      terms = rw (take-map atPar (v .count) (v .trades)) (at-par-blind atPar (λ t. refl) (tradesOf v));
       pars = λ t lt. rw (take-map atPar (v .count) (v .trades)) (omega (arith, ap (λ (x : Trade). x .left) (List·getD-map atPar (tradesOf v) t noTrade)));
       lots = record { fine = λ g m. absurd (List·Memᴰ·not-nil m); apart = tt; pair = λ g k m n e. absurd (List·Memᴰ·not-nil m) };
       millions = λ t. refl;
@@ -179,27 +175,55 @@ opened-kept v table =
 
 -- ---- what can be read off
 
-standing-millions : (v : Values) (s : State) (h : History) → Kept v s h → (t : ℕ) → standingMillions t (liveOf (s .book) (s .table)) ≡ sumOf (tradeShare t (standing lotMillions)) (h .lots)
-unfolding standingMillions
-standing-millions v s h w t =
+-- a trade's sum over the live records is its sum over the standing lots
+standing-sum : (v : Values) (s : State) (h : History) → InStep v s h → (share : Bool → Pool → ℕ) (of : Lot → ℕ) → ((g : Brought) → value share g ≡ of (g .lot)) → (t : ℕ)
+    → runSum (shareOf t share) 0 0 (liveOf (s .book) (s .table)) ≡ sumOf (tradeShare t (standing of)) (h .lots)
+standing-sum v s h w share of k t =
     rw (w .table)
-    (run-flat (shareOf t millionsShare) stands 0 0 (h .lots) (λ g m. w .lots .fine g m .begins) (w .lots .apart)
-    ∙ sum-same (λ g. cond (stands g) (value (shareOf t millionsShare) g) 0) (tradeShare t (standing lotMillions)) (h .lots)
-    (λ g m. rw (value-share t millionsShare g, value-millions g) (swap (stands g) (eqb (g .trade) t) (lotMillions (g .lot)))))
+    (run-flat (shareOf t share) stands 0 0 (h .lots) (λ g m. w .lots .fine g m .begins) (w .lots .apart)
+    ∙ sum-same (λ g. cond (stands g) (value (shareOf t share) g) 0) (tradeShare t (standing of)) (h .lots)
+    (λ g m. rw (value-share t share g, k g) (swap (stands g) (eqb (g .trade) t) (of (g .lot)))))
   where
     swap : (s b : Bool) (x : ℕ) → cond s (cond b x 0) 0 ≡ cond b (cond s x 0) 0
     swap true b x = refl
     swap false true x = refl
     swap false false x = refl
 
-pub kept-demand : (v : Values) (s : State) (h : History) → Kept v s h → Demand3 v s h
-kept-demand v s h w =
+standing-millions : (v : Values) (s : State) (h : History) → InStep v s h → (t : ℕ) → standingMillions t (liveOf (s .book) (s .table)) ≡ sumOf (tradeShare t (standing lotMillions)) (h .lots)
+unfolding standingMillions
+standing-millions v s h w t = standing-sum v s h w millionsShare lotMillions value-millions t
+
+standing-weight : (v : Values) (s : State) (h : History) → InStep v s h → (t : ℕ) → tradeWeight t (liveOf (s .book) (s .table)) ≡ standingWeight t (h .lots)
+unfolding tradeWeight standingWeight
+standing-weight v s h w t = standing-sum v s h w weightShare lotWeight value-weight t
+
+pub in-step-demand : (v : Values) (s : State) (h : History) → InStep v s h → Demand3 v s h
+in-step-demand v s h w =
     record {
       historySum = w .pars;
       bounded = λ t lt. omega (arith, w .pars t lt);
       once = λ g m. w .lots .fine g m .once;
       millions = λ t. omega (arith, standing-millions v s h w t, w .millions t);
     }
+
+-- the open pars agree with the table: what the soundness of a book asks of them
+pars-from : (i : ℕ) (ts : List Trade) (rs : List Pool) → ((j : ℕ) → j < length ts → tradeAt ts j .left + tradeWeight (i + j) rs ≡ tradeAt ts j .par) → parsFrom i ts rs ≡ true
+pars-from i [] rs k = refl
+pars-from i (t ∷ ts) rs k =
+    both (eqb (t .left + tradeWeight i rs) (t .par)) (parsFrom (i + 1) ts rs)
+    (eq-eqb (t .left + tradeWeight i rs) (t .par) (rw add-zero at (k 0 (omega arith))))
+    (pars-from (i + 1) ts rs (λ j lt. let e : i + 1 + j ≡ i + suc j = omega arith in rw e (k (suc j) (omega arith))))
+
+pub in-step-pars : (v : Values) (s : State) (h : History) → InStep v s h → parsHold s ≡ true
+in-step-pars v s h w =
+    pars-from 0 (tradesOf (s .book .values)) (liveOf (s .book) (s .table))
+    (λ j lt.
+    let ts : List Trade = tradesOf (s .book .values) in
+    let par : tradeAt ts j .par ≡ tradeAt (tradesOf v) j .par =
+    sym (ap (λ (t : Trade). t .par) (List·getD-map atPar ts j noTrade))
+    ∙ ap (λ (l : List Trade). getD l j noTrade .par) (w .terms)
+    ∙ ap (λ (t : Trade). t .par) (List·getD-map atPar (tradesOf v) j noTrade) in
+    rw zero-add (omega (arith, par, standing-weight v s h w j, w .pars j (omega (arith, same-count v ts (w .terms))))))
 
 module _ (v : Values) (c : Call) (h : History) (w : Beside v (c .book .values .last) (trades c) (live c) h) (a : isAccepted (answerOf c) ≡ true) where
   exact-flat : ccOrDk (typeOf (c .body)) ≡ true → Exact (targetOf (c .body)) (listed (c .body)) (flat stands (h .lots))

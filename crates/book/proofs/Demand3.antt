@@ -2,10 +2,9 @@
 -- opening par less the weights of the lots that accepted messages brought to it and that none took off; it lies between zero and the opening par; no lot was
 -- taken off twice; and its standing good millions are those that accepted ONs brought less those that accepted DKs took off. What was brought and taken off
 -- is read from the messages and from which of them were accepted, by a history that never sees a book or a table.
-use mathlib.Core.Path.{_≡_, refl, sym, ap, _∙_}
-use mathlib.Core.Bool.{Bool, true, false}
+use mathlib.Core.Path.{_≡_, refl}
+use mathlib.Core.Bool.{true, false}
 use mathlib.Core.List.{List, [], _∷_}
-use Prim.Native.Nat.{ℕ}
 use Rattle.lists.proofs.Tests.{_∈_}
 use Rattle.book.specs.declared.Values.{Values}
 use Rattle.book.specs.declared.Pool.{Pool}
@@ -16,9 +15,9 @@ use Rattle.book.specs.Messages.{targetOf, listed}
 use Rattle.book.specs.Opening.{openingFine}
 use Rattle.book.specs.Checks.{lotFields, answerOf}
 use Rattle.book.specs.Step.{bookAfter, tableAfter}
-use Rattle.book.specs.History.{Brought, History, Fed, atOpening, feed, history, isTarget, takesOff}
+use Rattle.book.specs.History.{Brought, History, Fed, atOpening, history, isTarget, takesOff}
 use Rattle.book.specs.Promise.{State, Put, callOf, after, afterAll, fed, openedState, Demand3}
-use Rattle.book.proofs.Calls.{Kept, opened-kept, call-kept, kept-demand, taken-stands, listed-source}
+use Rattle.book.proofs.Calls.{InStep, opened-in-step, call-in-step, in-step-demand, taken-stands, listed-source}
 
 -- ---- runs: each call keeps its contract, however it came about; what the history is fed by them stands between the first state and the last
 
@@ -34,30 +33,30 @@ unfolding after afterAll fed
 run s [] = done
 run s (p ∷ ps) = next p (answerOf (callOf s p)) refl refl refl (run (after s p) ps)
 
--- book and history stay side by side
-traced-kept : (v : Values) {s s″ : State} {h : History} {fs : List Fed} → Kept v s h → Trace s fs s″ → Kept v s″ (history v h fs)
+-- book and history stay in step
+pub traced-in-step : (v : Values) {s s″ : State} {h : History} {fs : List Fed} → InStep v s h → Trace s fs s″ → InStep v s″ (history v h fs)
 unfolding history
-traced-kept v w done = w
-traced-kept v {h = h} w (next {s = s} p a b t r rest) = traced-kept v (rw (b, t, r) (call-kept v (callOf s p) h w)) rest
+traced-in-step v w done = w
+traced-in-step v {h = h} w (next {s = s} p a b t r rest) = traced-in-step v (rw (b, t, r) (call-in-step v (callOf s p) h w)) rest
 
 -- ---- the promise for every run from an accepted opening
 
 module _ (v : Values) (table : List Pool) (isOpened : openingFine v table ≡ true) (s : State) (fs : List Fed) (run : Trace (openedState v table) fs s) where
-  kept : Kept v s (history v (atOpening v) fs)
-  kept = traced-kept v (opened-kept v table) run
+  in-step : InStep v s (history v (atOpening v) fs)
+  in-step = traced-in-step v (opened-in-step v table) run
 
   pub traced : Demand3 v s (history v (atOpening v) fs)
-  traced = kept-demand v s (history v (atOpening v) fs) kept
+  traced = in-step-demand v s (history v (atOpening v) fs) in-step
 
   -- one more call that is accepted: each lot that it takes off was not yet off
   pub traced-not-twice : (p : Put) → isAccepted (answerOf (callOf s p)) ≡ true
       → (h : Brought) → h ∈ history v (atOpening v) fs .lots → takesOff (p .body) h ≡ true → h .offs ≡ 0
-  traced-not-twice p a = taken-stands v (callOf s p) (history v (atOpening v) fs) kept a
+  traced-not-twice p a = taken-stands v (callOf s p) (history v (atOpening v) fs) in-step a
 
   -- and each pool that it lists is of a lot brought under its target, not yet off, that it takes off
   pub traced-brought-before : (p : Put) → isAccepted (answerOf (callOf s p)) ≡ true → (f : Fields) → f ∈ listed (p .body)
       → (h : Brought) × (h ∈ history v (atOpening v) fs .lots) × (isTarget (targetOf (p .body)) (h .id) ≡ true) × (h .offs ≡ 0) × (takesOff (p .body) h ≡ true) × (f ∈ lotFields (h .lot))
-  traced-brought-before p a = listed-source v (callOf s p) (history v (atOpening v) fs) kept a
+  traced-brought-before p a = listed-source v (callOf s p) (history v (atOpening v) fs) in-step a
 
 -- ---- the promise for every list of calls
 

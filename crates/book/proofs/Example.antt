@@ -30,7 +30,8 @@ use Rattle.book.specs.Opening.{valuesFine, openingFine, opened, cleared}
 use Rattle.book.specs.Soundness.{liveOf, isSound}
 use Rattle.book.specs.Checks.{targetTrade, concerned, checks, answerOf}
 use Rattle.book.specs.Step.{tradesMoved, liveMoved, tableMoved, bookAfter, tableAfter}
-use Rattle.book.specs.Promise.{State, Put, callOf, after, openedState}
+use Rattle.book.specs.History.{Brought, History, atOpening, standingWeight, feed, history}
+use Rattle.book.specs.Promise.{State, Put, callOf, after, fed, openedState}
 
 -- ---- bodies
 -- "MBAA" sells and "MBBB" buys
@@ -54,8 +55,8 @@ connection = 49 ∷ 50 ∷ 48 ∷ 48 ∷ []
 abbrev pub on : List ℕ
 on = 79 ∷ 78 ∷ []
 
-abbrev pub cancel : List ℕ
-cancel = 67 ∷ 67 ∷ []
+abbrev pub correction : List ℕ
+correction = 67 ∷ 67 ∷ []
 
 abbrev pub dk : List ℕ
 dk = 68 ∷ 75 ∷ []
@@ -95,7 +96,7 @@ onBody =
 -- a CC of its good lot, for two of a million, and of its odd lot; the good lot's pools stand in another order
 unfoldable pub ccBody : List ℕ
 ccBody =
-    header (record { type = cancel; sequence = 2; submitter = seller; gdmm = 0; reason = 0; target = 1; pools = 3 })
+    header (record { type = correction; sequence = 2; submitter = seller; gdmm = 0; reason = 0; target = 1; pools = 3 })
     ++ joined
     (detail 2 1000000 100000000 6000 ∷ detail 1 1000000 100000000 6002 ∷ detail 11 1000000 100000000 7001 ∷ detail 12 1000000 100000000 7001
     ∷ detail 3 200000 12345600 6999 ∷ detail 13 300000 20000000 7999 ∷ [])
@@ -169,6 +170,15 @@ pub day : told start (put onBody ∷ put ccBody ∷ put dkBody ∷ put (pasted d
     ≡ tells (Accepted 1) 237654400 2 ∷ tells (Accepted 2) 230000000 2 ∷ tells (Accepted 3) 330000000 1 ∷ tells (Rejected reason.Listed) 330000000 1 ∷ []
 unfolding answerOf checks isSound valuesFine opened cleared values table trade put onBody header detail allBetween within part readNumber businessDate isDate weekdayOf dayNumber soundLine lengthFits poolCount detailAt details arrivalOf typeOf markIn beginsWithMark idAt tradeIdOf terminatorOf positions lots formedFor currentCents lotWeight goodMillions faceFails facesFail goodLotFails lotFails lotsFail listed brought agrees broughtWeight tradeOfOn concerned targetTrade weightOfRecords tradeWeight told tells start ccBody dkBody pasted after bookAfter tableAfter tradesMoved liveMoved tableMoved lineAfter nextOutbound standingMillions groups groupsFormed groupsBalanced replacementCount
 day = refl
+
+-- what the history remembers of it: how often each lot was taken off, how often by a DK, and its trade
+unfoldable pub dayHistory : History
+dayHistory = history (values 0) (atOpening (values 0)) (fed start (put onBody ∷ put ccBody ∷ put dkBody ∷ []))
+
+pub remembered : map (λ (h : Brought). h .offs ∷ h .dks ∷ h .trade ∷ []) (dayHistory .lots)
+    ≡ (1 ∷ 0 ∷ 1 ∷ []) ∷ (1 ∷ 0 ∷ 1 ∷ []) ∷ (0 ∷ 0 ∷ 1 ∷ []) ∷ (0 ∷ 0 ∷ 1 ∷ []) ∷ (1 ∷ 1 ∷ 1 ∷ []) ∷ (0 ∷ 0 ∷ 1 ∷ []) ∷ []
+unfolding answerOf checks isSound valuesFine opened cleared values table trade put onBody header detail allBetween within part readNumber businessDate isDate weekdayOf dayNumber soundLine lengthFits poolCount detailAt details arrivalOf typeOf markIn beginsWithMark idAt tradeIdOf terminatorOf positions lots formedFor currentCents lotWeight goodMillions faceFails facesFail goodLotFails lotFails lotsFail listed brought agrees broughtWeight tradeOfOn concerned targetTrade weightOfRecords tradeWeight told tells start ccBody dkBody pasted after bookAfter tableAfter tradesMoved liveMoved tableMoved lineAfter nextOutbound standingMillions groups groupsFormed groupsBalanced replacementCount dayHistory history fed feed standingWeight
+remembered = refl
 
 -- ---- refusals: a call for each number of a frame, 42 to 44 and 10 to 40; every other check before it passes
 -- a body with other bytes in a column, and with another field of the detail of an index

@@ -1,9 +1,9 @@
 -- The live table is the standing lots of the history laid out one after another: what appending, filtering and the sums of runs do to that.
-use mathlib.Core.Path.{_≡_, refl, sym, ap, _∙_}
+use mathlib.Core.Path.{_≡_, refl, sym, ap}
 use mathlib.Core.Logic.{_⊎_, inl, inr}
-use mathlib.Core.Bool.{Bool, true, false, not, cond, _&&_}
+use mathlib.Core.Bool.{Bool, true, false, cond, _&&_}
 use mathlib.Core.List.{List, [], _∷_, _++_, map, append-assoc, List·Memᴰ·head, List·Memᴰ·tail, List·Memᴰ·not-nil, List·Memᴰ·append-cases, Memᴰ·append-left, Memᴰ·append-right}
-use Prim.Native.Nat.{ℕ, _+_, _*_}
+use Prim.Native.Nat.{ℕ, _+_}
 use native.Mathlib.Omega.{arith}
 use lib.Dec.{eqb}
 use borrow.Author.Tests.{eq-eqb}
@@ -13,10 +13,10 @@ use Rattle.fields.specs.declared.Field.{Field}
 use Rattle.layout.specs.declared.Detail.{Detail}
 use Rattle.terminator.specs.declared.Kind.{Kind}
 use Rattle.terminator.specs.declared.Kind.the-variants.{Good, Odd, Bad}
-use Rattle.terminator.specs.Lots.{Lot, poolsOf, lotKind, lotMillions, lotWeight, weightOf, currentCents, millionCents}
+use Rattle.terminator.specs.Lots.{Lot, poolsOf, lotKind, lotMillions, lotWeight, weightOf, currentCents}
 use Rattle.book.specs.declared.Pool.{Pool}
 use Rattle.book.specs.Records.{Fields, poolOf, recordsOf, runSum, weightShare, millionsShare, shareOf}
-use Rattle.book.specs.History.{Brought, Due, due, bring, stands, takeOff}
+use Rattle.book.specs.History.{Brought, due, bring, stands, takeOff}
 
 -- the record of a pool of a brought lot, and all its records
 abbrev pub recordOf : Brought → Detail → Pool

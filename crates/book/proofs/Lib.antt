@@ -4,6 +4,9 @@ pub mod Pools
 pub mod Ordered
 pub mod Matched
 pub mod Stored
+pub mod Kept
+pub mod Reached
+pub mod Example
 pub mod Targets
 pub mod Laid
 pub mod Taking
@@ -13,6 +16,4 @@ pub mod Substituting
 pub mod Stepping
 pub mod Calls
 pub mod Demand3
-pub mod Kept
-pub mod Reached
-pub mod Example
+pub mod Undamaged

@@ -27,14 +27,6 @@ neither-left false b e = refl
 
 -- ---- lists kept by a test
 module _ {A : Type 0} where
-  pub keep-append : (q : A → Bool) (xs ys : List A) → keep q (xs ++ ys) ≡ keep q xs ++ keep q ys
-  keep-append q [] ys = refl
-  keep-append q (x ∷ xs) ys = rw (keep-append q xs ys) (go (q x))
-    where
-      go : (b : Bool) → cond b (x ∷ (keep q xs ++ keep q ys)) (keep q xs ++ keep q ys) ≡ cond b (x ∷ keep q xs) (keep q xs) ++ keep q ys
-      go true = refl
-      go false = refl
-
   pub all-keep : (p q : A → Bool) (xs : List A) → all p xs ≡ true → all p (keep q xs) ≡ true
   all-keep p q [] e = refl
   all-keep p q (x ∷ xs) e = go (q x) (all-keep p q xs (and-right (p x) (all p xs) e))

@@ -2,16 +2,16 @@
 -- the listed lots off (none for an ON), then brings its new ones (none for a DK).
 use mathlib.Core.Path.{_≡_, refl, sym, ap, _∙_}
 use mathlib.Core.Bool.{Bool, true, false, not, cond, _&&_}
-use mathlib.Core.List.{List, [], _∷_, _++_, map, List·Memᴰ·not-nil}
+use mathlib.Core.List.{List, [], _∷_, _++_, map}
 use Prim.Native.Nat.{ℕ, zero, suc, _+_, _-_, _*_, _≤_, _<_}
 use native.Mathlib.Omega.{arith}
 use native.Mathlib.Nat.{add-zero, zero-add}
 use native.Mathlib.Decide.{ℕ-discrete}
 use lib.Dec.{eqb}
-use lib.ListN.{length, getD, set, length-map, length-set, List·getD-map}
+use lib.ListN.{length, getD, set, length-map, List·getD-map}
 use lib.Seq.{getD-set-same, getD-set-other, ext-getD, map-set-same}
-use borrow.Author.Tests.{eq-eqb, eqb-true, ne-eqb}
-use Rattle.lists.specs.Lists.{keep, any, sumOf}
+use borrow.Author.Tests.{eq-eqb, ne-eqb}
+use Rattle.lists.specs.Lists.{keep, sumOf}
 use Rattle.lists.proofs.Tests.{_∈_, clash, sum-append, sum-same, sum-add, sum-map}
 use Rattle.fields.specs.declared.Field.{Field}
 use Rattle.terminator.specs.Lots.{Lot, lotWeight, lotMillions}

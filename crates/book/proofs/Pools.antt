@@ -8,7 +8,7 @@ use lib.Dec.{eqb}
 use lib.ListN.{length, length-append, length-map}
 use borrow.Author.Tests.{eqb-true, not-true}
 use Rattle.lists.specs.Lists.{keep}
-use Rattle.lists.proofs.Tests.{and-left, and-right}
+use Rattle.lists.proofs.Tests.{and-left, and-right, keep-append}
 use Rattle.layout.specs.declared.Detail.{Detail}
 use Rattle.terminator.specs.Terminators.{digitCanceled, isEnd, isWrong, isBad, one, term, isCanceled}
 use Rattle.terminator.specs.Lots.{Lot, poolsOf, lotsFrom, lots, goesOn, lotsFormed, firstOn, firstCc, formedFor}
@@ -17,7 +17,6 @@ use Rattle.faces.specs.Faces.{newLots, newPools, isNewLot}
 use Rattle.book.specs.Records.{fieldsOf, poolOf, recordsOf}
 use Rattle.book.specs.Checks.{canceledLots}
 use Rattle.book.specs.History.{fieldsOfLots}
-use Rattle.book.proofs.ListLaws.{keep-append}
 
 -- the pools of some lots, in order
 abbrev pub flatPools : List Lot → List Detail

@@ -11,7 +11,7 @@ use lib.ListN.{length, take, drop, replicate, length-append, length-replicate}
 use lib.Seq.{take-append-seam, drop-append-seam, length-take-le}
 use borrow.Author.Tests.{ltb-true, leb-true, leb-false, le-leb, lt-ltb, eq-eqb}
 use Rattle.lists.specs.Lists.{keep, all}
-use Rattle.lists.proofs.Tests.{and-left, and-right, both}
+use Rattle.lists.proofs.Tests.{and-left, and-right, both, take-map}
 use Rattle.layout.specs.declared.Detail.{Detail}
 use Rattle.layout.specs.Details.{details}
 use Rattle.terminator.specs.Lots.{Lot}
@@ -35,6 +35,7 @@ use Rattle.book.specs.Checks.{Call, live, trades, arrived, concerned, on
 use Rattle.book.specs.Trades.{broughtWeight}
 use Rattle.book.specs.Step.{isSilent, gapAt, lineOf, beforeAa, outboundOf, tradesMoved, liveMoved, tableMoved, accepted, bookAfter, tableAfter}
 use Rattle.book.specs.History.{fieldsOfLots}
+use Rattle.book.specs.Promise.{State, Put, callOf, after, afterAll, openedState}
 use Rattle.book.proofs.ListLaws.{neither-left, all-keep, all-implied, all-both, all-replicate, length-keep}
 use Rattle.book.proofs.Passed.{fine}
 use Rattle.book.proofs.Pools.{lots-formed-fields, records-new}
@@ -72,12 +73,7 @@ sound-is b table s =
     rw (s .values, s .tableShort, s .inbound, s .liveWithin, s .records, s .ordered, s .once, s .zeros, s .pars)
 
 -- ---- opening
-take-map : {A B : Type 0} (f : A → B) (n : ℕ) (xs : List A) → take n (map f xs) ≡ map f (take n xs)
-take-map f zero xs = refl
-take-map f (suc n) [] = refl
-take-map {A} {B} f (suc n) (x ∷ xs) = ap (λ (ys : List B). f x ∷ ys) (take-map f n xs)
-
-at-par-blind : {B : Type 0} (f : Trade → B) → ((t : Trade) → f (atPar t) ≡ f t) → (ts : List Trade) → map f (map atPar ts) ≡ map f ts
+pub at-par-blind : {B : Type 0} (f : Trade → B) → ((t : Trade) → f (atPar t) ≡ f t) → (ts : List Trade) → map f (map atPar ts) ≡ map f ts
 at-par-blind f h [] = refl
 at-par-blind {B} f h (t ∷ ts) = ap₂ (λ (x : B) (xs : List B). x ∷ xs) (h t) (at-par-blind f h ts)
 
@@ -342,3 +338,22 @@ kept c s p = go (accepted c) refl p
     go : (ok : Bool) → accepted c ≡ ok → parsFrom 0 (tradesOf (bookIf c ok .values)) (liveOf (bookIf c ok) (tableIf c ok)) ≡ true → Sound (bookIf c ok) (tableIf c ok)
     go true e q = accepted-sound c e s q
     go false e q = refused-sound c s
+
+-- ---- a list of calls
+-- open par is par less the weights
+abbrev pub parsHold : State → Bool
+parsHold s = parsFrom 0 (tradesOf (s .book .values)) (liveOf (s .book) (s .table))
+
+-- where the open pars hold all along, every state is sound
+pub reached : (s : State) → Sound (s .book) (s .table) → ((ps : List Put) → parsHold (afterAll s ps) ≡ true) → (ps : List Put)
+    → Sound (afterAll s ps .book) (afterAll s ps .table)
+unfolding after afterAll
+reached s sound pars [] = sound
+reached s sound pars (p ∷ ps) = reached (after s p) (kept (callOf s p) sound (pars (p ∷ []))) (λ (qs : List Put). pars (p ∷ qs)) ps
+
+-- so no call on a book that was opened without refusal is refused by 42
+pub reached-sound : (v : Values) (table : List Pool) → openingFine v table ≡ true → ((ps : List Put) → parsHold (afterAll (openedState v table) ps) ≡ true) → (ps : List Put)
+    → isSound (afterAll (openedState v table) ps .book) (afterAll (openedState v table) ps .table) ≡ true
+reached-sound v table e pars ps =
+    let s : State = afterAll (openedState v table) ps in
+    sound-is (s .book) (s .table) (reached (openedState v table) (opened-sound v table e) pars ps)

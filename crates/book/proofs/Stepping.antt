@@ -1,7 +1,7 @@
 -- What the checks of an accepted ON, CC or DK give is what its move asks for; and the lots that the history makes of the message are those of the move.
 use mathlib.Core.Path.{_≡_, refl, sym, ap, _∙_}
-use mathlib.Core.Bool.{Bool, true, false, not, cond, _&&_, _||_, false≢true, and-false}
-use mathlib.Core.List.{List, [], _∷_, _++_, map, append-nil}
+use mathlib.Core.Bool.{Bool, true, false, cond, and-false}
+use mathlib.Core.List.{List, [], _∷_, map, append-nil}
 use Prim.Native.Nat.{ℕ, _+_, _≤_, _<_}
 use native.Mathlib.Omega.{arith}
 use native.Mathlib.Nat.{add-zero}
@@ -9,15 +9,13 @@ use native.Mathlib.Decide.{ℕ-discrete}
 use lib.Dec.{eqb}
 use lib.ListN.{length, length-map}
 use borrow.Author.Tests.{eq-eqb, ne-eqb}
-use Rattle.lists.specs.Lists.{same, keep, any, all, sumOf}
+use Rattle.lists.specs.Lists.{keep, any, all, sumOf}
 use Rattle.lists.proofs.Tests.{_∈_, clash, cond-zero, all-in, any-none, sum-same, sum-zero}
 use Rattle.fields.specs.declared.Field.{Field}
-use Rattle.layout.specs.Columns as columns
-use Rattle.layout.specs.Columns.{bytesIn, numberIn}
 use Rattle.layout.specs.Details.{details}
 use Rattle.terminator.specs.Lots.{Lot, poolsOf, lotWeight, lotMillions, formedFor}
-use Rattle.terminator.specs.Groups.{groups, groupFormed, groupBalanced, groupsFormed, groupsBalanced}
-use Rattle.faces.specs.Faces.{newPools, newLots}
+use Rattle.terminator.specs.Groups.{groups, groupsFormed, groupsBalanced}
+use Rattle.faces.specs.Faces.{newPools}
 use Rattle.tally.specs.declared.MessageType.{MessageType}
 use Rattle.tally.specs.declared.MessageType.the-variants.{On, Cc, Dk, Cx, Other}
 use Rattle.trade_id.specs.declared.TradeId.{TradeId}
@@ -25,15 +23,14 @@ use Rattle.trade_id.specs.declared.TradeId.the-variants.{Whole, Broken, Absent}
 use Rattle.book.specs.declared.Trade.{Trade}
 use Rattle.book.specs.declared.Values.{Values}
 use Rattle.book.specs.declared.Pool.{Pool}
-use Rattle.book.specs.Records.{Fields, fieldsOf, distinct, weightOfRecords}
+use Rattle.book.specs.Records.{fieldsOf, distinct, weightOfRecords}
 use Rattle.book.specs.Messages.{typeOf, idIn, targetOf, under, listedOf, listed, broughtBy, brought}
-use Rattle.book.specs.Trades.{tradesOf, sideOf, isNumber, priceIs, agrees, firstTrade, mayTake, tradeOfOn, openPars}
+use Rattle.book.specs.Trades.{tradesOf, sideOf, agrees, firstTrade, mayTake, tradeOfOn, openPars}
 use Rattle.book.specs.Opening.{atPar}
-use Rattle.book.specs.Checks.{targetTrade, tradeAt, isTaken, wholeLots, exactLots, oneLot, canceledLots}
-use Rattle.book.specs.History.{Brought, History, isTarget, touches, takeOff, tradeShare, stands, due, bring, historySums, fieldsOfLots, dueByGroups, lotsAfter}
-use Rattle.book.proofs.Pools.{canceledOf, replacementOf, lots-formed-fields, canceled-fields, groups-canceled, groups-new}
-use Rattle.book.proofs.Laid.{flat}
-use Rattle.book.proofs.Taking.{Lots, Exact, exact, isListed, touches-target, gone, gone-there, gone-elsewhere, target-trade, target-range}
+use Rattle.book.specs.Checks.{targetTrade, tradeAt, isTaken, exactLots, oneLot, canceledLots}
+use Rattle.book.specs.History.{Brought, History, isTarget, touches, takeOff, tradeShare, stands, due, fieldsOfLots, dueByGroups, lotsAfter}
+use Rattle.book.proofs.Pools.{lots-formed-fields, canceled-fields, groups-canceled, groups-new}
+use Rattle.book.proofs.Taking.{Exact, exact, isListed, touches-target, gone, gone-there, gone-elsewhere, target-trade, target-range}
 use Rattle.book.proofs.Moving.{Beside, Move, same-count, same-opens, movedLots}
 use Rattle.book.proofs.Substituting.{gone-canceled, due-there, groups-even}
 

@@ -1,20 +1,19 @@
 -- A CC: each 6 lot is one whole live lot of the same millions (37), so the lots that it takes off have the millions of its 6 lots, and those of its new lots (21);
 -- and every group goes to the target's trade, since its 6 lots are among the target's.
 use mathlib.Core.Path.{_≡_, refl, sym, ap, _∙_}
-use mathlib.Core.Bool.{Bool, true, false, not, cond, _&&_, _||_, false≢true, and-false}
-use mathlib.Core.List.{List, [], _∷_, _++_, map, map-append, List·Memᴰ·head, List·Memᴰ·tail, Memᴰ·append-left, Memᴰ·append-right, Memᴰ·map, Memᴰ·cast}
+use mathlib.Core.Bool.{Bool, true, false, cond, _&&_, _||_, false≢true, and-false}
+use mathlib.Core.List.{List, [], _∷_, _++_, map, map-append, List·Memᴰ·head, List·Memᴰ·tail, Memᴰ·append-left, Memᴰ·append-right, Memᴰ·map}
 use Prim.Native.Nat.{ℕ, _+_}
 use native.Mathlib.Omega.{arith}
 use lib.Dec.{eqb, leb}
 use lib.ListN.{length}
-use borrow.Author.Tests.{eq-eqb, eqb-true, leb-true}
+use borrow.Author.Tests.{eq-eqb, eqb-true}
 use Rattle.lists.specs.Lists.{keep, any, all, sumOf}
-use Rattle.lists.proofs.Tests.{_∈_, and-left, and-right, both, all-out, all-right, any-in, any-out, any-none, any-append, any-or, keep-in, keep-first, sum-append, sum-same, sum-add, sum-zero}
+use Rattle.lists.proofs.Tests.{_∈_, and-left, and-right, both, all-out, all-right, any-in, any-none, any-append, any-or, keep-in, keep-first, sum-append, sum-same, sum-add, sum-zero}
 use Rattle.fields.specs.declared.Field.{Field}
 use Rattle.layout.specs.declared.Detail.{Detail}
 use Rattle.terminator.specs.Lots.{Lot, poolsOf, lotKind, lotMillions}
-use Rattle.terminator.specs.Groups.{Group, ofKind, groupFormed, groupBalanced}
-use Rattle.terminator.specs.declared.Kind.the-variants.{Good, Odd, Bad}
+use Rattle.terminator.specs.Groups.{Group, groupFormed, groupBalanced}
 use Rattle.book.specs.declared.Pool.{Pool}
 use Rattle.book.specs.Records.{Fields, fieldsOf, liveFields, sameFields, hasFields, distinct, kindNumber, runSum, millionsShare}
 use Rattle.book.specs.Messages.{under}

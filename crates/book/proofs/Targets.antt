@@ -1,17 +1,16 @@
 -- Matched fields and targets: the tests decide equality, so a pool that is listed once is one pool, and a target names one message.
-use mathlib.Core.Path.{_≡_, refl, sym, ap, _∙_}
+use mathlib.Core.Path.{_≡_, refl, sym, _∙_}
 use mathlib.Core.Logic.{_⊎_, inl, inr}
-use mathlib.Core.Bool.{Bool, true, false, not, _&&_, _||_, false≢true}
-use mathlib.Core.List.{List, [], _∷_, _++_, map, append-assoc, List·Memᴰ·head, List·Memᴰ·tail, List·Memᴰ·not-nil, List·Memᴰ·cases-cons, Memᴰ·append-left, Memᴰ·append-right, Memᴰ·cast}
+use mathlib.Core.Bool.{true, not, false≢true}
+use mathlib.Core.List.{List, [], _∷_, _++_, append-assoc, List·Memᴰ·head, List·Memᴰ·tail, List·Memᴰ·not-nil, List·Memᴰ·cases-cons, Memᴰ·append-left, Memᴰ·append-right, Memᴰ·cast}
 use Prim.Native.Nat.{ℕ}
-use lib.Dec.{eqb}
-use borrow.Author.Tests.{eq-eqb, eqb-true}
-use Rattle.lists.proofs.Tests.{_∈_, and-left, and-right, both, not-is, clash, any-in, any-out, same-refl}
+use borrow.Author.Tests.{eqb-true, not-true}
+use Rattle.lists.proofs.Tests.{_∈_, and-left, and-right, clash, any-in, any-out, same-refl}
 use Rattle.fields.specs.declared.Field.{Field}
 use Rattle.fields.specs.declared.Field.the-variants.{Number, NotDigits}
-use Rattle.terminator.specs.Lots.{Lot, poolsOf}
+use Rattle.terminator.specs.Lots.{Lot}
 use Rattle.book.specs.declared.Pool.{Pool}
-use Rattle.book.specs.Records.{Fields, fieldsOf, sameFields, hasFields, distinct}
+use Rattle.book.specs.Records.{Fields, sameFields, hasFields, distinct}
 use Rattle.book.specs.Messages.{under}
 use Rattle.book.specs.Checks.{lotFields}
 use Rattle.book.specs.History.{isTarget, fieldsOfLots}
@@ -40,7 +39,7 @@ distinct-cross {f} (x ∷ xs) ys d m n =
     go (List·Memᴰ·cases-cons m) (λ m′. distinct-cross xs ys (and-right (not (hasFields x (xs ++ ys))) (distinct (xs ++ ys)) d) m′ n)
   where
     go : (f ≡ x) ⊎ (f ∈ xs) → (f ∈ xs → ⊥) → ⊥
-    go (inl e) below = clash (rw e at (has-in (Memᴰ·append-right xs n))) (not-is (hasFields x (xs ++ ys)) (and-left (not (hasFields x (xs ++ ys))) (distinct (xs ++ ys)) d))
+    go (inl e) below = clash (rw e at (has-in (Memᴰ·append-right xs n))) (not-true (hasFields x (xs ++ ys)) (and-left (not (hasFields x (xs ++ ys))) (distinct (xs ++ ys)) d))
     go (inr m′) below = below m′
 
 -- ---- the fields of lots

@@ -25,14 +25,6 @@ and-right false b e = absurd (false≢true e)
 pub both : (a b : Bool) → a ≡ true → b ≡ true → (a && b) ≡ true
 both a b p q = rw (p, q)
 
-pub not-is : (b : Bool) → not b ≡ true → b ≡ false
-not-is true e = sym e
-not-is false e = refl
-
-pub not-not : (b : Bool) → not b ≡ false → b ≡ true
-not-not true e = refl
-not-not false e = sym e
-
 pub clash : {A : Type 0} {b : Bool} → b ≡ true → b ≡ false → A
 clash p q = absurd (true≢false (sym p ∙ q))
 
