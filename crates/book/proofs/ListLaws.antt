@@ -5,7 +5,7 @@ use mathlib.Core.Logic.{_⊎_, inl, inr}
 use mathlib.Core.List.{List, [], _∷_, _++_, map}
 use mathlib.Core.Bool.{Bool, true, false, cond, not, _&&_, _||_, false≢true, true≢false}
 use native.Mathlib.Omega.{arith}
-use lib.ListN.{length, replicate}
+use lib.ListN.{length, take, replicate}
 use Rattle.lists.specs.Lists.{keep, any, all}
 use Rattle.lists.proofs.Tests.{and-left, and-right, both}
 
@@ -97,6 +97,11 @@ module _ {A B : Type 0} where
   pub all-of-map : (p : B → Bool) (f : A → B) (xs : List A) → all p (map f xs) ≡ all (λ (x : A). p (f x)) xs
   all-of-map p f [] = refl
   all-of-map p f (x ∷ xs) = ap (λ (b : Bool). p (f x) && b) (all-of-map p f xs)
+
+  pub take-map : (f : A → B) (n : ℕ) (xs : List A) → take n (map f xs) ≡ map f (take n xs)
+  take-map f zero xs = refl
+  take-map f (suc n) [] = refl
+  take-map f (suc n) (x ∷ xs) = ap (λ (ys : List B). f x ∷ ys) (take-map f n xs)
 
 pub not-any : {A : Type 0} (p : A → Bool) (xs : List A) → not (any p xs) ≡ all (λ (x : A). not (p x)) xs
 not-any p [] = refl

@@ -28,15 +28,14 @@ use Rattle.book.specs.declared.Answer.{Answer}
 use Rattle.book.specs.Reasons.{isAccepted}
 use Rattle.book.specs.Records.{fieldsOf, distinct, recordsOf, noPool, tradeWeight, weightOfRecords}
 use Rattle.book.specs.Messages.{typeOf, targetOf, listedOf, listed, broughtBy, brought}
-use Rattle.book.specs.Trades.{tradesOf, tradeName}
+use Rattle.book.specs.Trades.{tradesOf, tradeName, broughtWeight}
 use Rattle.book.specs.Opening.{recordsMax, elevenDigitsMax, outboundMax, holidaysOf, tradeFine, valuesFine, openingFine, atPar, opened, cleared}
 use Rattle.book.specs.Soundness.{liveOf, recordFine, inOrder, fieldsOnce, isNone, parsFrom, Sound, isSound}
 use Rattle.book.specs.Checks.{Call, live, trades, arrived, concerned, onOrCc, ccOrDk, isCc, isTaken, taken, allLive, wholeLots, exactLots, tradeAt, answerOf}
-use Rattle.book.specs.Trades.{broughtWeight}
 use Rattle.book.specs.Step.{isSilent, gapAt, lineOf, beforeAa, outboundOf, tradesMoved, liveMoved, tableMoved, accepted, bookAfter, tableAfter}
 use Rattle.book.specs.History.{fieldsOfLots}
 use Rattle.book.specs.Promise.{State, Put, callOf, after, afterAll, openedState}
-use Rattle.book.proofs.ListLaws.{neither-left, all-keep, all-implied, all-both, all-replicate, length-keep}
+use Rattle.book.proofs.ListLaws.{neither-left, all-keep, all-implied, all-both, all-replicate, length-keep, take-map}
 use Rattle.book.proofs.Passed.{fine}
 use Rattle.book.proofs.Pools.{lots-formed-fields, records-new}
 use Rattle.book.proofs.Ordered.{isOld, ordered-after}
@@ -73,11 +72,6 @@ sound-is b table s =
     rw (s .values, s .tableShort, s .inbound, s .liveWithin, s .records, s .ordered, s .once, s .zeros, s .pars)
 
 -- ---- opening
-take-map : {A B : Type 0} (f : A → B) (n : ℕ) (xs : List A) → take n (map f xs) ≡ map f (take n xs)
-take-map f zero xs = refl
-take-map f (suc n) [] = refl
-take-map {A} {B} f (suc n) (x ∷ xs) = ap (λ (ys : List B). f x ∷ ys) (take-map f n xs)
-
 at-par-blind : {B : Type 0} (f : Trade → B) → ((t : Trade) → f (atPar t) ≡ f t) → (ts : List Trade) → map f (map atPar ts) ≡ map f ts
 at-par-blind f h [] = refl
 at-par-blind {B} f h (t ∷ ts) = ap₂ (λ (x : B) (xs : List B). x ∷ xs) (h t) (at-par-blind f h ts)
