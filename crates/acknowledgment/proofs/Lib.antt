@@ -1,0 +1,3 @@
+pub mod Building
+pub mod MessageIds
+pub mod Lengths

@@ -1,0 +1,2 @@
+pub mod SpecialInstructions
+pub mod Prices
