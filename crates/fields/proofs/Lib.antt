@@ -1,3 +1,4 @@
 pub mod Read
 pub mod Compared
 pub mod Written
+pub mod Bounds

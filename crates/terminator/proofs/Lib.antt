@@ -1,2 +1,4 @@
 pub mod Marks
 pub mod Passes
+pub mod Formed
+pub mod Runs

@@ -6,6 +6,7 @@ use lib.ListN.{length}
 use lib.Dec.{eqb, leb}
 use Rattle.lists.specs.Lists.{sumOf, all}
 use Rattle.layout.specs.declared.Detail.{Detail}
+use Rattle.terminator.specs.declared.Groups.{Groups}
 use Rattle.terminator.specs.declared.Kind.{Kind}
 use Rattle.terminator.specs.declared.Kind.the-variants.{Good, Odd, Bad}
 use Rattle.terminator.specs.Terminators.{isCanceled, isGood, isOdd}
@@ -58,3 +59,7 @@ groupBalanced g = eqb (sumOf lotMillions (g .canceled)) (sumOf lotMillions (g .r
 
 unfoldable pub groupsBalanced : List Detail → Bool
 groupsBalanced ds = all groupBalanced (groups ds)
+
+-- 20 and 21 together
+abbrev pub groupsJudged : List Detail → Groups
+groupsJudged ds = record { formed = groupsFormed ds; balanced = groupsBalanced ds }

@@ -11,6 +11,9 @@ use Rattle.fields.specs.Fields.{readNumber}
 use Rattle.layout.specs.declared.Detail.{Detail}
 use Rattle.terminator.specs.declared.Kind.{Kind}
 use Rattle.terminator.specs.declared.Kind.the-variants.{Good, Odd, Bad}
+use Rattle.terminator.specs.declared.LotHead.{LotHead}
+use Rattle.terminator.specs.declared.LotRead.{LotRead}
+use Rattle.terminator.specs.declared.LotRead.the-variants.{Found, Nothing}
 use Rattle.terminator.specs.Terminators.{digitNew, digitCanceled, digitReplacement, isEnd, isWrong, isBad, kindOf, millionsOf, one, term, isCanceled}
 
 -- a lot: zero or more middles and one end
@@ -59,6 +62,20 @@ weightOf Bad millions faces = faces
 unfoldable pub lotWeight : Lot → ℕ
 lotWeight l = weightOf (lotKind l) (lotMillions l) (sumOf currentCents (poolsOf l))
 
+-- the first of a list of lots as the code hands it over: the lot that begins at the pool first
+abbrev pub firstLot : ℕ → List Lot → LotRead
+firstLot first [] = Nothing
+firstLot first (l ∷ ls) =
+    Found
+    (record {
+      one = one (l .last);
+      kind = lotKind l;
+      millions = lotMillions l;
+      first = first;
+      last = first + length (l .middles);
+      weight = lotWeight l;
+    })
+
 -- the good millions that a message's lots sum to
 unfoldable pub goodMillions : List Detail → ℕ
 goodMillions ds = sumOf lotMillions (lots ds)
@@ -81,11 +98,9 @@ firstOn b = eqb b digitNew
 abbrev pub firstCc : ℕ → Bool
 firstCc b = eqb b digitCanceled || eqb b digitReplacement
 
-unfoldable pub onFormed : List Detail → Bool
-onFormed ds = lotsFormed firstOn ds
-
-unfoldable pub ccFormed : List Detail → Bool
-ccFormed ds = lotsFormed firstCc ds
+-- 19 of an ON, and of a CC
+unfoldable pub formedFor : Bool → List Detail → Bool
+formedFor cc ds = lotsFormed (cond cc firstCc firstOn) ds
 
 -- 22: the replacement count is that of the pools that begin with 7
 unfoldable pub replacementCount : List Detail → ℕ

@@ -2,10 +2,12 @@
 use fields::Field;
 use layout::Detail;
 ghost use mathlib.Core.Path.{_≡_};
-ghost use Prim.Native.Nat.{_<_};
+ghost use Prim.Native.Nat.{_+_, _<_, _≤_};
 ghost use Rattle.layout.specs.Details.{details, poolCount, detailAt, placeOf};
 ghost use Rattle.terminator.specs.Terminators.{positions, terminatorOf, isEnd, isWrong, isBad, kindOf, millionsOf, isGood, isOdd, markOf};
-ghost use Rattle.terminator.specs.Lots.{replacementCount, goodMillions};
+ghost use Rattle.terminator.specs.Lots.{replacementCount, goodMillions, formedFor};
+ghost use Rattle.terminator.specs.Passes.{walkOn, judged, emptyRun, withCanceled, withReplacement, runOn, Small};
+ghost use Rattle.terminator.specs.Groups.{groupsJudged};
 
 // What positions two to four say.
 pub enum Terminator {
@@ -35,7 +37,50 @@ struct Mark {
     millions: u64,
 }
 
-// Position one of a canceled and of a replacement pool.
+// A walk over the pools: whether the lots are formed so far, and the lot that is begun, its position one and whether it is bad.
+struct Walk {
+    formed: bool,
+    begun: bool,
+    one: u8,
+    bad: bool,
+}
+
+// Checks 20 and 21 of the groups so far, and the group at hand: its lots, whether all are of one kind, and its millions.
+struct Run {
+    formed: bool,
+    balanced: bool,
+    canceled: usize,
+    replacement: usize,
+    good: bool,
+    odd: bool,
+    bad: bool,
+    millionsCanceled: u64,
+    millionsReplacement: u64,
+}
+
+// Whether a CC's groups are formed (20) and balanced (21).
+pub struct Groups {
+    pub formed: bool,
+    pub balanced: bool,
+}
+
+// A lot of a message: position one, kind, millions, its first and last pool by index, and its weight in cents.
+pub struct LotHead {
+    pub one: u8,
+    pub kind: Kind,
+    pub millions: u64,
+    pub first: usize,
+    pub last: usize,
+    pub weight: u64,
+}
+
+pub enum LotRead {
+    Found(LotHead),
+    Nothing,
+}
+
+// Position one of a new, of a canceled and of a replacement pool.
+pub const NEW: u8 = 48;
 pub const CANCELED: u8 = 54;
 pub const REPLACEMENT: u8 = 55;
 
@@ -205,4 +250,133 @@ pub fn good_millions(body: &[u8]) -> u64
         sum += m.millions;
     }
     sum
+}
+
+fn walk_on(w: Walk, m: Mark, cc: bool) -> Walk
+    ensures { λ r. ⌜ r ≡ walkOn cc w m ⌝ }
+{
+    let first = (((m.one == CANCELED) | (m.one == REPLACEMENT)) & cc) | ((m.one == NEW) & !cc);
+    let follows = !w.begun | ((w.one == m.one) & (w.bad == m.bad));
+    Walk {
+        formed: w.formed & (follows & (first & !m.wrong)),
+        begun: !m.end,
+        one: m.one,
+        bad: m.bad,
+    }
+}
+
+// Check 19: whether the pools of an ON, or of a CC, make whole lots.
+pub fn lots_formed(body: &[u8], cc: bool) -> bool
+    ensures { λ r. ⌜ r ≡ formedFor cc (details (now (body .entry))) ⌝ }
+{
+    let n = layout::pool_count(body);
+    let mut w = Walk {
+        formed: true,
+        begun: false,
+        one: NEW,
+        bad: false,
+    };
+    let mut i: usize = 0;
+    while i < n {
+        let m = mark_at(body, i);
+        w = walk_on(w, m, cc);
+        i += 1;
+    }
+    w.formed & !w.begun
+}
+
+// Checks 20 and 21 of the groups so far and the one at hand.
+fn judge(g: Run) -> Groups
+    ensures { λ r. ⌜ r ≡ judged g ⌝ }
+{
+    let some = (1 <= g.canceled) & (1 <= g.replacement);
+    let single = (g.canceled == 1) & (g.replacement == 1);
+    Groups {
+        formed: g.formed & (some & (g.good | (single & (g.odd | g.bad)))),
+        balanced: g.balanced & (g.millionsCanceled == g.millionsReplacement),
+    }
+}
+
+fn empty_run(formed: bool, balanced: bool) -> Run
+    ensures { λ r. ⌜ r ≡ emptyRun formed balanced ⌝ }
+{
+    Run {
+        formed: formed,
+        balanced: balanced,
+        canceled: 0,
+        replacement: 0,
+        good: true,
+        odd: true,
+        bad: true,
+        millionsCanceled: 0,
+        millionsReplacement: 0,
+    }
+}
+
+fn with_canceled(g: Run, m: Mark) -> Run
+    requires { ⌜ (g .canceled < 4096) × (g .millionsCanceled + m .millions < 4294967296) ⌝ }
+    ensures { λ r. ⌜ r ≡ withCanceled g m ⌝ }
+{
+    Run {
+        formed: g.formed,
+        balanced: g.balanced,
+        canceled: g.canceled + 1,
+        replacement: g.replacement,
+        good: g.good & m.good,
+        odd: g.odd & m.odd,
+        bad: g.bad & !(m.good | m.odd),
+        millionsCanceled: g.millionsCanceled + m.millions,
+        millionsReplacement: g.millionsReplacement,
+    }
+}
+
+fn with_replacement(g: Run, m: Mark) -> Run
+    requires { ⌜ (g .replacement < 4096) × (g .millionsReplacement + m .millions < 4294967296) ⌝ }
+    ensures { λ r. ⌜ r ≡ withReplacement g m ⌝ }
+{
+    Run {
+        formed: g.formed,
+        balanced: g.balanced,
+        canceled: g.canceled,
+        replacement: g.replacement + 1,
+        good: g.good & m.good,
+        odd: g.odd & m.odd,
+        bad: g.bad & !(m.good | m.odd),
+        millionsCanceled: g.millionsCanceled,
+        millionsReplacement: g.millionsReplacement + m.millions,
+    }
+}
+
+// The groups after one more pool.
+fn run_on(g: Run, m: Mark) -> Run
+    requires { ⌜ Small 250 g × (m .millions ≤ 99) ⌝ }
+    ensures { λ r. ⌜ r ≡ runOn g m ⌝ }
+{
+    if !m.end {
+        return g;
+    }
+    if m.one != CANCELED {
+        return with_replacement(g, m);
+    }
+    if g.replacement == 0 {
+        return with_canceled(g, m);
+    }
+    let closed = judge(g);
+    let next = empty_run(closed.formed, closed.balanced);
+    with_canceled(next, m)
+}
+
+// Checks 20 and 21: whether the groups of a CC are formed, and whether each has like sums.
+pub fn groups_of(body: &[u8]) -> Groups
+    ensures { λ r. ⌜ r ≡ groupsJudged (details (now (body .entry))) ⌝ }
+{
+    let n = layout::pool_count(body);
+    let mut g = empty_run(true, true);
+    let mut i: usize = 0;
+    while i < n {
+        let m = mark_at(body, i);
+        g = run_on(g, m);
+        i += 1;
+    }
+    judge(g)
 }
