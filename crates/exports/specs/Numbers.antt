@@ -14,6 +14,9 @@ use Rattle.sequence.specs.declared.Line.{Line}
 use Rattle.sequence.specs.declared.Arrival.{Arrival}
 use Rattle.sequence.specs.declared.Arrival.the-variants.{Refused, Duplicate, Expected, Gap}
 use Rattle.sequence.specs.Sequence.{inbound}
+use Rattle.terminator.specs.declared.Terminator.{Terminator}
+use Rattle.terminator.specs.declared.Terminator.the-variants.{Middle, BadMiddle, GoodEnd, OddEnd, BadEnd, Wrong}
+use Rattle.terminator.specs.Terminators.{terminatorOf}
 use Rattle.trade_id.specs.declared.TradeId.{TradeId}
 use Rattle.trade_id.specs.declared.TradeId.the-variants.{Whole, Broken, Absent}
 
@@ -42,6 +45,27 @@ endOf Nothing = 0
 abbrev pub nextOf : Frame → ℕ
 nextOf (Body start end next) = next
 nextOf Nothing = 0
+
+-- ---- a terminator: its case, and the millions of a good end
+abbrev pub terminatorNumber : Terminator → ℕ
+terminatorNumber Middle = 0
+terminatorNumber BadMiddle = 1
+terminatorNumber (GoodEnd n) = 2
+terminatorNumber OddEnd = 3
+terminatorNumber BadEnd = 4
+terminatorNumber Wrong = 5
+
+abbrev pub endMillions : Terminator → ℕ
+endMillions Middle = 0
+endMillions BadMiddle = 0
+endMillions (GoodEnd n) = n
+endMillions OddEnd = 0
+endMillions BadEnd = 0
+endMillions Wrong = 0
+
+-- the terminator in bytes of any length: what is not four bytes is wrong
+unfoldable pub terminatorIn : List ℕ → Terminator
+terminatorIn s = cond (eqb (length s) 4) (terminatorOf s) Wrong
 
 -- ---- a line: whether a number was received, the last one, and the one expected
 abbrev pub lineOf : Bool → ℕ → ℕ → Line

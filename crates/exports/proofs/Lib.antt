@@ -1,0 +1,2 @@
+mod Twelve
+mod Cases
