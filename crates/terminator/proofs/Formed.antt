@@ -1,12 +1,11 @@
 -- Check 19 by a walk: a lot that is begun asks the next pool to go on with it, so the walk's state is all that has to be known of the pools before.
-use mathlib.Core.Path.{_≡_, refl, sym, ap, ap₂, _∙_}
+use mathlib.Core.Path.{_≡_, refl, ap₂, _∙_}
 use mathlib.Core.List.{List, [], _∷_}
-use mathlib.Core.Bool.{Bool, true, false, cond, not, _&&_, _||_, Bool·beq, and-assoc, and-false, or-false}
+use mathlib.Core.Bool.{Bool, true, false, cond, not, _&&_, _||_, Bool·beq, and-assoc, and-false}
 use Prim.Native.Nat.{ℕ}
 use lib.Dec.{eqb}
 use Rattle.lists.proofs.Folds.{fold}
 use Rattle.layout.specs.declared.Detail.{Detail}
-use Rattle.terminator.specs.declared.Mark.{Mark}
 use Rattle.terminator.specs.declared.Walk.{Walk}
 use Rattle.terminator.specs.Terminators.{isEnd, isWrong, isBad, one, term, markOf}
 use Rattle.terminator.specs.Lots.{goesOn, lotsFormed, firstOn, firstCc, formedFor}

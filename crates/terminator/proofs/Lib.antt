@@ -2,3 +2,4 @@ pub mod Marks
 pub mod Passes
 pub mod Formed
 pub mod Runs
+pub mod Found

@@ -1,8 +1,8 @@
 -- What a pool's terminator says, taken apart, and the laws of the positions.
-use mathlib.Core.Path.{_≡_, refl, sym, ap, _∙_}
-use mathlib.Core.List.{List, [], _∷_}
+use mathlib.Core.Path.{_≡_, refl, ap}
+use mathlib.Core.List.{List}
 use mathlib.Core.Bool.{Bool, true, false, cond, true≢false}
-use Prim.Native.Nat.{ℕ, suc, _+_, _≤_, _<_}
+use Prim.Native.Nat.{ℕ, _≤_, _<_}
 use native.Mathlib.Omega.{arith}
 use lib.Dec.{eqb, leb}
 use borrow.Author.Tests.{le-leb, lt-leb, ne-eqb, leb-true}
@@ -74,3 +74,7 @@ module _ (d : Detail) (m : Mark) (e : m ≡ markOf d) where
   pub mark-millions : m .millions ≡ millionsOf (term d)
   unfolding markOf
   mark-millions = ap (λ (x : Mark). x .millions) e
+
+  pub mark-end : m .end ≡ isEnd (term d)
+  unfolding markOf
+  mark-end = ap (λ (x : Mark). x .end) e

@@ -1,17 +1,16 @@
 -- Passes over a message's pools: sums over the lots are sums over the pools.
-use mathlib.Core.Path.{_≡_, refl, sym, ap, _∙_}
+use mathlib.Core.Path.{_≡_, refl}
 use mathlib.Core.List.{List, [], _∷_, _++_}
 use mathlib.Core.Bool.{Bool, true, false, cond}
-use Prim.Native.Nat.{ℕ, _+_, _-_, _≤_, _<_}
+use Prim.Native.Nat.{ℕ, _+_}
 use native.Mathlib.Omega.{arith}
 use lib.Dec.{eqb}
 use borrow.Author.Tests.{eq-eqb, ne-eqb}
-use Rattle.lists.specs.Lists.{sumOf, tab}
+use Rattle.lists.specs.Lists.{sumOf}
 use Rattle.lists.proofs.Folds.{fold, fold-sum, fold-count}
 use Rattle.layout.specs.declared.Detail.{Detail}
-use Rattle.layout.specs.Details.{details, detailAt, placeOf, poolCount}
 use Rattle.terminator.specs.Terminators.{digitReplacement, isEnd, millionsOf, one, term}
-use Rattle.terminator.specs.Lots.{Lot, lotMillions, lotsFrom, lots, goodMillions, replacementCount}
+use Rattle.terminator.specs.Lots.{lotMillions, lotsFrom, lots, goodMillions, replacementCount}
 use Rattle.terminator.proofs.Marks.{middle-none}
 
 abbrev pub addMillions : ℕ → Detail → ℕ

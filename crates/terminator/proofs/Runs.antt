@@ -1,11 +1,11 @@
 -- Checks 20 and 21 by one pass: the group at hand is known by its counts, kinds and sums, and a pool that ends a lot adds to them.
-use mathlib.Core.Path.{_≡_, refl, sym, ap, ap₂, _∙_}
+use mathlib.Core.Path.{_≡_, refl, sym, ap, _∙_}
 use mathlib.Core.List.{List, [], _∷_, _++_}
-use mathlib.Core.Bool.{Bool, true, false, cond, not, _&&_, _||_, and-assoc, and-comm, and-true}
-use Prim.Native.Nat.{ℕ, zero, suc, _+_, _*_, _≤_, _<_}
+use mathlib.Core.Bool.{Bool, true, false, cond, not, _&&_, and-assoc, and-true}
+use Prim.Native.Nat.{ℕ, _+_, _≤_, _<_}
 use native.Mathlib.Omega.{arith}
 use lib.ListN.{length, length-append}
-use lib.Dec.{eqb, leb, ltb}
+use lib.Dec.{eqb, ltb}
 use borrow.Author.Tests.{eq-eqb, ne-eqb, lt-ltb, le-ltb, not-true, not-false}
 use Rattle.lists.specs.Lists.{sumOf, all}
 use Rattle.lists.proofs.Tests.{sum-append, all-append}
@@ -16,11 +16,10 @@ use Rattle.terminator.specs.declared.Run.{Run}
 use Rattle.terminator.specs.declared.Groups.{Groups}
 use Rattle.terminator.specs.declared.Kind.{Kind}
 use Rattle.terminator.specs.declared.Kind.the-variants.{Good, Odd, Bad}
-use Rattle.terminator.specs.Terminators.{digitCanceled, isEnd, isCanceled, isGood, isOdd, kindOf, millionsOf, one, term, markOf}
+use Rattle.terminator.specs.Terminators.{digitCanceled, isEnd, isCanceled, one, term, markOf}
 use Rattle.terminator.specs.Lots.{Lot, lotKind, lotMillions, lotsFrom, lots}
-use Rattle.terminator.specs.Groups.{Group, lotCanceled, groupsFrom, groups, sameKind, ofKind, groupFormed, groupBalanced, groupsFormed, groupsBalanced, groupsJudged}
-use Rattle.terminator.specs.Passes.{judged, emptyRun, withCanceled, withReplacement, markBad, runOn, Small}
-use Rattle.terminator.proofs.Marks.{millions-small}
+use Rattle.terminator.specs.Groups.{Group, groupsFrom, groups, sameKind, ofKind, groupFormed, groupBalanced, groupsFormed, groupsBalanced, groupsJudged}
+use Rattle.terminator.specs.Passes.{judged, emptyRun, withCanceled, withReplacement, runOn, Small}
 
 -- ---- the ways through one pool
 module _ (g : Run) (m : Mark) where
@@ -52,7 +51,7 @@ small-none f b = record { lotsCanceled = omega arith; lotsReplacement = omega ar
 
 -- a group with at most one lot more, of at most 99 millions, is small after one pool more
 small-up : (n k x : ℕ) (g h : Run) → n + 1 ≤ k → x ≤ 99 → h .canceled ≤ g .canceled + 1 → h .replacement ≤ g .replacement + 1
-    → h .millionsCanceled ≤ g .millionsCanceled + x → h .millionsReplacement ≤ g .millionsReplacement + x → Small n g → Small k h
+    → h .taken ≤ g .taken + x → h .brought ≤ g .brought + x → Small n g → Small k h
 small-up n k x g h l m a b c d s =
     record {
       lotsCanceled = omega (arith, s .lotsCanceled);
@@ -70,6 +69,7 @@ small-more n g m s l = go (m .end) (eqb (m .one) digitCanceled) (ltb 0 (g .repla
   where
     next : Run
     next = emptyRun (judged g .formed) (judged g .balanced)
+
     go : (e c r : Bool) → Small (n + 1) (cond e (cond c (cond r (withCanceled next m) (withCanceled g m)) (withReplacement g m)) g)
     go true true true =
         small-up 0 (n + 1) (m .millions) next (withCanceled next m) (omega arith) l (omega arith) (omega arith) (omega arith) (omega arith)
@@ -89,8 +89,8 @@ runOf f b os ns =
       good = ofKind Good os && ofKind Good ns;
       odd = ofKind Odd os && ofKind Odd ns;
       bad = ofKind Bad os && ofKind Bad ns;
-      millionsCanceled = sumOf lotMillions os;
-      millionsReplacement = sumOf lotMillions ns;
+      taken = sumOf lotMillions os;
+      brought = sumOf lotMillions ns;
     }
 
 one-more-canceled : (k : Kind) (os ns : List Lot) (l : Lot) → (ofKind k (os ++ (l ∷ [])) && ofKind k ns) ≡ ((ofKind k os && ofKind k ns) && sameKind k (lotKind l))
@@ -180,8 +180,10 @@ run-pass f b os ns ms (d ∷ ds) =
   where
     m : Mark
     m = markOf d
+
     next : Run
     next = cond (isCanceled d) (cond (ltb 0 (length ns)) (withCanceled (emptyRun (judged (runOf f b os ns) .formed) (judged (runOf f b os ns) .balanced)) m) (withCanceled (runOf f b os ns) m)) (withReplacement (runOf f b os ns) m)
+
     go : (e : Bool) → judged (fold runStep (runOf f b os ns) ds) ≡ verdict f b (groupsFrom os ns (lotsFrom (ms ++ (d ∷ [])) ds))
         → judged (fold runStep next ds) ≡ verdict f b (groupsFrom os ns (record { middles = ms; last = d } ∷ lotsFrom [] ds))
         → judged (fold runStep (cond e next (runOf f b os ns)) ds) ≡ verdict f b (groupsFrom os ns (cond e (record { middles = ms; last = d } ∷ lotsFrom [] ds) (lotsFrom (ms ++ (d ∷ [])) ds)))

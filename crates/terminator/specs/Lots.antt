@@ -62,19 +62,22 @@ weightOf Bad millions faces = faces
 unfoldable pub lotWeight : Lot → ℕ
 lotWeight l = weightOf (lotKind l) (lotMillions l) (sumOf currentCents (poolsOf l))
 
--- the first of a list of lots as the code hands it over: the lot that begins at the pool first
+-- a lot as the code hands it over, by the pool that ends it, the places of its first and last pool and the sum of its faces
+unfoldable pub lotEnded : Detail → ℕ → ℕ → ℕ → LotHead
+lotEnded d first last faces =
+    record {
+      one = one d;
+      kind = kindOf (term d);
+      millions = millionsOf (term d);
+      first = first;
+      last = last;
+      weight = weightOf (kindOf (term d)) (millionsOf (term d)) faces;
+    }
+
+-- the first of a list of lots, which begins at the pool first
 abbrev pub firstLot : ℕ → List Lot → LotRead
 firstLot first [] = Nothing
-firstLot first (l ∷ ls) =
-    Found
-    (record {
-      one = one (l .last);
-      kind = lotKind l;
-      millions = lotMillions l;
-      first = first;
-      last = first + length (l .middles);
-      weight = lotWeight l;
-    })
+firstLot first (l ∷ ls) = Found (lotEnded (l .last) first (first + length (l .middles)) (sumOf currentCents (poolsOf l)))
 
 -- the good millions that a message's lots sum to
 unfoldable pub goodMillions : List Detail → ℕ

@@ -31,7 +31,7 @@ runFormed g =
 
 -- 21 of the group at hand
 abbrev pub runBalanced : Run → Bool
-runBalanced g = eqb (g .millionsCanceled) (g .millionsReplacement)
+runBalanced g = eqb (g .taken) (g .brought)
 
 -- 20 and 21 of the groups so far and the one at hand
 abbrev pub judged : Run → Groups
@@ -51,8 +51,8 @@ withCanceled g m =
       good = g .good && m .good;
       odd = g .odd && m .odd;
       bad = g .bad && markBad m;
-      millionsCanceled = g .millionsCanceled + m .millions;
-      millionsReplacement = g .millionsReplacement;
+      taken = g .taken + m .millions;
+      brought = g .brought;
     }
 
 -- the group at hand with one more replacement lot
@@ -66,8 +66,8 @@ withReplacement g m =
       good = g .good && m .good;
       odd = g .odd && m .odd;
       bad = g .bad && markBad m;
-      millionsCanceled = g .millionsCanceled;
-      millionsReplacement = g .millionsReplacement + m .millions;
+      taken = g .taken;
+      brought = g .brought + m .millions;
     }
 
 -- a new group after those so far
@@ -81,8 +81,8 @@ emptyRun formed balanced =
       good = true;
       odd = true;
       bad = true;
-      millionsCanceled = 0;
-      millionsReplacement = 0;
+      taken = 0;
+      brought = 0;
     }
 
 -- the groups after one more pool: only an end counts, and a 6 lot after a 7 lot closes the group at hand
@@ -98,5 +98,5 @@ runOn g m =
 pub record Small (n : ℕ) (g : Run) : Type 0 where
   pub lotsCanceled : g .canceled ≤ n
   pub lotsReplacement : g .replacement ≤ n
-  pub canceledSum : g .millionsCanceled ≤ 99 * n
-  pub replacementSum : g .millionsReplacement ≤ 99 * n
+  pub canceledSum : g .taken ≤ 99 * n
+  pub replacementSum : g .brought ≤ 99 * n

@@ -3,9 +3,10 @@ use fields::Field;
 use layout::Detail;
 ghost use mathlib.Core.Path.{_≡_};
 ghost use Prim.Native.Nat.{_+_, _<_, _≤_};
+ghost use lib.ListN.{drop};
 ghost use Rattle.layout.specs.Details.{details, poolCount, detailAt, placeOf};
 ghost use Rattle.terminator.specs.Terminators.{positions, terminatorOf, isEnd, isWrong, isBad, kindOf, millionsOf, isGood, isOdd, markOf};
-ghost use Rattle.terminator.specs.Lots.{replacementCount, goodMillions, formedFor};
+ghost use Rattle.terminator.specs.Lots.{replacementCount, goodMillions, formedFor, currentCents, weightOf, lotEnded, firstLot, lots};
 ghost use Rattle.terminator.specs.Passes.{walkOn, judged, emptyRun, withCanceled, withReplacement, runOn, Small};
 ghost use Rattle.terminator.specs.Groups.{groupsJudged};
 
@@ -45,7 +46,7 @@ struct Walk {
     bad: bool,
 }
 
-// Checks 20 and 21 of the groups so far, and the group at hand: its lots, whether all are of one kind, and its millions.
+// Checks 20 and 21 of the groups so far, and the group at hand: its lots, whether all are of one kind, and the millions that its canceled and its replacement lots have.
 struct Run {
     formed: bool,
     balanced: bool,
@@ -54,8 +55,8 @@ struct Run {
     good: bool,
     odd: bool,
     bad: bool,
-    millionsCanceled: u64,
-    millionsReplacement: u64,
+    taken: u64,
+    brought: u64,
 }
 
 // Whether a CC's groups are formed (20) and balanced (21).
@@ -81,8 +82,13 @@ pub enum LotRead {
 
 // Position one of a new, of a canceled and of a replacement pool.
 pub const NEW: u8 = 48;
+
 pub const CANCELED: u8 = 54;
+
 pub const REPLACEMENT: u8 = 55;
+
+// The cents of a million dollars.
+pub const MILLION_CENTS: u64 = 100000000;
 
 pub fn positions_two_to_four(n: u64) -> Terminator
     ensures { λ r. ⌜ r ≡ positions n ⌝ }
@@ -210,13 +216,21 @@ fn mark_of(d: Detail) -> Mark
     }
 }
 
+// The i-th pool of a body.
+fn pool_at(body: &[u8], i: usize) -> Detail
+    requires { ⌜ i < poolCount (now body) ⌝ }
+    ensures { λ r. ⌜ r ≡ detailAt (now (body .entry)) (placeOf i) ⌝ }
+{
+    let s = layout::next_detail(body, layout::HEADER_WIDTH + i * layout::DETAIL_WIDTH);
+    s.detail
+}
+
 // What the terminator of the i-th pool says.
 fn mark_at(body: &[u8], i: usize) -> Mark
     requires { ⌜ i < poolCount (now body) ⌝ }
     ensures { λ r. ⌜ r ≡ markOf (detailAt (now (body .entry)) (placeOf i)) ⌝ }
 {
-    let s = layout::next_detail(body, layout::HEADER_WIDTH + i * layout::DETAIL_WIDTH);
-    let d = s.detail;
+    let d = pool_at(body, i);
     mark_of(d)
 }
 
@@ -293,7 +307,7 @@ fn judge(g: Run) -> Groups
     let single = (g.canceled == 1) & (g.replacement == 1);
     Groups {
         formed: g.formed & (some & (g.good | (single & (g.odd | g.bad)))),
-        balanced: g.balanced & (g.millionsCanceled == g.millionsReplacement),
+        balanced: g.balanced & (g.taken == g.brought),
     }
 }
 
@@ -308,13 +322,13 @@ fn empty_run(formed: bool, balanced: bool) -> Run
         good: true,
         odd: true,
         bad: true,
-        millionsCanceled: 0,
-        millionsReplacement: 0,
+        taken: 0,
+        brought: 0,
     }
 }
 
 fn with_canceled(g: Run, m: Mark) -> Run
-    requires { ⌜ (g .canceled < 4096) × (g .millionsCanceled + m .millions < 4294967296) ⌝ }
+    requires { ⌜ (g .canceled < 4096) × (g .taken + m .millions < 4294967296) ⌝ }
     ensures { λ r. ⌜ r ≡ withCanceled g m ⌝ }
 {
     Run {
@@ -325,13 +339,13 @@ fn with_canceled(g: Run, m: Mark) -> Run
         good: g.good & m.good,
         odd: g.odd & m.odd,
         bad: g.bad & !(m.good | m.odd),
-        millionsCanceled: g.millionsCanceled + m.millions,
-        millionsReplacement: g.millionsReplacement,
+        taken: g.taken + m.millions,
+        brought: g.brought,
     }
 }
 
 fn with_replacement(g: Run, m: Mark) -> Run
-    requires { ⌜ (g .replacement < 4096) × (g .millionsReplacement + m .millions < 4294967296) ⌝ }
+    requires { ⌜ (g .replacement < 4096) × (g .brought + m .millions < 4294967296) ⌝ }
     ensures { λ r. ⌜ r ≡ withReplacement g m ⌝ }
 {
     Run {
@@ -342,8 +356,8 @@ fn with_replacement(g: Run, m: Mark) -> Run
         good: g.good & m.good,
         odd: g.odd & m.odd,
         bad: g.bad & !(m.good | m.odd),
-        millionsCanceled: g.millionsCanceled,
-        millionsReplacement: g.millionsReplacement + m.millions,
+        taken: g.taken,
+        brought: g.brought + m.millions,
     }
 }
 
@@ -379,4 +393,66 @@ pub fn groups_of(body: &[u8]) -> Groups
         i += 1;
     }
     judge(g)
+}
+
+// A pool's current face in cents, 0 where it is not digits.
+fn current_cents(d: Detail) -> u64
+    ensures { λ r. ⌜ r ≡ currentCents d ⌝ }
+{
+    let current = d.current;
+    let f = fields::read_number(&current, 0, layout::CURRENT_FACE.width);
+    match f {
+        Field::Number(n) => n,
+        Field::NotDigits => 0,
+    }
+}
+
+// The weight in cents of a lot of a kind, its millions and the sum of its current faces.
+fn weight_of(kind: Kind, millions: u64, faces: u64) -> u64
+    requires { ⌜ millions ≤ 99 ⌝ }
+    ensures { λ r. ⌜ r ≡ weightOf kind millions faces ⌝ }
+{
+    match kind {
+        Kind::Good => millions * MILLION_CENTS,
+        Kind::Odd => faces,
+        Kind::Bad => faces,
+    }
+}
+
+// A lot that ends with a pool.
+fn lot_ended(d: Detail, first: usize, last: usize, faces: u64) -> LotHead
+    ensures { λ r. ⌜ r ≡ lotEnded d first last faces ⌝ }
+{
+    let bytes = d.terminator;
+    let t = terminator_of(bytes);
+    let kind = kind_of(t);
+    let millions = millions_of(t);
+    LotHead {
+        one: bytes[0],
+        kind: kind,
+        millions: millions,
+        first: first,
+        last: last,
+        weight: weight_of(kind, millions, faces),
+    }
+}
+
+// The lot that begins at a pool, or nothing where no end follows.
+pub fn lot_at(body: &[u8], first: usize) -> LotRead
+    ensures { λ r. ⌜ r ≡ firstLot first (lots (drop first (details (now (body .entry))))) ⌝ }
+{
+    let n = layout::pool_count(body);
+    let mut faces: u64 = 0;
+    let mut i = first;
+    while i < n {
+        let d = pool_at(body, i);
+        let m = mark_of(d);
+        let last = i;
+        faces += current_cents(d);
+        i += 1;
+        if m.end {
+            return LotRead::Found(lot_ended(d, first, last, faces));
+        }
+    }
+    LotRead::Nothing
 }

@@ -1,17 +1,14 @@
+-- The millions of the pools passed are summed, at most 99 each.
 use Rattle.layout.proofs.Passes.{poolOf, Passed, pass-none, pass-more, pass-done}
 use Prim.Native.Nat.{ℕ, _≤_, _*_, _-_, _+_}
 use native.Mathlib.Omega.{arith}
-use mathlib.Core.Path.{_≡_, refl, sym, ap, _∙_}
+use mathlib.Core.Path.{ap, _∙_}
 use Rattle.layout.proofs.Lengths.{count-max}
 use Rattle.terminator.proofs.Marks.{millions-small, mark-millions}
 use Rattle.terminator.proofs.Passes.{addMillions, millions-pass}
 use borrow.Author.Needs.{needs}
 use Rattle.terminator.proofs.good_millions.Statement.{statement}
 use Rattle.terminator.proofs.good_millions.Tie as tie
-use Rattle.terminator.proofs.good_millions.Reads as reads
-use Rattle.terminator.proofs.good_millions.Lts as lts
-use Rattle.layout.proofs.pool_count.Reads as pool-count-reads
-use Rattle.terminator.proofs.mark_at.Reads as mark-at-reads
 
 abbrev Inv-loop : tie.InvT-loop
 Inv-loop body n sum₀ i₀ sum i = (i ≤ n) × (sum ≤ 99 * i) × Passed addMillions body 0 n sum i
@@ -19,34 +16,27 @@ Inv-loop body n sum₀ i₀ sum i = (i ≤ n) × (sum ≤ 99 * i) × Passed addM
 abbrev μ-loop : tie.MeasureT-loop
 μ-loop body n sum₀ i₀ sum i = n - i
 
--- src/lib.rt:199:9
 pool-count-requires : tie.Need-pool-count-requires Inv-loop μ-loop
 pool-count-requires c κs = search needs
 
--- src/lib.rt:202:5
 loop-holds : tie.Need-loop-holds Inv-loop μ-loop
 loop-holds c = (search needs, search needs, pass-none addMillions (c .before .before .args .body .now) 0 (c .pool-count .result))
 
--- src/lib.rt:203:13
 mark-at-requires : tie.Need-mark-at-requires Inv-loop μ-loop
 mark-at-requires c κs = omega (arith, c .before .before .pool-count .ensures)
 
--- src/lib.rt:204:9
 add-i : tie.Need-add-i Inv-loop μ-loop
 add-i c = search needs
 
--- src/lib.rt:205:9
 add-sum : tie.Need-add-sum Inv-loop μ-loop
 add-sum c =
     let a = c .before .before .before .before .before .before .args in
     let p = poolOf (a .body .now) (c .before .before .before .loop .i) in
     omega (arith, count-max (a .body .now), c .before .before .before .before .pool-count .ensures, mark-millions p _ (c .before .mark-at .ensures), millions-small p)
 
--- src/lib.rt:202:5
 loop-less : tie.Need-loop-less Inv-loop μ-loop
 loop-less c = search needs
 
--- src/lib.rt:202:5
 loop-again : tie.Need-loop-again Inv-loop μ-loop
 loop-again c =
     let l = c .before .before .before .loop in
@@ -54,7 +44,6 @@ loop-again c =
     let m = mark-millions p _ (c .before .mark-at .ensures) in
     (omega arith, omega (arith, m, millions-small p), pass-more addMillions _ _ _ (l .sum) (l .i) (l .inv .2) (omega arith) _ (ap (λ (x : ℕ). l .sum + x) m))
 
--- src/lib.rt:196:1
 returns : tie.Need-returns Inv-loop μ-loop
 returns c =
     let l = c .before .loop in

@@ -1,23 +1,16 @@
-use Prim.Native.Nat.{ℕ, _≤_, _-_}
+-- The groups of the pools passed, which are small enough to count, and the pools left decide as the whole message does.
+use Prim.Native.Nat.{_≤_, _-_}
 use native.Mathlib.Omega.{arith}
-use mathlib.Core.Path.{_≡_, refl, sym, ap, subst⁻¹, _∙_}
+use mathlib.Core.Path.{ap, _∙_}
 use mathlib.Core.Bool.{true}
 use Rattle.layout.proofs.Lengths.{count-max}
 use Rattle.layout.proofs.Passes.{poolOf, Passed, pass-none, pass-more, pass-done}
-use Rattle.terminator.specs.declared.Run.{Run}
 use Rattle.terminator.specs.Passes.{judged, emptyRun, runOn, Small}
 use Rattle.terminator.proofs.Marks.{millions-small, mark-millions}
 use Rattle.terminator.proofs.Runs.{runStep, small-none, small-most, small-more, groups-pass}
 use borrow.Author.Needs.{needs}
 use Rattle.terminator.proofs.groups_of.Statement.{statement}
 use Rattle.terminator.proofs.groups_of.Tie as tie
-use Rattle.terminator.proofs.groups_of.Reads as reads
-use Rattle.terminator.proofs.groups_of.Lts as lts
-use Rattle.layout.proofs.pool_count.Reads as pool-count-reads
-use Rattle.terminator.proofs.empty_run.Reads as empty-run-reads
-use Rattle.terminator.proofs.judge.Reads as judge-reads
-use Rattle.terminator.proofs.mark_at.Reads as mark-at-reads
-use Rattle.terminator.proofs.run_on.Reads as run-on-reads
 
 abbrev Inv-loop : tie.InvT-loop
 Inv-loop body n g₀ i₀ g i = (i ≤ n) × Small i g × Passed runStep body (emptyRun true true) n g i
@@ -25,25 +18,20 @@ Inv-loop body n g₀ i₀ g i = (i ≤ n) × Small i g × Passed runStep body (e
 abbrev μ-loop : tie.MeasureT-loop
 μ-loop body n g₀ i₀ g i = n - i
 
--- src/lib.rt:379:9
 pool-count-requires : tie.Need-pool-count-requires Inv-loop μ-loop
 pool-count-requires c κs = search needs
 
--- src/lib.rt:380:9
 empty-run-requires : tie.Need-empty-run-requires Inv-loop μ-loop
 empty-run-requires c κs = search needs
 
--- src/lib.rt:382:5
 loop-holds : tie.Need-loop-holds Inv-loop μ-loop
 loop-holds c =
     let e = c .empty-run .ensures in
     (search needs, rw e (small-none true true), rw e (pass-none runStep (c .before .before .before .args .body .now) (emptyRun true true) (c .before .pool-count .result)))
 
--- src/lib.rt:383:13
 mark-at-requires : tie.Need-mark-at-requires Inv-loop μ-loop
 mark-at-requires c κs = omega (arith, c .before .before .before .pool-count .ensures)
 
--- src/lib.rt:384:9
 run-on-requires : tie.Need-run-on-requires Inv-loop μ-loop
 run-on-requires c κs =
     let a = c .before .before .before .before .before .before .args in
@@ -51,15 +39,12 @@ run-on-requires c κs =
     let p = poolOf (a .body .now) (l .i) in
     (small-most (l .i) 250 (l .g) (omega (arith, count-max (a .body .now), c .before .before .before .before .pool-count .ensures)) (l .inv .1), omega (arith, mark-millions p _ (c .mark-at .ensures), millions-small p))
 
--- src/lib.rt:385:9
 add-i : tie.Need-add-i Inv-loop μ-loop
 add-i c = search needs
 
--- src/lib.rt:382:5
 loop-less : tie.Need-loop-less Inv-loop μ-loop
 loop-less c = search needs
 
--- src/lib.rt:382:5
 loop-again : tie.Need-loop-again Inv-loop μ-loop
 loop-again c =
     let a = c .before .before .before .before .before .before .before .args in
@@ -68,11 +53,9 @@ loop-again c =
     let e = c .run-on .ensures ∙ ap (runOn (l .g)) (c .before .mark-at .ensures) in
     (omega arith, rw (c .run-on .ensures) (small-more (l .i) (l .g) (c .before .mark-at .result) (l .inv .1) (omega (arith, mark-millions p _ (c .before .mark-at .ensures), millions-small p))), pass-more runStep (a .body .now) (emptyRun true true) _ (l .g) (l .i) (l .inv .2) (omega arith) _ e)
 
--- src/lib.rt:387:5
 judge-requires : tie.Need-judge-requires Inv-loop μ-loop
 judge-requires c κs = search needs
 
--- src/lib.rt:376:1
 returns : tie.Need-returns Inv-loop μ-loop
 returns c =
     let a = c .before .before .before .before .before .before .args in

@@ -1,17 +1,13 @@
-use Prim.Native.Nat.{ℕ, _≤_, _-_}
+-- The walk over the pools passed, and those left, decide as the whole message does.
+use Prim.Native.Nat.{_≤_, _-_}
 use native.Mathlib.Omega.{arith}
-use mathlib.Core.Path.{_≡_, refl, sym, ap, _∙_}
+use mathlib.Core.Path.{ap, _∙_}
 use Rattle.layout.proofs.Passes.{Passed, pass-none, pass-more, pass-done}
 use Rattle.terminator.specs.Passes.{walkOn}
 use Rattle.terminator.proofs.Formed.{walkStep, start, ended, formed-pass}
 use borrow.Author.Needs.{needs}
 use Rattle.terminator.proofs.lots_formed.Statement.{statement}
 use Rattle.terminator.proofs.lots_formed.Tie as tie
-use Rattle.terminator.proofs.lots_formed.Reads as reads
-use Rattle.terminator.proofs.lots_formed.Lts as lts
-use Rattle.layout.proofs.pool_count.Reads as pool-count-reads
-use Rattle.terminator.proofs.mark_at.Reads as mark-at-reads
-use Rattle.terminator.proofs.walk_on.Reads as walk-on-reads
 
 abbrev Inv-loop : tie.InvT-loop
 Inv-loop body cc n w₀ i₀ w i = (i ≤ n) × Passed (walkStep cc) body start n w i
@@ -19,38 +15,30 @@ Inv-loop body cc n w₀ i₀ w i = (i ≤ n) × Passed (walkStep cc) body start 
 abbrev μ-loop : tie.MeasureT-loop
 μ-loop body cc n w₀ i₀ w i = n - i
 
--- src/lib.rt:271:9
 pool-count-requires : tie.Need-pool-count-requires Inv-loop μ-loop
 pool-count-requires c κs = search needs
 
--- src/lib.rt:279:5
 loop-holds : tie.Need-loop-holds Inv-loop μ-loop
 loop-holds c = let a = c .before .before .args in (search needs, pass-none (walkStep (a .cc)) (a .body .now) start (c .pool-count .result))
 
--- src/lib.rt:280:13
 mark-at-requires : tie.Need-mark-at-requires Inv-loop μ-loop
 mark-at-requires c κs = omega (arith, c .before .before .pool-count .ensures)
 
--- src/lib.rt:281:9
 walk-on-requires : tie.Need-walk-on-requires Inv-loop μ-loop
 walk-on-requires c κs = search needs
 
--- src/lib.rt:282:9
 add-i : tie.Need-add-i Inv-loop μ-loop
 add-i c = search needs
 
--- src/lib.rt:279:5
 loop-less : tie.Need-loop-less Inv-loop μ-loop
 loop-less c = search needs
 
--- src/lib.rt:279:5
 loop-again : tie.Need-loop-again Inv-loop μ-loop
 loop-again c =
     let a = c .before .before .before .before .before .before .args in
     let l = c .before .before .before .loop in
     (omega arith, pass-more (walkStep (a .cc)) (a .body .now) start _ (l .w) (l .i) (l .inv .1) (omega arith) _ (c .walk-on .ensures ∙ ap (walkOn (a .cc) (l .w)) (c .before .mark-at .ensures)))
 
--- src/lib.rt:268:1
 returns : tie.Need-returns Inv-loop μ-loop
 returns c =
     let a = c .before .before .before .before .before .before .args in
