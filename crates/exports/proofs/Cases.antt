@@ -1,6 +1,6 @@
 -- The cases that no number of a match names, and bytes that are four or not: the tests of a definition, decided by what the code found.
 use mathlib.Core.Path.{_≡_, sym, ap, _∙_}
-use mathlib.Core.List.{List}
+use mathlib.Core.List.{List, [], _∷_}
 use Prim.Native.Nat.{ℕ, _≤_}
 use native.Mathlib.Omega.{arith}
 use lib.ListN.{length}
@@ -13,6 +13,9 @@ use Rattle.tally.specs.declared.Outcome.{Outcome}
 use Rattle.tally.specs.declared.Outcome.the-variants.{Dked}
 use Rattle.terminator.specs.declared.Terminator.{Terminator}
 use Rattle.terminator.specs.declared.Terminator.the-variants.{Wrong}
+use Rattle.terminator.specs.declared.LotHead.{LotHead}
+use Rattle.terminator.specs.declared.LotRead.{LotRead}
+use Rattle.terminator.specs.declared.LotRead.the-variants.{Found}
 use Rattle.terminator.specs.Terminators.{terminatorOf}
 use Rattle.tally.specs.Tally.{raised}
 use Rattle.lists.specs.Lists.{pasted}
@@ -21,6 +24,7 @@ use Rattle.sequence.specs.Sequence.{inbound, outbound, nextOutbound}
 use Rattle.acknowledgment.specs.declared.Acknowledged.{Acknowledged}
 use Rattle.acknowledgment.specs.Frames.{aaBytes, txBytes}
 use Rattle.exports.specs.Cells.{typeOf, outcomeOf, tallyOf, cellsOf, cellsRaised}
+use Rattle.exports.specs.LotNumbers.{kindNumber, lotNumbers, lotFrom, withLot}
 use Rattle.exports.specs.Said.{aaSaid, txSaid, withAa, withTx, stamped}
 use Rattle.exports.specs.Numbers.{terminatorIn}
 
@@ -53,6 +57,19 @@ pub cells-raised : (cells after : List ℕ) (k o : ℕ) (t a : List (List ℕ)) 
     → length cells ≡ 12 → t ≡ tallyOf cells → m ≡ typeOf k → r ≡ outcomeOf o → a ≡ raised t m r → after ≡ cellsOf a → after ≡ cellsRaised cells k o
 unfolding cellsRaised
 cells-raised cells after k o t a m r h et em er ea e = simp (eq-eqb (length cells) 12 h) (rw (et, em, er) at (e ∙ ap cellsOf ea))
+
+pub not-six : (out body : List ℕ) (first : ℕ) → (length out ≡ 6 → ⊥) → out ≡ withLot out body first
+unfolding withLot
+not-six out body first h = simp (ne-eqb (length out) 6 h)
+
+pub lot-written : (out after body numbers : List ℕ) (first : ℕ) (l : LotRead)
+    → length out ≡ 6 → l ≡ lotFrom body first → numbers ≡ lotNumbers l → after ≡ numbers → after ≡ withLot out body first
+unfolding withLot
+lot-written out after body numbers first l h el en e = simp (eq-eqb (length out) 6 h) (e ∙ en ∙ ap lotNumbers el)
+
+pub lot-found : (r : LotRead) (l : LotHead) (a k b : ℕ) → r ≡ Found l → a ≡ l .one → k ≡ kindNumber (l .kind) → b ≡ l .last
+    → 1 ∷ a ∷ k ∷ l .millions ∷ b ∷ l .weight ∷ [] ≡ lotNumbers r
+lot-found r l a k b e ea ek eb = rw (e, ea, ek, eb)
 
 module _ (out : List ℕ) (at last : ℕ) (said : List ℕ) where
   pub aa-unsaid : (message code : ℕ) → (length said ≡ aaSaid → ⊥) → (out ≡ withAa out at last said message code) × (last ≡ stamped aaSaid said last)

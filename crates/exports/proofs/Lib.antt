@@ -1,2 +1,2 @@
-mod Twelve
+mod Written
 mod Cases

@@ -10,6 +10,8 @@ use sequence::Received;
 use tally::MessageType;
 use tally::Outcome;
 use tally::Tally;
+use terminator::Kind;
+use terminator::LotRead;
 use terminator::Terminator;
 use trade_id::TradeId;
 ghost use mathlib.Core.Path.{_≡_};
@@ -27,12 +29,16 @@ ghost use Rattle.trade_id.specs.SpecialInstructions.{tradeIdOf};
 ghost use Rattle.trade_id.specs.Prices.{pricesAgree};
 ghost use Rattle.exports.specs.Numbers.{isNumber, numberOf, isFrame, startOf, endOf, nextOf, terminatorNumber, endMillions, terminatorIn, lineOf, isReceived, lastOf, arrivalNumber, tradeIdNumber, placeOfId, lengthOfId};
 ghost use Rattle.exports.specs.Cells.{typeOf, outcomeOf, tallyOf, cellsOf, cellsRaised};
+ghost use Rattle.exports.specs.LotNumbers.{kindNumber, lotNumbers, withLot};
 ghost use Rattle.exports.specs.Said.{aaSaid, txSaid, withAa, withTx, stamped};
 
 const TERMINATOR_WIDTH: usize = 4;
 
 // The cells of a tally: four types by three answers.
 const CELLS: usize = 12;
+
+// The numbers of a lot.
+const LOT_NUMBERS: usize = 6;
 
 // What an AA is told: subscriber, connection, internal ID, time bytes and original sequence.
 const AA_SAID: usize = 36;
@@ -310,6 +316,71 @@ pub extern "C" fn rhoikandra_good_millions(body: &[u8]) -> u64
     ensures { λ r. ⌜ r ≡ goodMillions (details (now (body .entry))) ⌝ }
 {
     terminator::good_millions(body)
+}
+
+fn wide(x: u8) -> u64
+    ensures { λ r. ⌜ r ≡ x ⌝ }
+{
+    x as u64
+}
+
+fn wide_index(x: usize) -> u64
+    ensures { λ r. ⌜ r ≡ x ⌝ }
+{
+    x as u64
+}
+
+fn kind_number(k: Kind) -> u64
+    ensures { λ r. ⌜ r ≡ kindNumber k ⌝ }
+{
+    match k {
+        Kind::Good => 0,
+        Kind::Odd => 1,
+        Kind::Bad => 2,
+    }
+}
+
+fn lot_numbers(l: LotRead) -> [u64; 6]
+    ensures { λ r. ⌜ r ≡ lotNumbers l ⌝ }
+{
+    match l {
+        LotRead::Found(lot) => {
+            let kind = lot.kind;
+            [
+                1,
+                wide(lot.one),
+                kind_number(kind),
+                lot.millions,
+                wide_index(lot.last),
+                lot.weight,
+            ]
+        }
+        LotRead::Nothing => [0, 0, 0, 0, 0, 0],
+    }
+}
+
+fn put_six(out: &mut [u64], n: [u64; 6])
+    requires { ⌜ length (now out) ≡ 6 ⌝ }
+    ensures { λ _. ⌜ now (out .exit) ≡ n ⌝ }
+{
+    out[0] = n[0];
+    out[1] = n[1];
+    out[2] = n[2];
+    out[3] = n[3];
+    out[4] = n[4];
+    out[5] = n[5];
+}
+
+// Writes the six numbers of the lot that begins at a pool.
+#[no_mangle]
+pub extern "C" fn rhoikandra_lot_at(body: &[u8], first: usize, out: &mut [u64])
+    ensures { λ _. ⌜ now (out .exit) ≡ withLot (now (out .entry)) (now (body .entry)) first ⌝ }
+{
+    if out.len() != LOT_NUMBERS {
+        return;
+    }
+    let lot = terminator::lot_at(body, first);
+    put_six(&mut *out, lot_numbers(lot));
 }
 
 // Whether a number, read mmddyyyy, is a date.

@@ -2,7 +2,7 @@
 use borrow.Author.Needs.{needs}
 use native.Mathlib.Omega.{arith}
 use lib.ListN.{length-set}
-use Rattle.exports.proofs.Twelve.{twelve}
+use Rattle.exports.proofs.Written.{twelve}
 use Rattle.exports.proofs.put_cells.Statement.{statement}
 use Rattle.exports.proofs.put_cells.Tie as tie
 
