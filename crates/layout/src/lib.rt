@@ -1,10 +1,10 @@
 // The columns of a message body: each header field and each field of a pool detail, named once, and the readers that go by them.
 use fields::Field;
 ghost use mathlib.Core.Path.{_≡_};
-ghost use Prim.Native.Nat.{_+_, _≤_};
+ghost use Prim.Native.Nat.{_+_, _≤_, _<_};
 ghost use lib.ListN.{length};
 ghost use Rattle.layout.specs.Columns.{numberIn, header, detailWidth};
-ghost use Rattle.layout.specs.Details.{poolCount, nextDetail, detailAt, noDetail};
+ghost use Rattle.layout.specs.Details.{poolCount, nextDetail, detailAt, noDetail, placeOf};
 
 // A column by its first byte and its width.
 pub struct Column {
@@ -237,4 +237,13 @@ pub fn next_detail(body: &[u8], place: usize) -> Step
         detail: detail_at(body, place),
         next: place + DETAIL_WIDTH,
     }
+}
+
+// The i-th pool of a body, counted from 0. Only the layers above call it, within the count.
+pub fn pool_at(body: &[u8], i: usize) -> Detail
+    requires { ⌜ i < poolCount (now body) ⌝ }
+    ensures { λ r. ⌜ r ≡ detailAt (now (body .entry)) (placeOf i) ⌝ }
+{
+    let s = next_detail(body, HEADER_WIDTH + i * DETAIL_WIDTH);
+    s.detail
 }

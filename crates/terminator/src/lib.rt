@@ -114,7 +114,8 @@ pub fn terminator_of(terminator: [u8; 4]) -> Terminator
     }
 }
 
-fn is_end(t: Terminator) -> bool
+// Whether a terminator ends its lot.
+pub fn is_end(t: Terminator) -> bool
     ensures { λ r. ⌜ r ≡ isEnd t ⌝ }
 {
     match t {
@@ -216,21 +217,12 @@ fn mark_of(d: Detail) -> Mark
     }
 }
 
-// The i-th pool of a body.
-fn pool_at(body: &[u8], i: usize) -> Detail
-    requires { ⌜ i < poolCount (now body) ⌝ }
-    ensures { λ r. ⌜ r ≡ detailAt (now (body .entry)) (placeOf i) ⌝ }
-{
-    let s = layout::next_detail(body, layout::HEADER_WIDTH + i * layout::DETAIL_WIDTH);
-    s.detail
-}
-
 // What the terminator of the i-th pool says.
 fn mark_at(body: &[u8], i: usize) -> Mark
     requires { ⌜ i < poolCount (now body) ⌝ }
     ensures { λ r. ⌜ r ≡ markOf (detailAt (now (body .entry)) (placeOf i)) ⌝ }
 {
-    let d = pool_at(body, i);
+    let d = layout::pool_at(body, i);
     mark_of(d)
 }
 
@@ -396,7 +388,7 @@ pub fn groups_of(body: &[u8]) -> Groups
 }
 
 // A pool's current face in cents, 0 where it is not digits.
-fn current_cents(d: Detail) -> u64
+pub fn current_cents(d: Detail) -> u64
     ensures { λ r. ⌜ r ≡ currentCents d ⌝ }
 {
     let current = d.current;
@@ -445,7 +437,7 @@ pub fn lot_at(body: &[u8], first: usize) -> LotRead
     let mut faces: u64 = 0;
     let mut i = first;
     while i < n {
-        let d = pool_at(body, i);
+        let d = layout::pool_at(body, i);
         let m = mark_of(d);
         let last = i;
         faces += current_cents(d);

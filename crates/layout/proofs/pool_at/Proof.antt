@@ -1,10 +1,10 @@
 -- The detail reader at the pool's place gives the pool.
 use native.Mathlib.Omega.{arith}
 use Rattle.layout.proofs.Lengths.{count-max}
 use Rattle.layout.proofs.Reader.{read-detail}
 use borrow.Author.Needs.{needs}
-use Rattle.terminator.proofs.pool_at.Statement.{statement}
-use Rattle.terminator.proofs.pool_at.Tie as tie
+use Rattle.layout.proofs.pool_at.Statement.{statement}
+use Rattle.layout.proofs.pool_at.Tie as tie
 
 mul-next-detail : tie.Need-mul-next-detail
 mul-next-detail c = omega (arith, c .before .pre, count-max (c .before .args .body .now))

@@ -1,0 +1,10 @@
+pub mod Reasons
+pub mod Records
+pub mod Messages
+pub mod Trades
+pub mod Opening
+pub mod Soundness
+pub mod Checks
+pub mod Step
+pub mod History
+pub mod Promise

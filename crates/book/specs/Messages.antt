@@ -1,0 +1,76 @@
+-- What a body says to the book (01, "Columns" and "The book"): its type, sequence, target and trade ID, the pools that it lists and the lots that it brings.
+use Prim.Native.Nat.{ℕ}
+use mathlib.Core.List.{List, [], _∷_, map}
+use mathlib.Core.Bool.{Bool, true, false, cond}
+use lib.Dec.{eqb}
+use Rattle.lists.specs.Lists.{same, keep}
+use Rattle.fields.specs.declared.Field.{Field}
+use Rattle.fields.specs.declared.Field.the-variants.{Number, NotDigits}
+use Rattle.layout.specs.declared.Detail.{Detail}
+use Rattle.layout.specs.Columns as columns
+use Rattle.layout.specs.Columns.{bytesIn, numberIn}
+use Rattle.layout.specs.Details.{details}
+use Rattle.terminator.specs.Terminators.{isCanceled}
+use Rattle.terminator.specs.Lots.{Lot}
+use Rattle.faces.specs.Faces.{newLots}
+use Rattle.tally.specs.declared.MessageType.{MessageType}
+use Rattle.tally.specs.declared.MessageType.the-variants.{On, Cc, Dk, Cx, Other}
+use Rattle.trade_id.specs.declared.TradeId.{TradeId}
+use Rattle.trade_id.specs.SpecialInstructions.{tradeIdOf}
+use Rattle.book.specs.declared.Pool.{Pool}
+use Rattle.book.specs.Records.{Fields, fieldsOf}
+
+-- "ON", "CC", "DK", "CX"; anything else is another type
+abbrev pub isNamed : List ℕ → List ℕ → Bool
+isNamed body name = same (bytesIn body columns.messageType) name
+
+unfoldable pub typeOf : List ℕ → MessageType
+typeOf body =
+    cond (isNamed body (79 ∷ 78 ∷ [])) On
+    (cond (isNamed body (67 ∷ 67 ∷ [])) Cc
+    (cond (isNamed body (68 ∷ 75 ∷ [])) Dk
+    (cond (isNamed body (67 ∷ 88 ∷ [])) Cx Other)))
+
+-- "FTBA" and "FSTI", the two contras
+abbrev pub ftba : List ℕ
+ftba = 70 ∷ 84 ∷ 66 ∷ 65 ∷ []
+
+abbrev pub fsti : List ℕ
+fsti = 70 ∷ 83 ∷ 84 ∷ 73 ∷ []
+
+abbrev pub isStipulated : List ℕ → Bool
+isStipulated body = same (bytesIn body columns.contra) fsti
+
+-- the trade ID in special instructions, and the bytes of one that is whole
+abbrev pub idIn : List ℕ → TradeId
+idIn body = tradeIdOf (bytesIn body columns.special)
+
+-- the target: eleven digits, or no message at all
+abbrev pub targetOf : List ℕ → Field
+targetOf body = numberIn body columns.target
+
+abbrev pub under : Field → Pool → Bool
+under (Number id) r = eqb (r .message) id
+under NotDigits r = false
+
+-- the pools that a message takes off: all of a DK's, a CC's canceled ones
+abbrev pub listedOf : MessageType → List Detail → List Detail
+listedOf On ds = []
+listedOf Cc ds = keep isCanceled ds
+listedOf Dk ds = ds
+listedOf Cx ds = []
+listedOf Other ds = []
+
+unfoldable pub listed : List ℕ → List Fields
+listed body = map fieldsOf (listedOf (typeOf body) (details body))
+
+-- the lots that a message brings: all of an ON's, a CC's replacements
+abbrev pub broughtBy : MessageType → List Detail → List Lot
+broughtBy On ds = newLots ds
+broughtBy Cc ds = newLots ds
+broughtBy Dk ds = []
+broughtBy Cx ds = []
+broughtBy Other ds = []
+
+unfoldable pub brought : List ℕ → List Lot
+brought body = broughtBy (typeOf body) (details body)

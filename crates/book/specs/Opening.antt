@@ -1,0 +1,138 @@
+-- Opening (01, "The book" and number 41): which values are in range, and the book and table that an accepted opening leaves.
+use Prim.Native.Nat.{ℕ, _+_}
+use mathlib.Core.List.{List, [], _∷_, map}
+use mathlib.Core.Bool.{Bool, true, false, cond, not, _&&_, _||_}
+use lib.ListN.{length, take, replicate}
+use lib.Dec.{eqb, leb}
+use Rattle.lists.specs.Lists.{same, any, all}
+use Rattle.fields.specs.Fields.{allVisible}
+use Rattle.calendar.specs.Calendar.{isDate, businessDate}
+use Rattle.sequence.specs.Sequence.{startLine}
+use Rattle.book.specs.declared.Trade.{Trade}
+use Rattle.book.specs.declared.Limits.{Limits}
+use Rattle.book.specs.declared.Values.{Values}
+use Rattle.book.specs.declared.Book.{Book}
+use Rattle.book.specs.declared.Pool.{Pool}
+use Rattle.book.specs.Records.{noPool}
+use Rattle.book.specs.Messages.{ftba, fsti}
+use Rattle.book.specs.Trades.{tradesOf, tradeName}
+
+abbrev pub tradesMax : ℕ
+tradesMax = 64
+
+abbrev pub holidaysMax : ℕ
+holidaysMax = 32
+
+abbrev pub recordsMax : ℕ
+recordsMax = 4096
+
+-- eleven digits: message IDs, and par in cents
+abbrev pub elevenDigitsMax : ℕ
+elevenDigitsMax = 99999999999
+
+-- twelve digits: a price with nine decimals
+abbrev pub priceMax : ℕ
+priceMax = 999999999999
+
+-- six digits
+abbrev pub outboundMax : ℕ
+outboundMax = 999999
+
+abbrev pub ceilingMax : ℕ
+ceilingMax = 9999
+
+-- cents a million
+abbrev pub varianceMax : ℕ
+varianceMax = 1000000
+
+abbrev pub poolsAMillionMax : ℕ
+poolsAMillionMax = 250
+
+-- dollars
+abbrev pub faceMax : ℕ
+faceMax = 50000000
+
+abbrev pub between : ℕ → ℕ → ℕ → Bool
+between low high n = leb low n && leb n high
+
+-- the holidays that are opened
+abbrev pub holidaysOf : Values → List ℕ
+holidaysOf v = take (v .days) (v .holidays)
+
+abbrev pub limitsFine : Limits → Bool
+limitsFine l = leb (l .ceiling) ceilingMax && (leb (l .variance) varianceMax && (between 1 poolsAMillionMax (l .pools) && between 1 faceMax (l .least)))
+
+-- an account, a subscriber and a connection: four characters of codes 33 to 126
+abbrev pub accountFine : List ℕ → Bool
+accountFine a = allVisible a 0 4
+
+-- an ID: 1 to 16 characters of codes 33 to 126, none of them "="
+abbrev pub idFine : Trade → Bool
+idFine t = between 1 16 (t .length) && (allVisible (t .id) 0 (t .length) && not (any (eqb 61) (tradeName t)))
+
+abbrev pub tradeFine : List ℕ → Trade → Bool
+tradeFine holidays t =
+    idFine t
+    && (accountFine (t .seller) && (accountFine (t .buyer) && (not (same (t .seller) (t .buyer))
+    && ((same (t .contra) ftba || same (t .contra) fsti)
+    && (allVisible (t .cusip) 0 9
+    && (businessDate (t .settlement) holidays
+    && (between 1 priceMax (t .price) && between 1 elevenDigitsMax (t .par))))))))
+
+-- whether some ID stands twice
+abbrev pub namesRepeat : List (List ℕ) → Bool
+namesRepeat [] = false
+namesRepeat (n ∷ ns) = any (same n) ns || namesRepeat ns
+
+-- opening's rules but for the table's length
+unfoldable pub valuesFine : Values → Bool
+valuesFine v =
+    (leb (v .count) tradesMax && leb (v .days) holidaysMax)
+    && (all isDate (holidaysOf v)
+    && (accountFine (v .subscriber) && (accountFine (v .connection)
+    && (limitsFine (v .limits)
+    && (leb (v .last) elevenDigitsMax && (leb (v .outbound .0) outboundMax
+    && (all (tradeFine (holidaysOf v)) (tradesOf v) && not (namesRepeat (map tradeName (tradesOf v))))))))))
+
+-- 41 passes: values in range, and a table that is not too long
+unfoldable pub openingFine : Values → List Pool → Bool
+openingFine v table = valuesFine v && leb (length table) recordsMax
+
+-- a trade as it is opened: open par starts at par
+abbrev pub atPar : Trade → Trade
+atPar t =
+    record {
+      id = t .id;
+      length = t .length;
+      seller = t .seller;
+      buyer = t .buyer;
+      contra = t .contra;
+      cusip = t .cusip;
+      settlement = t .settlement;
+      price = t .price;
+      par = t .par;
+      left = t .par;
+    }
+
+-- the values with other trades
+abbrev pub withTrades : Values → List Trade → Values
+withTrades v ts =
+    record {
+      trades = ts;
+      count = v .count;
+      holidays = v .holidays;
+      days = v .days;
+      subscriber = v .subscriber;
+      connection = v .connection;
+      limits = v .limits;
+      last = v .last;
+      outbound = v .outbound;
+    }
+
+-- the book that opening leaves: every trade at par, inbound expecting 1 with none received, no live pool
+unfoldable pub opened : Values → Book
+opened v = record { values = withTrades v (map atPar (v .trades)); line = startLine; live = 0 }
+
+-- the table that opening leaves: zeros
+unfoldable pub cleared : List Pool → List Pool
+cleared table = replicate (length table) noPool

@@ -1,0 +1,62 @@
+-- Demand 3: what holds after every list of frame calls put to a book that was opened without refusal, refused calls included.
+use Prim.Native.Nat.{ℕ, _+_, _-_, _≤_, _<_}
+use mathlib.Core.List.{List, [], _∷_, List·Memᴰ}
+use mathlib.Core.Bool.{Bool, true, false}
+use mathlib.Core.Path.{_≡_}
+use lib.ListN.{length, getD}
+use Rattle.terminator.specs.Lots.{poolsOf, lotMillions}
+use Rattle.layout.specs.declared.Detail.{Detail}
+use Rattle.book.specs.declared.Trade.{Trade}
+use Rattle.book.specs.declared.Values.{Values}
+use Rattle.book.specs.declared.Book.{Book}
+use Rattle.book.specs.declared.Pool.{Pool}
+use Rattle.book.specs.declared.Answer.{Answer}
+use Rattle.book.specs.Reasons.{isAccepted}
+use Rattle.book.specs.Records.{standingMillions}
+use Rattle.book.specs.Trades.{tradesOf}
+use Rattle.book.specs.Opening.{opened, cleared}
+use Rattle.book.specs.Soundness.{liveOf, isSound}
+use Rattle.book.specs.Checks.{Call, tradeAt, answerOf}
+use Rattle.book.specs.Step.{bookAfter, tableAfter}
+use Rattle.book.specs.History.{Brought, History, Fed, history, atOpening, standingWeight, millionsByOns, millionsByDks}
+
+-- book and table between two calls
+pub record State : Type 0 where
+  pub book : Book
+  pub table : List Pool
+
+-- what a call adds of its own: its body and the room in its output may be anything (time bytes and the output's content change no state)
+pub record Put : Type 0 where
+  pub body : List ℕ
+  pub room : ℕ
+
+abbrev pub callOf : State → Put → Call
+callOf s p = record { book = s .book; table = s .table; body = p .body; room = p .room }
+
+unfoldable pub after : State → Put → State
+after s p = record { book = bookAfter (callOf s p); table = tableAfter (callOf s p) }
+
+-- a list of calls: each gets book and table as the one before left them
+unfoldable pub afterAll : State → List Put → State
+afterAll s [] = s
+afterAll s (p ∷ ps) = afterAll (after s p) ps
+
+-- what the history is fed by them
+unfoldable pub fed : State → List Put → List Fed
+fed s [] = []
+fed s (p ∷ ps) = record { body = p .body; isAccepted = isAccepted (answerOf (callOf s p)) } ∷ fed (after s p) ps
+
+-- what an accepted opening leaves
+abbrev pub openedState : Values → List Pool → State
+openedState v table = record { book = opened v; table = cleared table }
+
+-- ---- the claim on a book, its table and the history of the same calls
+pub record Demand3 (v : Values) (s : State) (h : History) : Type 0 where
+  -- each trade's open par is its opening par less the weights of the lots brought to it and not taken off
+  pub historySum : (t : ℕ) → t < length (tradesOf v) → tradeAt (tradesOf (s .book .values)) t .left + standingWeight t (h .lots) ≡ tradeAt (tradesOf v) t .par
+  -- open par lies between zero and the opening par
+  pub bounded : (t : ℕ) → t < length (tradesOf v) → tradeAt (tradesOf (s .book .values)) t .left ≤ tradeAt (tradesOf v) t .par
+  -- no lot is taken off twice
+  pub once : (h′ : Brought) → List·Memᴰ h′ (h .lots) → h′ .offs ≤ 1
+  -- standing good millions are those that accepted ONs brought less those that accepted DKs took off
+  pub millions : (t : ℕ) → standingMillions t (liveOf (s .book) (s .table)) + millionsByDks t (h .lots) ≡ millionsByOns t (h .lots)

@@ -1,0 +1,85 @@
+-- Soundness (01, number 42): the facts that hold of a book and its table, each by name.
+use Prim.Native.Nat.{ℕ, _+_}
+use mathlib.Core.List.{List, [], _∷_, map}
+use mathlib.Core.Bool.{Bool, true, false, cond, not, _&&_, _||_}
+use mathlib.Core.Path.{_≡_}
+use lib.ListN.{length, take, drop, getD}
+use lib.Dec.{eqb, leb, ltb}
+use Rattle.lists.specs.Lists.{same, any, all, tab}
+use Rattle.sequence.specs.Sequence.{soundLine}
+use Rattle.book.specs.declared.Trade.{Trade}
+use Rattle.book.specs.declared.Values.{Values}
+use Rattle.book.specs.declared.Book.{Book}
+use Rattle.book.specs.declared.Pool.{Pool}
+use Rattle.book.specs.Records.{Fields, liveFields, sameFields, kindGood, kindOdd, kindBad, tradeWeight, noPool}
+use Rattle.book.specs.Trades.{tradesOf}
+use Rattle.book.specs.Opening.{valuesFine, recordsMax, elevenDigitsMax, between}
+
+-- the live records: the first of the table
+abbrev pub liveOf : Book → List Pool → List Pool
+liveOf b table = take (b .live) table
+
+-- kind and millions that a terminator gives
+abbrev pub kindFine : Pool → Bool
+kindFine r = (eqb (r .kind) kindGood && between 1 99 (r .millions)) || ((eqb (r .kind) kindOdd || eqb (r .kind) kindBad) && eqb (r .millions) 0)
+
+-- a live record by itself: a trade that is opened, an ID from 1 to the last, an ordinal, a face of eleven digits, kind and millions
+abbrev pub recordFine : Values → Pool → Bool
+recordFine v r =
+    ltb (r .trade) (v .count)
+    && (between 1 (v .last) (r .message) && (leb 1 (r .ordinal) && (leb (r .current) elevenDigitsMax && kindFine r)))
+
+-- a record after another: message ID, then ordinal, does not fall; a message's records agree on trade, a lot's on kind and millions
+abbrev pub follows : Pool → Pool → Bool
+follows q r =
+    ltb (q .message) (r .message)
+    || (eqb (q .message) (r .message) && (eqb (q .trade) (r .trade)
+    && (ltb (q .ordinal) (r .ordinal)
+    || (eqb (q .ordinal) (r .ordinal) && (eqb (q .kind) (r .kind) && eqb (q .millions) (r .millions))))))
+
+abbrev pub inOrder : List Pool → Bool
+inOrder [] = true
+inOrder (q ∷ []) = true
+inOrder (q ∷ r ∷ rs) = follows q r && inOrder (r ∷ rs)
+
+-- no matched fields twice under one message ID
+abbrev pub fieldsOnce : List Pool → Bool
+fieldsOnce [] = true
+fieldsOnce (r ∷ rs) = not (any (λ (s : Pool). eqb (r .message) (s .message) && sameFields (liveFields r) (liveFields s)) rs) && fieldsOnce rs
+
+-- zeros
+abbrev pub isNone : Pool → Bool
+isNone r =
+    eqb (r .message) 0 && (eqb (r .ordinal) 0 && (eqb (r .trade) 0
+    && (same (r .lot) (noPool .lot) && (same (r .pool) (noPool .pool) && (same (r .original) (noPool .original)
+    && (eqb (r .current) 0 && (eqb (r .kind) 0 && eqb (r .millions) 0)))))))
+
+-- open par is par less what the trade's lots weigh
+abbrev pub parsFrom : ℕ → List Trade → List Pool → Bool
+parsFrom i [] rs = true
+parsFrom i (t ∷ ts) rs = eqb (t .left + tradeWeight i rs) (t .par) && parsFrom (i + 1) ts rs
+
+-- ---- the facts by name
+pub record Sound (b : Book) (table : List Pool) : Type 0 where
+  pub values : valuesFine (b .values) ≡ true
+  pub tableShort : leb (length table) recordsMax ≡ true
+  pub inbound : soundLine (b .line) ≡ true
+  pub liveWithin : leb (b .live) (length table) ≡ true
+  pub records : all (recordFine (b .values)) (liveOf b table) ≡ true
+  pub ordered : inOrder (liveOf b table) ≡ true
+  pub once : fieldsOnce (liveOf b table) ≡ true
+  pub zeros : all isNone (drop (b .live) table) ≡ true
+  pub pars : parsFrom 0 (tradesOf (b .values)) (liveOf b table) ≡ true
+
+-- the test that decides them all
+unfoldable pub isSound : Book → List Pool → Bool
+isSound b table =
+    valuesFine (b .values)
+    && (leb (length table) recordsMax
+    && (soundLine (b .line)
+    && (leb (b .live) (length table)
+    && (all (recordFine (b .values)) (liveOf b table)
+    && (inOrder (liveOf b table)
+    && (fieldsOnce (liveOf b table)
+    && (all isNone (drop (b .live) table)
+    && parsFrom 0 (tradesOf (b .values)) (liveOf b table))))))))

@@ -1,0 +1,193 @@
+-- What a frame call leaves (01, "The book", "What goes out"): answer, book, table, output and tally after it, for any book, table, body, time bytes and output.
+use Prim.Native.Nat.{ℕ, _+_, _-_}
+use mathlib.Core.List.{List, [], _∷_, _++_}
+use mathlib.Core.Bool.{Bool, true, false, cond, not, _||_}
+use lib.ListN.{length, set, replicate}
+use Rattle.lists.specs.Lists.{keep, pasted}
+use Rattle.layout.specs.Columns as columns
+use Rattle.layout.specs.Columns.{bytesIn}
+use Rattle.sequence.specs.declared.Arrival.{Arrival}
+use Rattle.sequence.specs.declared.Arrival.the-variants.{Refused, Duplicate, Expected, Gap}
+use Rattle.sequence.specs.declared.Line.{Line}
+use Rattle.sequence.specs.declared.Outbound.{Outbound}
+use Rattle.sequence.specs.Sequence.{arrivalOf, lineAfter, nextOutbound}
+use Rattle.acknowledgment.specs.declared.Acknowledged.{Acknowledged}
+use Rattle.acknowledgment.specs.Frames.{aaBytes, txBytes, txLength}
+use Rattle.tally.specs.declared.Outcome.{Outcome}
+use Rattle.tally.specs.declared.Outcome.the-variants as outcome
+use Rattle.tally.specs.Tally.{raised}
+use Rattle.book.specs.declared.Trade.{Trade}
+use Rattle.book.specs.declared.Values.{Values}
+use Rattle.book.specs.declared.Book.{Book}
+use Rattle.book.specs.declared.Pool.{Pool}
+use Rattle.book.specs.declared.Reason.{Reason}
+use Rattle.book.specs.declared.Reason.the-variants as reason
+use Rattle.book.specs.declared.Answer.{Answer}
+use Rattle.book.specs.declared.Answer.the-variants.{Accepted, Rejected, Dked}
+use Rattle.book.specs.Reasons.{codeOf, idOf, isAccepted}
+use Rattle.book.specs.Records.{recordsOf, weightOfRecords, noPool}
+use Rattle.book.specs.Messages.{typeOf, targetOf, listed, brought}
+use Rattle.book.specs.Trades.{broughtWeight}
+use Rattle.book.specs.Opening.{withTrades}
+use Rattle.book.specs.Checks.{Call, live, trades, arrived, concerned, isTaken, taken, tradeAt, answerOf}
+
+-- 10, 11 and 42 to 44 move nothing and write nothing
+abbrev pub isSilentFor : Reason → Bool
+isSilentFor reason.Opening = true
+isSilentFor reason.Unsound = true
+isSilentFor reason.Spent = true
+isSilentFor reason.ShortOutput = true
+isSilentFor reason.Length = true
+isSilentFor reason.Sequence = true
+isSilentFor reason.Duplicate = false
+isSilentFor reason.MessageType = false
+isSilentFor reason.Version = false
+isSilentFor reason.Filler = false
+isSilentFor reason.Amounts = false
+isSilentFor reason.Parties = false
+isSilentFor reason.Cancel = false
+isSilentFor reason.LotForm = false
+isSilentFor reason.Groups = false
+isSilentFor reason.Sums = false
+isSilentFor reason.Replacements = false
+isSilentFor reason.Settlement = false
+isSilentFor reason.ReasonCode = false
+isSilentFor reason.NoTradeId = false
+isSilentFor reason.Target = false
+isSilentFor reason.TradeId = false
+isSilentFor reason.Terms = false
+isSilentFor reason.Millions = false
+isSilentFor reason.Faces = false
+isSilentFor reason.Variance = false
+isSilentFor reason.Repeated = false
+isSilentFor reason.Listed = false
+isSilentFor reason.Par = false
+isSilentFor reason.TableFull = false
+
+abbrev pub isSilent : Answer → Bool
+isSilent (Accepted id) = false
+isSilent (Rejected r) = isSilentFor r
+isSilent (Dked r) = isSilentFor r
+
+-- a gap is told by a TX; a duplicate is none
+abbrev pub isGap : Arrival → Bool
+isGap Refused = false
+isGap Duplicate = false
+isGap Expected = false
+isGap Gap = true
+
+abbrev pub gapAt : Call → Bool
+gapAt c = isGap (arrivalOf (c .book .line) (arrived (c .body)))
+
+-- ---- the counters: after a duplicate the line stays as it is, and after every other number it moves
+abbrev pub lineOf : Call → Answer → Line
+lineOf c a = cond (isSilent a) (c .book .line) (lineAfter (c .book .line) (arrived (c .body)))
+
+-- the outbound number of the AA: one more than the last, or than that of the TX before it
+abbrev pub beforeAa : Call → Outbound
+beforeAa c = cond (gapAt c) (nextOutbound (c .book .values .outbound)) (c .book .values .outbound)
+
+abbrev pub outboundOf : Call → Answer → Outbound
+outboundOf c a = cond (isSilent a) (c .book .values .outbound) (nextOutbound (beforeAa c))
+
+-- ---- trades and pools: what an accepted message takes off and brings
+-- a trade with another open par
+abbrev pub withLeft : Trade → ℕ → Trade
+withLeft t cents =
+    record {
+      id = t .id;
+      length = t .length;
+      seller = t .seller;
+      buyer = t .buyer;
+      contra = t .contra;
+      cusip = t .cusip;
+      settlement = t .settlement;
+      price = t .price;
+      par = t .par;
+      left = cents;
+    }
+
+-- open par moves by the weights
+unfoldable pub tradesMoved : Call → List Trade
+tradesMoved c =
+    set (c .book .values .trades) (concerned c)
+    (withLeft (tradeAt (trades c) (concerned c)) ((tradeAt (trades c) (concerned c) .left + weightOfRecords (taken c)) - broughtWeight (c .body)))
+
+-- the listed lots go, then the new ones come under the new ID
+unfoldable pub liveMoved : Call → List Pool
+liveMoved c =
+    keep (λ (r : Pool). not (isTaken (targetOf (c .body)) (listed (c .body)) r)) (live c)
+    ++ recordsOf (c .book .values .last + 1) (concerned c) 1 (brought (c .body))
+
+-- the table closed up, with zeros after the live records
+unfoldable pub tableMoved : Call → List Pool
+tableMoved c = liveMoved c ++ replicate (length (c .table) - length (liveMoved c)) noPool
+
+-- ---- after the call
+abbrev pub accepted : Call → Bool
+accepted c = isAccepted (answerOf c)
+
+abbrev pub tradesAfter : Call → List Trade
+tradesAfter c = cond (accepted c) (tradesMoved c) (c .book .values .trades)
+
+abbrev pub lastAfter : Call → ℕ
+lastAfter c = cond (accepted c) (c .book .values .last + 1) (c .book .values .last)
+
+abbrev pub valuesAfter : Call → Values
+valuesAfter c =
+    record {
+      trades = tradesAfter c;
+      count = c .book .values .count;
+      holidays = c .book .values .holidays;
+      days = c .book .values .days;
+      subscriber = c .book .values .subscriber;
+      connection = c .book .values .connection;
+      limits = c .book .values .limits;
+      last = lastAfter c;
+      outbound = outboundOf c (answerOf c);
+    }
+
+unfoldable pub bookAfter : Call → Book
+bookAfter c =
+    record {
+      values = valuesAfter c;
+      line = lineOf c (answerOf c);
+      live = cond (accepted c) (length (liveMoved c)) (c .book .live);
+    }
+
+unfoldable pub tableAfter : Call → List Pool
+tableAfter c = cond (accepted c) (tableMoved c) (c .table)
+
+-- ---- what goes out: on a gap a TX first, then the AA; the rest of the output stays
+abbrev pub acknowledged : Call → List ℕ → Acknowledged
+acknowledged c time =
+    record {
+      internal = bytesIn (c .body) columns.internalId;
+      message = idOf (answerOf c);
+      code = codeOf (answerOf c);
+      time = time;
+      original = bytesIn (c .body) columns.sequence;
+    }
+
+abbrev pub withTx : Call → List ℕ → List ℕ
+withTx c out =
+    cond (gapAt c)
+    (pasted out 0 (txBytes (nextOutbound (c .book .values .outbound)) (c .book .values .subscriber) (c .book .values .connection) (c .book .line .expected) (arrived (c .body))))
+    out
+
+abbrev pub aaAt : Call → ℕ
+aaAt c = cond (gapAt c) txLength 0
+
+unfoldable pub outputAfter : Call → List ℕ → List ℕ → List ℕ
+outputAfter c time out =
+    cond (isSilent (answerOf c)) out
+    (pasted (withTx c out) (aaAt c) (aaBytes (nextOutbound (beforeAa c)) (c .book .values .subscriber) (c .book .values .connection) (acknowledged c time)))
+
+-- ---- the tally: silent refusals are not in it
+abbrev pub outcomeOf : Answer → Outcome
+outcomeOf (Accepted id) = outcome.Accepted
+outcomeOf (Rejected r) = outcome.Rejected
+outcomeOf (Dked r) = outcome.Dked
+
+unfoldable pub tallyAfter : List ℕ → Answer → List (List ℕ) → List (List ℕ)
+tallyAfter body a tally = cond (isSilent a) tally (raised tally (typeOf body) (outcomeOf a))

@@ -1,0 +1,107 @@
+// The allocation book: what opening lends, what it keeps, the record of a live pool, and the answers that a frame gets.
+use sequence::Line;
+use sequence::Outbound;
+
+// The most trades and holidays that opening lends, and records that a table has.
+pub const TRADES_MAX: usize = 64;
+
+pub const HOLIDAYS_MAX: usize = 32;
+
+pub const RECORDS_MAX: usize = 4096;
+
+// A trade. Only the first length bytes of id are its ID; price has nine decimals, par and left are cents, left is the open par.
+pub struct Trade {
+    pub id: [u8; 16],
+    pub length: usize,
+    pub seller: [u8; 4],
+    pub buyer: [u8; 4],
+    pub contra: [u8; 4],
+    pub cusip: [u8; 9],
+    pub settlement: u64,
+    pub price: u64,
+    pub par: u64,
+    pub left: u64,
+}
+
+// GDMM ceiling, variance in cents a million, pools a million, least face in dollars.
+pub struct Limits {
+    pub ceiling: u64,
+    pub variance: u64,
+    pub pools: u64,
+    pub least: u64,
+}
+
+// What opening lends: the first count trades and the first days holidays count; last is the last message ID used, outbound the last outbound number.
+pub struct Values {
+    pub trades: [Trade; 64],
+    pub count: usize,
+    pub holidays: [u32; 32],
+    pub days: usize,
+    pub subscriber: [u8; 4],
+    pub connection: [u8; 4],
+    pub limits: Limits,
+    pub last: u64,
+    pub outbound: Outbound,
+}
+
+// The book: opening's values, which move with each accepted message, the inbound line, and the number of live pools in the table.
+pub struct Book {
+    pub values: Values,
+    pub line: Line,
+    pub live: usize,
+}
+
+// A live pool: under which message ID it came, its lot's ordinal there, its trade, the three matched fields as bytes,
+// its current face in cents, its lot's kind (1 good, 2 odd, 3 bad) and millions.
+pub struct Pool {
+    pub message: u64,
+    pub ordinal: u64,
+    pub trade: u64,
+    pub lot: [u8; 6],
+    pub pool: [u8; 7],
+    pub original: [u8; 9],
+    pub current: u64,
+    pub kind: u64,
+    pub millions: u64,
+}
+
+// Why a frame or an opening is refused, in the order of the checks.
+pub enum Reason {
+    Opening,
+    Unsound,
+    Spent,
+    ShortOutput,
+    Length,
+    Sequence,
+    Duplicate,
+    MessageType,
+    Version,
+    Filler,
+    Amounts,
+    Parties,
+    Cancel,
+    LotForm,
+    Groups,
+    Sums,
+    Replacements,
+    Settlement,
+    ReasonCode,
+    NoTradeId,
+    Target,
+    TradeId,
+    Terms,
+    Millions,
+    Faces,
+    Variance,
+    Repeated,
+    Listed,
+    Par,
+    TableFull,
+}
+
+// What a frame gets.
+pub enum Answer {
+    Accepted(u64),
+    Rejected(Reason),
+    Dked(Reason),
+}

@@ -1,0 +1,93 @@
+-- The faces of a message's pools: checks 34 and 35, the weight of its new lots, and its pools as they are staged (01, "The trader", "The book").
+use Prim.Native.Nat.{ℕ, _+_, _-_, _*_}
+use mathlib.Core.List.{List, _++_, map}
+use mathlib.Core.Bool.{Bool, true, false, not, _&&_, _||_}
+use lib.ListN.{length, replicate}
+use lib.Dec.{ltb}
+use Rattle.lists.specs.Lists.{keep, any, sumOf}
+use Rattle.fields.specs.declared.Field.{Field}
+use Rattle.fields.specs.declared.Field.the-variants.{Number, NotDigits}
+use Rattle.fields.specs.Fields.{readNumber}
+use Rattle.layout.specs.declared.Detail.{Detail}
+use Rattle.layout.specs.Columns.{originalFace, currentFace, terminator}
+use Rattle.layout.specs.Details.{poolsMax}
+use Rattle.terminator.specs.Terminators.{isCanceled, isGood}
+use Rattle.terminator.specs.Lots.{Lot, poolsOf, lotKind, lotMillions, lots, currentCents, millionCents, lotWeight}
+use Rattle.terminator.specs.Groups.{lotCanceled}
+use Rattle.faces.specs.declared.Staged.{Staged}
+
+-- ---- the new pools and lots of a message: an ON's, and a CC's that are not canceled
+abbrev pub isNew : Detail → Bool
+isNew d = not (isCanceled d)
+
+abbrev pub isNewLot : Lot → Bool
+isNewLot l = not (lotCanceled l)
+
+abbrev pub newPools : List Detail → List Detail
+newPools ds = keep isNew ds
+
+abbrev pub newLots : List Detail → List Lot
+newLots ds = keep isNewLot (lots ds)
+
+-- ---- 34: the highest original face, in whole dollars
+abbrev pub originalMost : ℕ
+originalMost = 50000000
+
+-- an original face that is not digits, under the least or over the highest
+abbrev pub originalFails : ℕ → Field → Bool
+originalFails least (Number n) = ltb n least || ltb originalMost n
+originalFails least NotDigits = true
+
+-- a current face that is not digits
+abbrev pub currentFails : Field → Bool
+currentFails (Number n) = false
+currentFails NotDigits = true
+
+-- 34 of one pool: both faces must be digits, and the original face within its bounds
+unfoldable pub faceFails : ℕ → Detail → Bool
+faceFails least d = currentFails (readNumber (d .current) 0 (currentFace .width)) || originalFails least (readNumber (d .original) 0 (originalFace .width))
+
+-- 34 of a message: some new pool fails it
+unfoldable pub facesFail : ℕ → List Detail → Bool
+facesFail least ds = any (faceFails least) (newPools ds)
+
+-- ---- 35: how far two sums lie apart
+abbrev pub apart : ℕ → ℕ → ℕ
+apart a b = (a - b) + (b - a)
+
+-- a good lot's sum of current faces is off its weight by more than the variance (in cents) for each million, or it has too many pools for its millions
+unfoldable pub goodLotFails : ℕ → ℕ → ℕ → ℕ → ℕ → Bool
+goodLotFails sum pools millions variance poolsAMillion =
+    ltb (variance * millions) (apart sum (millions * millionCents)) || ltb (poolsAMillion * millions) pools
+
+-- 35 of one lot: only good lots are held to it
+unfoldable pub lotFails : ℕ → ℕ → Lot → Bool
+lotFails variance poolsAMillion l =
+    isGood (lotKind l) && goodLotFails (sumOf currentCents (poolsOf l)) (length (poolsOf l)) (lotMillions l) variance poolsAMillion
+
+-- 35 of a message: some new lot fails it
+unfoldable pub lotsFail : ℕ → ℕ → List Detail → Bool
+lotsFail variance poolsAMillion ds = any (lotFails variance poolsAMillion) (newLots ds)
+
+-- ---- 38: the weight that a message brings is that of its new lots
+unfoldable pub newWeight : List Detail → ℕ
+newWeight ds = sumOf lotWeight (newLots ds)
+
+-- ---- staging: a terminator as one number of four digits, or one that no four digits make
+abbrev pub noTerminator : ℕ
+noTerminator = 10000
+
+abbrev pub fourDigits : Field → ℕ
+fourDigits (Number n) = n
+fourDigits NotDigits = noTerminator
+
+unfoldable pub terminatorNumber : Detail → ℕ
+terminatorNumber d = fourDigits (readNumber (d .terminator) 0 (terminator .width))
+
+-- an array with a number for each pool of a message, and zeros after them
+abbrev pub padded : List ℕ → List ℕ
+padded xs = xs ++ replicate (poolsMax - length xs) 0
+
+-- the pools of a message before anything is stored: current faces in cents (0 where not digits), and terminators
+unfoldable pub staged : List Detail → Staged
+staged ds = record { count = length ds; faces = padded (map currentCents ds); terminators = padded (map terminatorNumber ds) }

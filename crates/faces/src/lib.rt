@@ -1,0 +1,303 @@
+// Whether the faces of a message's new pools and lots are within their limits (checks 34 and 35), what its new lots weigh, and its pools staged before anything is stored.
+use fields::Field;
+use layout::Detail;
+use terminator::Terminator;
+ghost use mathlib.Core.Path.{_≡_};
+ghost use lib.Dec.{ltb};
+ghost use Prim.Native.Nat.{_+_, _-_, _*_, _≤_, _<_};
+ghost use Rattle.layout.specs.Details.{details, poolCount, poolsMax, detailAt, placeOf};
+ghost use Rattle.terminator.specs.Terminators.{isEnd, kindOf, millionsOf};
+ghost use Rattle.terminator.specs.Lots.{currentCents, valueOf, weightOf, millionCents};
+ghost use Rattle.faces.specs.Faces.{isNew, currentFails, originalFails, faceFails, facesFail, goodLotFails, lotsFail, newWeight, fourDigits, terminatorNumber, staged};
+ghost use Rattle.faces.specs.Runs.{faceLimit, endFails, checkPool, weighPool};
+
+// The highest original face, in whole dollars.
+pub const ORIGINAL_MOST: u64 = 50000000;
+
+// What a terminator is staged as where it is not four digits.
+pub const NO_TERMINATOR: u64 = 10000;
+
+fn is_new(d: Detail) -> bool
+    ensures { λ r. ⌜ r ≡ isNew d ⌝ }
+{
+    let bytes = d.terminator;
+    bytes[0] != terminator::CANCELED
+}
+
+fn current_fails(f: Field) -> bool
+    ensures { λ r. ⌜ r ≡ currentFails f ⌝ }
+{
+    match f {
+        Field::Number(_) => false,
+        Field::NotDigits => true,
+    }
+}
+
+fn original_fails(f: Field, least: u64) -> bool
+    ensures { λ r. ⌜ r ≡ originalFails least f ⌝ }
+{
+    match f {
+        Field::Number(n) => (n < least) | (ORIGINAL_MOST < n),
+        Field::NotDigits => true,
+    }
+}
+
+// 34 of one pool.
+pub fn face_fails(d: Detail, least: u64) -> bool
+    ensures { λ r. ⌜ r ≡ faceFails least d ⌝ }
+{
+    let current = d.current;
+    let original = d.original;
+    let c = fields::read_number(&current, 0, layout::CURRENT_FACE.width);
+    let o = fields::read_number(&original, 0, layout::ORIGINAL_FACE.width);
+    current_fails(c) | original_fails(o, least)
+}
+
+// 34 of a message: some new pool fails it.
+pub fn faces_fail(body: &[u8], least: u64) -> bool
+    ensures { λ r. ⌜ r ≡ facesFail least (details (now (body .entry))) ⌝ }
+{
+    let n = layout::pool_count(body);
+    let mut fails = false;
+    let mut i: usize = 0;
+    while i < n {
+        let d = layout::pool_at(body, i);
+        i += 1;
+        fails = fails | (is_new(d) & face_fails(d, least));
+    }
+    fails
+}
+
+// Whether a is more than b × c, of any numbers.
+fn over(a: u64, b: u64, c: u64) -> bool
+    ensures { λ r. ⌜ r ≡ ltb (c * b) a ⌝ }
+{
+    if a == 0 {
+        return false;
+    }
+    if b == 0 {
+        return true;
+    }
+    c <= (a - 1) / b
+}
+
+// Whether a sum is over the millions' weight by more than the variance.
+fn too_heavy(sum: u64, millions: u64, variance: u64) -> bool
+    ensures { λ r. ⌜ r ≡ ltb (variance * millions) (sum - millions * millionCents) ⌝ }
+{
+    if over(sum, millions, terminator::MILLION_CENTS) {
+        return over(
+            sum - millions * terminator::MILLION_CENTS,
+            millions,
+            variance,
+        );
+    }
+    false
+}
+
+// Whether a sum is under the millions' weight by more than the variance.
+fn too_light(sum: u64, millions: u64, variance: u64) -> bool
+    ensures { λ r. ⌜ r ≡ ltb (variance * millions) (millions * millionCents - sum) ⌝ }
+{
+    if terminator::MILLION_CENTS <= variance {
+        return false;
+    }
+    sum / (terminator::MILLION_CENTS - variance) < millions
+}
+
+// 35's arithmetic: the sum of a good lot's current faces, its pools and its millions against the limits.
+pub fn good_lot_fails(
+    sum: u64,
+    pools: u64,
+    millions: u64,
+    variance: u64,
+    pools_a_million: u64,
+) -> bool
+    ensures { λ r. ⌜ r ≡ goodLotFails sum pools millions variance «pools_a_million» ⌝ }
+{
+    too_heavy(sum, millions, variance)
+        | too_light(sum, millions, variance)
+        | over(pools, millions, pools_a_million)
+}
+
+// 35 of a lot by its end, the sum of its current faces and its pools.
+fn end_fails(t: Terminator, sum: u64, pools: u64, variance: u64, pools_a_million: u64) -> bool
+    ensures { λ r. ⌜ r ≡ endFails t sum pools variance «pools_a_million» ⌝ }
+{
+    match t {
+        Terminator::Middle => false,
+        Terminator::BadMiddle => false,
+        Terminator::GoodEnd(millions) => good_lot_fails(
+            sum,
+            pools,
+            millions,
+            variance,
+            pools_a_million,
+        ),
+        Terminator::OddEnd => false,
+        Terminator::BadEnd => false,
+        Terminator::Wrong => false,
+    }
+}
+
+// The weight of a lot by its end and the sum of its current faces.
+fn end_weight(t: Terminator, sum: u64) -> u64
+    requires { ⌜ millionsOf t ≤ 99 ⌝ }
+    ensures { λ r. ⌜ r ≡ weightOf (kindOf t) (millionsOf t) sum ⌝ }
+{
+    match t {
+        Terminator::Middle => sum,
+        Terminator::BadMiddle => sum,
+        Terminator::GoodEnd(millions) => millions * terminator::MILLION_CENTS,
+        Terminator::OddEnd => sum,
+        Terminator::BadEnd => sum,
+        Terminator::Wrong => sum,
+    }
+}
+
+// The sum and the number of the pools since the last end, and whether a new lot before it failed 35.
+struct Checked {
+    cents: u64,
+    pools: u64,
+    fails: bool,
+}
+
+// One pool more.
+fn check_pool(s: Checked, d: Detail, variance: u64, pools_a_million: u64) -> Checked
+    requires { ⌜ s .cents ≤ poolsMax * faceLimit ⌝ }
+    requires { ⌜ s .pools ≤ poolsMax ⌝ }
+    ensures { λ r. ⌜ r ≡ checkPool variance «pools_a_million» s d ⌝ }
+{
+    let cents = s.cents + terminator::current_cents(d);
+    let pools = s.pools + 1;
+    let fails = s.fails;
+    let bytes = d.terminator;
+    let t = terminator::terminator_of(bytes);
+    if !terminator::is_end(t) {
+        return Checked {
+            cents: cents,
+            pools: pools,
+            fails: fails,
+        };
+    }
+    Checked {
+        cents: 0,
+        pools: 0,
+        fails: fails | (is_new(d) & end_fails(t, cents, pools, variance, pools_a_million)),
+    }
+}
+
+// 35 of a message: some new lot fails it.
+pub fn lots_fail(body: &[u8], variance: u64, pools_a_million: u64) -> bool
+    ensures { λ r. ⌜ r ≡ lotsFail variance «pools_a_million» (details (now (body .entry))) ⌝ }
+{
+    let n = layout::pool_count(body);
+    let mut s = Checked {
+        cents: 0,
+        pools: 0,
+        fails: false,
+    };
+    let mut i: usize = 0;
+    while i < n {
+        let d = layout::pool_at(body, i);
+        i += 1;
+        s = check_pool(s, d, variance, pools_a_million);
+    }
+    s.fails
+}
+
+// The sum of the pools since the last end, and the weight of the new lots before it.
+struct Weighed {
+    cents: u64,
+    weight: u64,
+}
+
+// One pool more.
+fn weigh_pool(s: Weighed, d: Detail) -> Weighed
+    requires { ⌜ s .cents + s .weight ≤ poolsMax * faceLimit ⌝ }
+    ensures { λ r. ⌜ r ≡ weighPool s d ⌝ }
+{
+    let cents = s.cents + terminator::current_cents(d);
+    let weight = s.weight;
+    let bytes = d.terminator;
+    let t = terminator::terminator_of(bytes);
+    if !terminator::is_end(t) {
+        return Weighed {
+            cents: cents,
+            weight: weight,
+        };
+    }
+    if !is_new(d) {
+        return Weighed {
+            cents: 0,
+            weight: weight,
+        };
+    }
+    Weighed {
+        cents: 0,
+        weight: weight + end_weight(t, cents),
+    }
+}
+
+// The weight that a message brings: that of its new lots.
+pub fn new_weight(body: &[u8]) -> u64
+    ensures { λ r. ⌜ r ≡ newWeight (details (now (body .entry))) ⌝ }
+{
+    let n = layout::pool_count(body);
+    let mut s = Weighed {
+        cents: 0,
+        weight: 0,
+    };
+    let mut i: usize = 0;
+    while i < n {
+        let d = layout::pool_at(body, i);
+        i += 1;
+        s = weigh_pool(s, d);
+    }
+    s.weight
+}
+
+// The pools of a message before anything is stored: current faces in cents and terminators, zeros after count.
+pub struct Staged {
+    pub count: usize,
+    pub faces: [u64; layout::POOLS_MAX],
+    pub terminators: [u64; layout::POOLS_MAX],
+}
+
+fn four_digits(f: Field) -> u64
+    ensures { λ r. ⌜ r ≡ fourDigits f ⌝ }
+{
+    match f {
+        Field::Number(n) => n,
+        Field::NotDigits => NO_TERMINATOR,
+    }
+}
+
+fn terminator_number(d: Detail) -> u64
+    ensures { λ r. ⌜ r ≡ terminatorNumber d ⌝ }
+{
+    let bytes = d.terminator;
+    let f = fields::read_number(&bytes, 0, layout::TERMINATOR.width);
+    four_digits(f)
+}
+
+// Stages the pools of a message.
+pub fn stage(body: &[u8]) -> Staged
+    ensures { λ r. ⌜ r ≡ staged (details (now (body .entry))) ⌝ }
+{
+    let mut faces = [0u64; layout::POOLS_MAX];
+    let mut terminators = [0u64; layout::POOLS_MAX];
+    let n = layout::pool_count(body);
+    let mut i: usize = 0;
+    while i < n {
+        let d = layout::pool_at(body, i);
+        faces[i] = terminator::current_cents(d);
+        terminators[i] = terminator_number(d);
+        i += 1;
+    }
+    Staged {
+        count: n,
+        faces: faces,
+        terminators: terminators,
+    }
+}
