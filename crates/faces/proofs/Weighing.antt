@@ -15,7 +15,7 @@ use Rattle.terminator.specs.Lots.{Lot, currentCents, weightOf, lotWeight, lots}
 use Rattle.terminator.proofs.Marks.{millions-small}
 use Rattle.faces.specs.declared.Weighed.{Weighed}
 use Rattle.faces.specs.Faces.{isNew, isNewLot, newWeight}
-use Rattle.faces.specs.Runs.{faceLimit, weighPool}
+use Rattle.faces.specs.Runs.{faceLimit, millionsMost, weighPool}
 use Rattle.faces.proofs.Kept.{addKept, fold-kept}
 use Rattle.faces.proofs.Lotwise.{lotOf, lotwise, cents-snoc}
 use Rattle.terminator.proofs.Found.{cents-small}
@@ -23,7 +23,7 @@ use Rattle.terminator.proofs.Found.{cents-small}
 abbrev pub noneWeighed : Weighed
 noneWeighed = record { cents = 0; weight = 0 }
 
-weight-small : (t : Terminator) (sum face : ℕ) → millionsOf t ≤ 99 → face < faceLimit → weightOf (kindOf t) (millionsOf t) (sum + face) ≤ sum + faceLimit
+weight-small : (t : Terminator) (sum face : ℕ) → millionsOf t ≤ millionsMost → face < faceLimit → weightOf (kindOf t) (millionsOf t) (sum + face) ≤ sum + faceLimit
 weight-small Middle sum face h k = omega arith
 weight-small BadMiddle sum face h k = omega arith
 weight-small (GoodEnd n) sum face h k = omega arith

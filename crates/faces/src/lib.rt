@@ -9,7 +9,7 @@ ghost use Rattle.layout.specs.Details.{details, poolCount, poolsMax, detailAt, 
 ghost use Rattle.terminator.specs.Terminators.{isEnd, kindOf, millionsOf};
 ghost use Rattle.terminator.specs.Lots.{currentCents, valueOf, weightOf, millionCents};
 ghost use Rattle.faces.specs.Faces.{isNew, currentFails, originalFails, faceFails, facesFail, goodLotFails, lotsFail, newWeight, fourDigits, terminatorNumber, staged};
-ghost use Rattle.faces.specs.Runs.{faceLimit, endFails, checkPool, weighPool};
+ghost use Rattle.faces.specs.Runs.{faceLimit, millionsMost, endFails, checkPool, weighPool};
 
 // The highest original face, in whole dollars.
 pub const ORIGINAL_MOST: u64 = 50000000;
@@ -142,7 +142,7 @@ fn end_fails(t: Terminator, sum: u64, pools: u64, variance: u64, pools_a_million
 
 // The weight of a lot by its end and the sum of its current faces.
 fn end_weight(t: Terminator, sum: u64) -> u64
-    requires { ⌜ millionsOf t ≤ 99 ⌝ }
+    requires { ⌜ millionsOf t ≤ millionsMost ⌝ }
     ensures { λ r. ⌜ r ≡ weightOf (kindOf t) (millionsOf t) sum ⌝ }
 {
     match t {

@@ -1,4 +1,4 @@
--- A good lot has at most 99 millions, so their cents fit.
+-- A good lot's millions are few, so their cents fit.
 use mathlib.Core.Path.{sym, ap}
 use Rattle.terminator.specs.declared.Terminator.{Terminator}
 use Rattle.terminator.specs.Terminators.{kindOf, millionsOf}
