@@ -121,8 +121,11 @@ fn lot_of(random: &mut Random, kind: Kind, millions: u64) -> DraftLot {
 }
 
 fn draft_pool(random: &mut Random, current_face_cents: u64) -> DraftPool {
-    let dollars = random.pick(&[1, 999, 1_000, 1_001, 25_000, 1_000_000, 50_000_000]);
-    let dollars = if random.percent(3) { random.below(1_000_000_000) } else { dollars };
+    let dollars = match random.below(100) {
+        0 => random.below(1_000_000_000),
+        1 => random.pick(&[0, 1, 999, 50_000_001]),
+        _ => random.pick(&[1_000, 1_001, 25_000, 1_000_000, 50_000_000]),
+    };
     let matched = MatchedFields {
         lot_id: random.text(),
         pool_number: random.text(),

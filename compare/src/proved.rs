@@ -7,6 +7,7 @@ use reference::lots::{Kind, Lot};
 use reference::sequence::{Inbound, Judgement};
 use reference::terminator::{position_one, Position};
 use reference::trade_id::TradeId;
+use reference::values::Limits;
 
 /// A lent slice is a pointer and a length.
 mod exported {
@@ -36,6 +37,11 @@ mod exported {
             out: *mut u64,
             out_len: usize,
         );
+
+        pub fn rhoikandra_faces_fail(body: *const u8, len: usize, least: u64) -> bool;
+        pub fn rhoikandra_lots_fail(body: *const u8, len: usize, variance: u64, pools: u64)
+            -> bool;
+        pub fn rhoikandra_new_weight(body: *const u8, len: usize) -> u64;
 
         pub fn rhoikandra_is_date(n: u64) -> bool;
         pub fn rhoikandra_business_date(n: u64, holidays: *const u32, len: usize) -> bool;
@@ -168,6 +174,24 @@ pub fn lot_at(body: &[u8], first: usize) -> Option<(Lot, u64)> {
     let pools = last as usize + 1 - first;
     let position_one = position_one(&[one as u8, 0, 0, 0]);
     Some((Lot { first, pools, position_one, kind, millions }, weight_cents))
+}
+
+/// Whether a new pool of a body fails check 34.
+pub fn faces_fail(body: &[u8], limits: &Limits) -> bool {
+    unsafe { rhoikandra_faces_fail(body.as_ptr(), body.len(), limits.least_face_dollars) }
+}
+
+/// Whether a new lot of a body fails check 35.
+pub fn lots_fail(body: &[u8], limits: &Limits) -> bool {
+    let Limits { variance_cents_a_million, pools_a_million, .. } = *limits;
+    unsafe {
+        rhoikandra_lots_fail(body.as_ptr(), body.len(), variance_cents_a_million, pools_a_million)
+    }
+}
+
+/// The weight of the new lots of a body, in cents.
+pub fn new_weight_cents(body: &[u8]) -> u64 {
+    unsafe { rhoikandra_new_weight(body.as_ptr(), body.len()) }
 }
 
 pub fn is_date(mmddyyyy: u64) -> bool {

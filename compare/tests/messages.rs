@@ -1,13 +1,16 @@
-//! Bodies: their pools, lots, groups, sums, counts, millions and weights.
+//! Bodies: their pools, lots, groups, sums, counts, millions, weights and faces.
 
 use compare::bodies::body;
 use compare::cases::Cases;
 use compare::proved;
-use reference::generator::day;
+use reference::faces::{lot_passes_35, pool_passes_34};
+use reference::generator::{day, Random};
 use reference::groups::{groups, replacement_count, sums_agree};
-use reference::lots::{good_millions, lots_of_cc, lots_of_on, Lot};
+use reference::lots::{good_millions, lots_of_cc, lots_of_on, weight_cents, Lot};
 use reference::message::Message;
 use reference::pool_detail::PoolDetail;
+use reference::terminator::PositionOne;
+use reference::values::Limits;
 
 /// How often each way through the comparison was taken, so that none is idle.
 #[derive(Debug, Default)]
@@ -22,10 +25,23 @@ struct Met {
     unbalanced: u32,
     weighed: u32,
     not_digits: u32,
+    passed_34: u32,
+    failed_34: u32,
+    passed_35: u32,
+    failed_35: u32,
+}
+
+fn limits(random: &mut Random) -> Limits {
+    Limits {
+        gdmm_ceiling: 2_500,
+        variance_cents_a_million: random.pick(&[0, 10_000, 10_001, 1_000_000]),
+        pools_a_million: random.pick(&[1, 3, 5, 250]),
+        least_face_dollars: random.pick(&[1, 1_000, 1_000, 1_000, 1_001, 25_000, 50_000_000]),
+    }
 }
 
 /// All that both say of one body.
-fn compare(body: &[u8], met: &mut Met) {
+fn compare(body: &[u8], limits: &Limits, met: &mut Met) {
     let Some(message) = Message::read(body) else {
         met.wrong_length += 1;
         assert_eq!(proved::pool_count(body), 0);
@@ -46,10 +62,12 @@ fn compare(body: &[u8], met: &mut Met) {
     if let Some(lots) = &on {
         assert_eq!(proved::good_millions(body), good_millions(lots));
         each_lot(body, &details, lots_of_on, met);
+        new_lots(body, &details, lots, limits, met);
     }
     if let Some(lots) = &cc {
         assert_eq!(proved::good_millions(body), good_millions(lots));
         each_lot(body, &details, lots_of_cc, met);
+        new_lots(body, &details, lots, limits, met);
         each_group(body, lots, met);
     }
 }
@@ -79,6 +97,29 @@ fn each_lot(
     }
 }
 
+/// Checks 34 and 35 and the weight of the lots that a message brings. The paper asks 35 and the
+/// weight only where 34 passes.
+fn new_lots(body: &[u8], details: &[PoolDetail], lots: &[Lot], limits: &Limits, met: &mut Met) {
+    let mut new = lots.to_vec();
+    new.retain(|lot| lot.position_one != PositionOne::Canceled);
+    let pools = new.iter().flat_map(|lot| lot.of(details));
+    let passed_34 = pools.into_iter().all(|pool| pool_passes_34(pool, limits));
+    assert_eq!(proved::faces_fail(body, limits), !passed_34);
+    met.passed_34 += u32::from(passed_34);
+    met.failed_34 += u32::from(!passed_34);
+    let Some(weight_cents) = weight_cents(&new, details) else {
+        return;
+    };
+    assert_eq!(proved::new_weight_cents(body), weight_cents);
+    if !passed_34 {
+        return;
+    }
+    let passed_35 = new.iter().all(|lot| lot_passes_35(lot, details, limits));
+    assert_eq!(proved::lots_fail(body, limits), !passed_35);
+    met.passed_35 += u32::from(passed_35);
+    met.failed_35 += u32::from(!passed_35);
+}
+
 fn each_group(body: &[u8], lots: &[Lot], met: &mut Met) {
     let groups = groups(lots);
     assert_eq!(proved::groups_formed(body), groups.is_some());
@@ -99,23 +140,26 @@ fn random_bodies() {
     let mut met = Met::default();
     for _ in 0..40_000 {
         let body = body(&mut cases.random);
-        compare(&body, &mut met);
+        let limits = limits(&mut cases.random);
+        compare(&body, &limits, &mut met);
         cases.count();
     }
     println!("{met:?}");
-    let Met { wrong_length, on_formed, cc_formed, unformed, .. } = met;
-    let Met { grouped, ungrouped, balanced, unbalanced, weighed, not_digits, .. } = met;
     let ways = [
-        wrong_length,
-        on_formed,
-        cc_formed,
-        unformed,
-        grouped,
-        ungrouped,
-        balanced,
-        unbalanced,
-        weighed,
-        not_digits,
+        met.wrong_length,
+        met.on_formed,
+        met.cc_formed,
+        met.unformed,
+        met.grouped,
+        met.ungrouped,
+        met.balanced,
+        met.unbalanced,
+        met.weighed,
+        met.not_digits,
+        met.passed_34,
+        met.failed_34,
+        met.passed_35,
+        met.failed_35,
     ];
     assert!(ways.iter().all(|count| *count >= 100), "a way was met too seldom");
 }
@@ -126,8 +170,9 @@ fn bodies_of_days() {
     let mut met = Met::default();
     for _ in 0..100 {
         let seed = cases.random.number();
-        for call in day(seed).calls {
-            compare(&call.body, &mut met);
+        let day = day(seed);
+        for call in day.calls {
+            compare(&call.body, &day.opening.limits, &mut met);
             cases.count();
         }
     }

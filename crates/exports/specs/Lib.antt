@@ -1,4 +1,0 @@
-pub mod Numbers
-pub mod Cells
-pub mod LotNumbers
-pub mod Said
