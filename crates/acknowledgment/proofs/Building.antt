@@ -6,8 +6,8 @@ use native.Mathlib.Omega.{arith}
 use lib.ListN.{length, length-append, length-map}
 use Rattle.lists.specs.Lists.{pasted}
 use Rattle.lists.proofs.Pasting.{paste-more, paste-whole}
-use Rattle.fields.specs.Fields.{digitsOf}
-use Rattle.fields.proofs.Written.{digits-length}
+use Rattle.output.specs.Output.{digitsOf}
+use Rattle.output.proofs.Written.{digits-length}
 use Rattle.sequence.specs.declared.Outbound.{Outbound}
 
 -- the frame o is o₀ with the parts xs at its front, n elements, if there is room for them

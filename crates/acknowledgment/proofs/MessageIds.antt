@@ -7,8 +7,8 @@ use lib.ListN.{length}
 use lib.Dec.{eqb}
 use borrow.Author.Tests.{eq-eqb, ne-eqb}
 use Rattle.lists.specs.Lists.{pasted}
-use Rattle.fields.specs.Fields.{digitsOf, blanks}
-use Rattle.fields.proofs.Written.{digits-length}
+use Rattle.output.specs.Output.{digitsOf, blanks}
+use Rattle.output.proofs.Written.{digits-length}
 use Rattle.acknowledgment.specs.Frames.{accepted, messageWidth, messageId}
 
 module _ (out : List ℕ) (at message code : ℕ) where

@@ -4,7 +4,7 @@ use mathlib.Core.List.{List, [], _∷_, _++_}
 use mathlib.Core.Bool.{cond}
 use lib.ListN.{length}
 use lib.Dec.{eqb}
-use Rattle.fields.specs.Fields.{digitsOf, blanks}
+use Rattle.output.specs.Output.{digitsOf, blanks}
 use Rattle.sequence.specs.declared.Inbound.{Inbound}
 use Rattle.sequence.specs.declared.Outbound.{Outbound}
 use Rattle.acknowledgment.specs.declared.Acknowledged.{Acknowledged}

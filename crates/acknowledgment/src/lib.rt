@@ -91,12 +91,12 @@ fn opening_of(
     ensures { λ r. ⌜ r ≡ opening kind number subscriber connection ⌝ }
 {
     let mut frame = [0u8; OPENING_LENGTH];
-    fields::put_bytes(&mut frame, 0, &START);
-    fields::put_bytes(&mut frame, KIND_AT, &kind);
-    fields::put_digits(&mut frame, NUMBER_AT, SEQUENCE_WIDTH, number.0 as u64);
-    fields::put_bytes(&mut frame, VERSION_AT, b"002");
-    fields::put_bytes(&mut frame, SUBSCRIBER_AT, &subscriber);
-    fields::put_bytes(&mut frame, CONNECTION_AT, &connection);
+    output::put_bytes(&mut frame, 0, &START);
+    output::put_bytes(&mut frame, KIND_AT, &kind);
+    output::put_digits(&mut frame, NUMBER_AT, SEQUENCE_WIDTH, number.0 as u64);
+    output::put_bytes(&mut frame, VERSION_AT, b"002");
+    output::put_bytes(&mut frame, SUBSCRIBER_AT, &subscriber);
+    output::put_bytes(&mut frame, CONNECTION_AT, &connection);
     frame
 }
 
@@ -105,10 +105,10 @@ fn put_message_id(out: &mut [u8], at: usize, message: u64, code: u64)
     ensures { λ _. ⌜ now (out .exit) ≡ pasted (now (out .entry)) at (messageId message code) ⌝ }
 {
     if code == ACCEPTED {
-        fields::put_digits(&mut *out, at, MESSAGE_WIDTH, message);
+        output::put_digits(&mut *out, at, MESSAGE_WIDTH, message);
         return;
     }
-    fields::put_blanks(&mut *out, at, MESSAGE_WIDTH);
+    output::put_blanks(&mut *out, at, MESSAGE_WIDTH);
 }
 
 // The whole AA.
@@ -125,13 +125,13 @@ fn aa_frame(
     let time = a.time;
     let original = a.original;
     let mut frame = [0u8; AA_LENGTH];
-    fields::put_bytes(&mut frame, 0, &front);
-    fields::put_bytes(&mut frame, INTERNAL_AT, &internal);
+    output::put_bytes(&mut frame, 0, &front);
+    output::put_bytes(&mut frame, INTERNAL_AT, &internal);
     put_message_id(&mut frame, MESSAGE_AT, a.message, a.code);
-    fields::put_digits(&mut frame, CODE_AT, CODE_WIDTH, a.code);
-    fields::put_bytes(&mut frame, TIME_AT, &time);
-    fields::put_bytes(&mut frame, ORIGINAL_AT, &original);
-    fields::put_bytes(&mut frame, AA_END_AT, &END);
+    output::put_digits(&mut frame, CODE_AT, CODE_WIDTH, a.code);
+    output::put_bytes(&mut frame, TIME_AT, &time);
+    output::put_bytes(&mut frame, ORIGINAL_AT, &original);
+    output::put_bytes(&mut frame, AA_END_AT, &END);
     frame
 }
 
@@ -140,11 +140,11 @@ fn gap_text(expected: Inbound, received: Inbound) -> [u8; TEXT_LENGTH]
     ensures { λ r. ⌜ r ≡ text expected received ⌝ }
 {
     let mut words = [0u8; TEXT_LENGTH];
-    fields::put_bytes(&mut words, 0, b"EXPECTED SEQ # ");
-    fields::put_digits(&mut words, EXPECTED_AT, SEQUENCE_WIDTH, expected.0 as u64);
-    fields::put_bytes(&mut words, BETWEEN_AT, b", RECEIVED SEQ # ");
-    fields::put_digits(&mut words, RECEIVED_AT, SEQUENCE_WIDTH, received.0 as u64);
-    fields::put_blanks(&mut words, BLANKS_AT, BLANKS_LENGTH);
+    output::put_bytes(&mut words, 0, b"EXPECTED SEQ # ");
+    output::put_digits(&mut words, EXPECTED_AT, SEQUENCE_WIDTH, expected.0 as u64);
+    output::put_bytes(&mut words, BETWEEN_AT, b", RECEIVED SEQ # ");
+    output::put_digits(&mut words, RECEIVED_AT, SEQUENCE_WIDTH, received.0 as u64);
+    output::put_blanks(&mut words, BLANKS_AT, BLANKS_LENGTH);
     words
 }
 
@@ -161,10 +161,10 @@ fn tx_frame(
     let front = opening_of(TX, number, subscriber, connection);
     let words = gap_text(expected, received);
     let mut frame = [0u8; TX_LENGTH];
-    fields::put_bytes(&mut frame, 0, &front);
-    fields::put_bytes(&mut frame, CATEGORY_AT, b"GD");
-    fields::put_bytes(&mut frame, TEXT_AT, &words);
-    fields::put_bytes(&mut frame, TX_END_AT, &END);
+    output::put_bytes(&mut frame, 0, &front);
+    output::put_bytes(&mut frame, CATEGORY_AT, b"GD");
+    output::put_bytes(&mut frame, TEXT_AT, &words);
+    output::put_bytes(&mut frame, TX_END_AT, &END);
     frame
 }
 
@@ -181,7 +181,7 @@ pub fn put_aa(
 {
     let number = sequence::next(last);
     let frame = aa_frame(number, subscriber, connection, a);
-    fields::put_bytes(&mut *out, at, &frame);
+    output::put_bytes(&mut *out, at, &frame);
     number
 }
 
@@ -199,6 +199,6 @@ pub fn put_tx(
 {
     let number = sequence::next(last);
     let frame = tx_frame(number, subscriber, connection, expected, received);
-    fields::put_bytes(&mut *out, at, &frame);
+    output::put_bytes(&mut *out, at, &frame);
     number
 }

@@ -6,7 +6,7 @@ use Prim.Native.Nat.{ℕ, _≤_, _<_}
 use lib.Dec.{eqb}
 use borrow.Author.Tests.{lt-ltb, le-ltb}
 use Rattle.lists.specs.Lists.{any}
-use Rattle.calendar.specs.Calendar.{WORKDAYS, isDate, weekdayOf, businessDate}
+use Rattle.calendar.specs.Calendar.{workdays, isDate, weekdayOf, businessDate}
 
 module _ (n : ℕ) (holidays : List ℕ) where
   pub no-date : isDate n ≡ false → false ≡ businessDate n holidays
@@ -14,10 +14,10 @@ module _ (n : ℕ) (holidays : List ℕ) where
   no-date e = rw e
 
   module _ (e : isDate n ≡ true) (day : ℕ) (d : day ≡ weekdayOf n) where
-    pub weekend : WORKDAYS ≤ day → false ≡ businessDate n holidays
+    pub weekend : workdays ≤ day → false ≡ businessDate n holidays
     unfolding businessDate
-    weekend h = rw (e, ← d, le-ltb day WORKDAYS h)
+    weekend h = rw (e, ← d, le-ltb day workdays h)
 
-    pub workday : day < WORKDAYS → (listed : Bool) → listed ≡ any (eqb n) holidays → not listed ≡ businessDate n holidays
+    pub workday : day < workdays → (listed : Bool) → listed ≡ any (eqb n) holidays → not listed ≡ businessDate n holidays
     unfolding businessDate
-    workday h listed l = rw (e, ← d, lt-ltb day WORKDAYS h, l)
+    workday h listed l = rw (e, ← d, lt-ltb day workdays h, l)

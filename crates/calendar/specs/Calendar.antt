@@ -6,24 +6,24 @@ use lib.Dec.{eqb, leb, ltb}
 use Rattle.lists.specs.Lists.{any}
 
 -- dates run from this year
-abbrev pub FIRST-YEAR : ℕ
-FIRST-YEAR = 1990
+abbrev pub firstYear : ℕ
+firstYear = 1990
 
 -- up to the end of this one
-abbrev pub LAST-YEAR : ℕ
-LAST-YEAR = 2099
+abbrev pub lastYear : ℕ
+lastYear = 2099
 
 -- the months of a year
-abbrev pub MONTHS : ℕ
-MONTHS = 12
+abbrev pub monthsOfYear : ℕ
+monthsOfYear = 12
 
 -- the days of a week
-abbrev pub DAYS-OF-WEEK : ℕ
-DAYS-OF-WEEK = 7
+abbrev pub daysOfWeek : ℕ
+daysOfWeek = 7
 
 -- Monday to Friday
-abbrev pub WORKDAYS : ℕ
-WORKDAYS = 5
+abbrev pub workdays : ℕ
+workdays = 5
 
 -- the first two of eight digits
 abbrev pub monthOf : ℕ → ℕ
@@ -53,7 +53,7 @@ daysOfMonth isLeap month =
 -- the days of so many years, from 1990 on
 abbrev pub daysOfYears : ℕ → ℕ
 daysOfYears zero = 0
-daysOfYears (suc years) = daysOfYears years + daysOfYear (FIRST-YEAR + years)
+daysOfYears (suc years) = daysOfYears years + daysOfYear (firstYear + years)
 
 -- the days of so many months, from January on
 abbrev pub daysOfMonths : Bool → ℕ → ℕ
@@ -62,19 +62,19 @@ daysOfMonths isLeap (suc months) = daysOfMonths isLeap months + daysOfMonth isLe
 
 -- the days from Monday 1 January 1990 to a date
 unfoldable pub dayNumber : ℕ → ℕ → ℕ → ℕ
-dayNumber year month day = daysOfYears (year - FIRST-YEAR) + daysOfMonths (leap year) (month - 1) + (day - 1)
+dayNumber year month day = daysOfYears (year - firstYear) + daysOfMonths (leap year) (month - 1) + (day - 1)
 
 -- the day of the week: 0 is Monday, 4 Friday
 unfoldable pub weekdayOf : ℕ → ℕ
-weekdayOf n = dayNumber (yearOf n) (monthOf n) (dayOf n) % DAYS-OF-WEEK
+weekdayOf n = dayNumber (yearOf n) (monthOf n) (dayOf n) % daysOfWeek
 
 -- a Gregorian date from 1990 to 2099
 unfoldable pub isDate : ℕ → Bool
 isDate n =
-    leb FIRST-YEAR (yearOf n) && leb (yearOf n) LAST-YEAR
-    && leb 1 (monthOf n) && leb (monthOf n) MONTHS
+    leb firstYear (yearOf n) && leb (yearOf n) lastYear
+    && leb 1 (monthOf n) && leb (monthOf n) monthsOfYear
     && leb 1 (dayOf n) && leb (dayOf n) (daysOfMonth (leap (yearOf n)) (monthOf n))
 
 -- a date, Monday to Friday, that is not a listed holiday
 unfoldable pub businessDate : ℕ → List ℕ → Bool
-businessDate n holidays = isDate n && ltb (weekdayOf n) WORKDAYS && not (any (eqb n) holidays)
+businessDate n holidays = isDate n && ltb (weekdayOf n) workdays && not (any (eqb n) holidays)

@@ -1,4 +1,3 @@
 pub mod Read
 pub mod Compared
-pub mod Written
 pub mod Bounds

@@ -1,10 +1,9 @@
--- Fixed columns of bytes (01, "Text is ASCII, blank is hex 20, numbers are decimal digits"): read, compared and written, at any place and width.
-use Prim.Native.Nat.{ℕ, zero, suc, _+_, _-_, _*_, _/_, _%_}
-use mathlib.Core.List.{List, [], _∷_, _++_}
-use mathlib.Core.Bool.{Bool, true, false, cond, _&&_}
-use lib.ListN.{replicate}
+-- Fixed columns of bytes (01, "Text is ASCII, blank is hex 20, numbers are decimal digits"): read and compared, at any place and width.
+use Prim.Native.Nat.{ℕ, _+_, _-_, _*_}
+use mathlib.Core.List.{List, [], _∷_}
+use mathlib.Core.Bool.{Bool, cond, _&&_}
 use lib.Dec.{leb}
-use Rattle.lists.specs.Lists.{within, part, pasted, all, same}
+use Rattle.lists.specs.Lists.{within, part, all, same}
 use Rattle.fields.specs.declared.Field.{Field}
 use Rattle.fields.specs.declared.Field.the-variants.{Number, NotDigits}
 
@@ -44,16 +43,3 @@ allVisible = allBetween 33 126
 -- whether the n bytes of a from i and those of b from j stand there and are equal
 unfoldable pub samePart : List ℕ → ℕ → List ℕ → ℕ → ℕ → Bool
 samePart a i b j n = (within a i n && within b j n) && same (part a i n) (part b j n)
-
--- the last width decimal digits of v
-abbrev pub digitsOf : ℕ → ℕ → List ℕ
-digitsOf zero v = []
-digitsOf (suc w) v = digitsOf w (v / 10) ++ ((48 + v % 10) ∷ [])
-
--- n blanks
-abbrev pub blanks : ℕ → List ℕ
-blanks n = replicate n 32
-
--- the list with the n elements of s from at pasted in from to on, or the list itself where s does not have them
-unfoldable pub withPart : List ℕ → ℕ → List ℕ → ℕ → ℕ → List ℕ
-withPart out to s at n = cond (within s at n) (pasted out to (part s at n)) out

@@ -1,7 +1,6 @@
-// Fixed columns of bytes: digits, blanks and codes read, parts compared, and digits, blanks and bytes written.
+// Fixed columns of bytes: digits, blanks and codes read, and parts compared.
 ghost use mathlib.Core.Path.{_≡_};
-ghost use Rattle.lists.specs.Lists.{pasted};
-ghost use Rattle.fields.specs.Fields.{readNumber, allBetween, allBlank, allVisible, samePart, digitsOf, blanks, withPart};
+ghost use Rattle.fields.specs.Fields.{readNumber, allBetween, allBlank, allVisible, samePart};
 
 // What a field of digits holds.
 pub enum Field {
@@ -119,71 +118,4 @@ pub fn same_part(a: &[u8], i: usize, b: &[u8], j: usize, n: usize) -> bool
         k += 1;
     }
     true
-}
-
-// Writes the last width digits of value from at. A field that does not fit is not written.
-pub fn put_digits(out: &mut [u8], at: usize, width: usize, value: u64)
-    ensures { λ _. ⌜ now (out .exit) ≡ pasted (now (out .entry)) at (digitsOf width value) ⌝ }
-{
-    if out.len() < at {
-        return;
-    }
-    if out.len() - at < width {
-        return;
-    }
-    let mut v = value;
-    let mut i = width;
-    while 0 < i {
-        i -= 1;
-        out[at + i] = ZERO + (v % 10) as u8;
-        v = v / 10;
-    }
-}
-
-// Writes n blanks from at. A field that does not fit is not written.
-pub fn put_blanks(out: &mut [u8], at: usize, n: usize)
-    ensures { λ _. ⌜ now (out .exit) ≡ pasted (now (out .entry)) at (blanks n) ⌝ }
-{
-    if out.len() < at {
-        return;
-    }
-    if out.len() - at < n {
-        return;
-    }
-    let mut i: usize = 0;
-    while i < n {
-        out[at + i] = BLANK;
-        i += 1;
-    }
-}
-
-// Writes the bytes of s from at. Bytes that do not fit are not written.
-pub fn put_bytes(out: &mut [u8], at: usize, s: &[u8])
-    ensures { λ _. ⌜ now (out .exit) ≡ pasted (now (out .entry)) at (now (s .entry)) ⌝ }
-{
-    if out.len() < at {
-        return;
-    }
-    if out.len() - at < s.len() {
-        return;
-    }
-    let mut i: usize = 0;
-    while i < s.len() {
-        out[at + i] = s[i];
-        i += 1;
-    }
-}
-
-// Writes the n bytes of s from at into out from to on. Bytes that are not there or do not fit are not written.
-pub fn put_part(out: &mut [u8], to: usize, s: &[u8], at: usize, n: usize)
-    ensures { λ _. ⌜ now (out .exit) ≡ withPart (now (out .entry)) to (now (s .entry)) at n ⌝ }
-{
-    if s.len() < at {
-        return;
-    }
-    if s.len() - at < n {
-        return;
-    }
-    let end = at + n;
-    put_bytes(out, to, &s[at..end]);
 }

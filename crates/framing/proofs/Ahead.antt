@@ -7,7 +7,7 @@ use native.Mathlib.Omega.{arith}
 use lib.ListN.{length, drop, length-drop}
 use lib.Dec.{eqb}
 use Rattle.framing.specs.declared.Frame.the-variants.{Body, Nothing}
-use Rattle.framing.specs.Framing.{START, END, inside, outside, nextFrame}
+use Rattle.framing.specs.Framing.{startByte, endByte, inside, outside, nextFrame}
 
 -- a body from start to end and the place next after it, all of it from place at on and before place last
 pub record Between (at last start end next : ℕ) : Type 0 where
@@ -23,7 +23,7 @@ module _ (s e n : ℕ) where
   inside-between : (at start p : ℕ) (bs : List ℕ) → at < start → start ≤ p → inside start p bs ≡ Body s e n → Between at (p + length bs) s e n
   inside-between at start p [] h k q = never s e n q
   inside-between at start p (b ∷ bs) h k q =
-      go (eqb b START) (eqb b END) (inside-between at (p + 1) (p + 1) bs (omega arith) (omega arith)) (inside-between at start (p + 1) bs h (omega arith)) q
+      go (eqb b startByte) (eqb b endByte) (inside-between at (p + 1) (p + 1) bs (omega arith) (omega arith)) (inside-between at start (p + 1) bs h (omega arith)) q
     where
       wider : Between at (p + 1 + length bs) s e n → Between at (p + length (b ∷ bs)) s e n
       wider r = record { after = r .after; ordered = r .ordered; next-is = r .next-is; before = omega (arith, r .before) }
@@ -44,7 +44,7 @@ module _ (s e n : ℕ) where
   outside-between : (p : ℕ) (bs : List ℕ) → outside p bs ≡ Body s e n → Between p (p + length bs) s e n
   outside-between p [] q = never s e n q
   outside-between p (b ∷ bs) q =
-      go (eqb b START) (inside-between p (p + 1) (p + 1) bs (omega arith) (omega arith)) (outside-between (p + 1) bs) q
+      go (eqb b startByte) (inside-between p (p + 1) (p + 1) bs (omega arith) (omega arith)) (outside-between (p + 1) bs) q
     where
       go : (starts : Bool)
           → (inside (p + 1) (p + 1) bs ≡ Body s e n → Between p (p + 1 + length bs) s e n)

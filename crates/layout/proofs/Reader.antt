@@ -9,7 +9,7 @@ use Rattle.lists.specs.Lists.{within, part, tab}
 use Rattle.lists.proofs.Parts.{in-within, length-part}
 use Rattle.lists.proofs.Pasting.{paste-whole}
 use Rattle.lists.proofs.Tables.{length-tab, drop-tab}
-use Rattle.fields.specs.Fields.{withPart}
+use Rattle.output.specs.Output.{withPart}
 use Rattle.layout.specs.declared.Detail.{Detail}
 use Rattle.layout.specs.declared.Step.{Step}
 use Rattle.layout.specs.Columns.{detailWidth}

@@ -1,5 +1,5 @@
 -- The columns of a message body (01, "Columns"; 000): the first byte and the width of each header field, and of the fields of a pool detail.
-use Prim.Native.Nat.{ℕ, _+_}
+use Prim.Native.Nat.{ℕ}
 use mathlib.Core.List.{List, [], _∷_}
 use lib.ListN.{take, getD}
 use Rattle.lists.specs.Lists.{sumOf, part}

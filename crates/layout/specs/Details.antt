@@ -1,6 +1,6 @@
 -- The pool details of a body, record by record (01, "Columns").
 use Prim.Native.Nat.{ℕ, _+_, _-_, _*_, _/_}
-use mathlib.Core.List.{List, [], _∷_}
+use mathlib.Core.List.{List}
 use mathlib.Core.Bool.{Bool, true, false, cond, _&&_}
 use lib.ListN.{length, replicate}
 use lib.Dec.{leb, eqb}
@@ -8,7 +8,7 @@ use Rattle.lists.specs.Lists.{within, part, tab}
 use Rattle.layout.specs.declared.Column.{Column}
 use Rattle.layout.specs.declared.Detail.{Detail}
 use Rattle.layout.specs.declared.Step.{Step}
-use Rattle.layout.specs.Columns.{bytesIn, headerWidth, detailWidth, lotId, poolNumber, originalFace, currentFace, terminator}
+use Rattle.layout.specs.Columns.{headerWidth, detailWidth, lotId, poolNumber, originalFace, currentFace, terminator}
 
 -- the most pools of a message
 abbrev pub poolsMax : ℕ

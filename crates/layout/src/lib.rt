@@ -176,29 +176,29 @@ fn detail_at(body: &[u8], place: usize) -> Detail
     let mut original = [0u8; 9];
     let mut terminator = [0u8; 4];
     let mut current = [0u8; 11];
-    fields::put_part(&mut lot, 0, body, place + LOT_ID.at, LOT_ID.width);
-    fields::put_part(
+    output::put_part(&mut lot, 0, body, place + LOT_ID.at, LOT_ID.width);
+    output::put_part(
         &mut pool,
         0,
         body,
         place + POOL_NUMBER.at,
         POOL_NUMBER.width,
     );
-    fields::put_part(
+    output::put_part(
         &mut original,
         0,
         body,
         place + ORIGINAL_FACE.at,
         ORIGINAL_FACE.width,
     );
-    fields::put_part(
+    output::put_part(
         &mut terminator,
         0,
         body,
         place + TERMINATOR.at,
         TERMINATOR.width,
     );
-    fields::put_part(
+    output::put_part(
         &mut current,
         0,
         body,

@@ -4,7 +4,7 @@ use mathlib.Core.List.{List, [], _∷_, map}
 use mathlib.Core.Bool.{Bool, true, false, cond, not, _&&_, Bool·beq}
 use lib.Dec.{eqb}
 use Rattle.lists.specs.Lists.{same, all}
-use Rattle.fields.specs.Fields.{digitsOf}
+use Rattle.output.specs.Output.{digitsOf}
 use Rattle.layout.specs.declared.Detail.{Detail}
 use Rattle.terminator.specs.Terminators.{positions, isEnd, isWrong, isGood, kindOf, millionsOf}
 use Rattle.terminator.specs.Lots.{formedFor}

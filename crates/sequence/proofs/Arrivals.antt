@@ -8,21 +8,21 @@ use Rattle.sequence.specs.declared.Inbound.{Inbound}
 use Rattle.sequence.specs.declared.Outbound.{Outbound}
 use Rattle.sequence.specs.declared.Line.{Line}
 use Rattle.sequence.specs.declared.Arrival.the-variants.{Refused, Duplicate, Expected, Gap}
-use Rattle.sequence.specs.Sequence.{INBOUND-MAX, OUTBOUND-MAX, outbound, isLast, arrivalOf, processed, moved, lineAfter, nextOutbound}
+use Rattle.sequence.specs.Sequence.{inboundMax, outboundMax, outbound, isLast, arrivalOf, processed, moved, lineAfter, nextOutbound}
 
 module _ (line : Line) (number : Inbound) where
-  pub refused : INBOUND-MAX < number .0 → Refused ≡ arrivalOf line number
+  pub refused : inboundMax < number .0 → Refused ≡ arrivalOf line number
   unfolding arrivalOf
-  refused h = simp (lt-ltb INBOUND-MAX (number .0) h)
+  refused h = simp (lt-ltb inboundMax (number .0) h)
 
-  pub stays-refused : INBOUND-MAX < number .0 → line ≡ lineAfter line number
+  pub stays-refused : inboundMax < number .0 → line ≡ lineAfter line number
   unfolding lineAfter
   stays-refused h = rw (← refused h)
 
-  module _ (h : number .0 ≤ INBOUND-MAX) where
+  module _ (h : number .0 ≤ inboundMax) where
     pub duplicate : isLast (line .received) number ≡ true → Duplicate ≡ arrivalOf line number
     unfolding arrivalOf
-    duplicate e = simp (le-ltb INBOUND-MAX (number .0) h, e)
+    duplicate e = simp (le-ltb inboundMax (number .0) h, e)
 
     pub stays-duplicate : isLast (line .received) number ≡ true → line ≡ lineAfter line number
     unfolding lineAfter
@@ -31,25 +31,25 @@ module _ (line : Line) (number : Inbound) where
     module _ (n : isLast (line .received) number ≡ false) where
       pub expected : number .0 ≡ line .expected .0 → Expected ≡ arrivalOf line number
       unfolding arrivalOf
-      expected e = simp (le-ltb INBOUND-MAX (number .0) h, n, eq-eqb (number .0) (line .expected .0) e)
+      expected e = simp (le-ltb inboundMax (number .0) h, n, eq-eqb (number .0) (line .expected .0) e)
 
       pub gap : (number .0 ≡ line .expected .0 → ⊥) → Gap ≡ arrivalOf line number
       unfolding arrivalOf
-      gap e = simp (le-ltb INBOUND-MAX (number .0) h, n, ne-eqb (number .0) (line .expected .0) e)
+      gap e = simp (le-ltb inboundMax (number .0) h, n, ne-eqb (number .0) (line .expected .0) e)
 
       pub moves : processed number ≡ lineAfter line number
       unfolding arrivalOf lineAfter
-      moves = simp (le-ltb INBOUND-MAX (number .0) h, n) (either (eqb (number .0) (line .expected .0)))
+      moves = simp (le-ltb inboundMax (number .0) h, n) (either (eqb (number .0) (line .expected .0)))
         where
           either : (b : Bool) → processed number ≡ moved (cond b Expected Gap) line number
           either true = refl
           either false = refl
 
 module _ (last : Outbound) where
-  pub highest-stays : OUTBOUND-MAX ≤ last .0 → last ≡ nextOutbound last
+  pub highest-stays : outboundMax ≤ last .0 → last ≡ nextOutbound last
   unfolding nextOutbound
-  highest-stays h = simp (le-ltb (last .0) OUTBOUND-MAX h)
+  highest-stays h = simp (le-ltb (last .0) outboundMax h)
 
-  pub one-more : last .0 < OUTBOUND-MAX → outbound (last .0 + 1) ≡ nextOutbound last
+  pub one-more : last .0 < outboundMax → outbound (last .0 + 1) ≡ nextOutbound last
   unfolding nextOutbound
-  one-more h = simp (lt-ltb (last .0) OUTBOUND-MAX h)
+  one-more h = simp (lt-ltb (last .0) outboundMax h)

@@ -12,20 +12,20 @@ use Rattle.sequence.specs.declared.Arrival.{Arrival}
 use Rattle.sequence.specs.declared.Arrival.the-variants.{Refused, Duplicate, Expected, Gap}
 
 -- the first number that a line expects
-abbrev pub FIRST : ℕ
-FIRST = 1
+abbrev pub firstNumber : ℕ
+firstNumber = 1
 
 -- 11 refuses 999999, and six digits hold no more
-abbrev pub INBOUND-MAX : ℕ
-INBOUND-MAX = 999998
+abbrev pub inboundMax : ℕ
+inboundMax = 999998
 
 -- six digits hold no higher outbound number
-abbrev pub OUTBOUND-MAX : ℕ
-OUTBOUND-MAX = 999999
+abbrev pub outboundMax : ℕ
+outboundMax = 999999
 
 -- 43 refuses a last outbound number over this one
-abbrev pub OUTBOUND-LAST-MAX : ℕ
-OUTBOUND-LAST-MAX = 999997
+abbrev pub outboundLastMax : ℕ
+outboundLastMax = 999997
 
 -- a number of the sender's side
 abbrev pub inbound : ℕ → Inbound
@@ -37,7 +37,7 @@ outbound n = record { 0 = n }
 
 -- inbound starts expecting 1, none received
 abbrev pub startLine : Line
-startLine = record { received = Nothing; expected = inbound FIRST }
+startLine = record { received = Nothing; expected = inbound firstNumber }
 
 -- whether a number is the last received
 abbrev pub isLast : Received → Inbound → Bool
@@ -47,7 +47,7 @@ isLast (Last last) number = eqb (number .0) (last .0)
 -- 11, then 12, then the expected one; any other is a gap
 unfoldable pub arrivalOf : Line → Inbound → Arrival
 arrivalOf line number =
-    cond (ltb INBOUND-MAX (number .0)) Refused
+    cond (ltb inboundMax (number .0)) Refused
     (cond (isLast (line .received) number) Duplicate
     (cond (eqb (number .0) (line .expected .0)) Expected Gap))
 
@@ -73,8 +73,8 @@ arrivals line (n ∷ ns) = arrivalOf line (inbound n) ∷ arrivals (lineAfter li
 
 -- 42: expected is 1 where none is received
 abbrev pub soundAfter : Received → Inbound → Bool
-soundAfter Nothing expected = eqb (expected .0) FIRST
-soundAfter (Last last) expected = leb (last .0) INBOUND-MAX && eqb (expected .0) (last .0 + 1)
+soundAfter Nothing expected = eqb (expected .0) firstNumber
+soundAfter (Last last) expected = leb (last .0) inboundMax && eqb (expected .0) (last .0 + 1)
 
 -- 42: received is at most 999998, and expected one more
 unfoldable pub soundLine : Line → Bool
@@ -82,8 +82,8 @@ soundLine line = soundAfter (line .received) (line .expected)
 
 -- the outbound number after the last one used; 999999 is the highest and stays
 unfoldable pub nextOutbound : Outbound → Outbound
-nextOutbound last = cond (ltb (last .0) OUTBOUND-MAX) (outbound (last .0 + 1)) last
+nextOutbound last = cond (ltb (last .0) outboundMax) (outbound (last .0 + 1)) last
 
 -- 43: the last outbound number is over 999997
 abbrev pub outboundSpent : Outbound → Bool
-outboundSpent last = ltb OUTBOUND-LAST-MAX (last .0)
+outboundSpent last = ltb outboundLastMax (last .0)

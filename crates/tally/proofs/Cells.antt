@@ -5,17 +5,17 @@ use Prim.Native.Nat.{ℕ, _+_, _≤_, _<_}
 use lib.ListN.{length, getD, set}
 use lib.Seq.{set-getD, getD-set-same, getD-set-other}
 use borrow.Author.Tests.{lt-ltb, le-ltb}
-use Rattle.tally.specs.Tally.{FULL, cell, oneMore}
+use Rattle.tally.specs.Tally.{fullCell, cell, oneMore}
 
 module _ (tally : List (List ℕ)) (row column : ℕ) where
-  pub full-stays : FULL ≤ cell tally row column → tally ≡ oneMore tally row column
+  pub full-stays : fullCell ≤ cell tally row column → tally ≡ oneMore tally row column
   unfolding oneMore
-  full-stays h = simp (le-ltb (cell tally row column) FULL h, set-getD)
+  full-stays h = simp (le-ltb (cell tally row column) fullCell h, set-getD)
 
-  pub one-more : cell tally row column < FULL
+  pub one-more : cell tally row column < fullCell
       → set tally row (set (getD tally row []) column (cell tally row column + 1)) ≡ oneMore tally row column
   unfolding oneMore
-  one-more h = simp (lt-ltb (cell tally row column) FULL h)
+  one-more h = simp (lt-ltb (cell tally row column) fullCell h)
 
   pub other-row-stays : (other place : ℕ) → (other ≡ row → ⊥) → cell (oneMore tally row column) other place ≡ cell tally other place
   unfolding oneMore

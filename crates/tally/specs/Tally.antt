@@ -29,8 +29,8 @@ columnOf Rejected = 1
 columnOf Dked = 2
 
 -- a cell is 32 bits wide
-abbrev pub FULL : ℕ
-FULL = 4294967295
+abbrev pub fullCell : ℕ
+fullCell = 4294967295
 
 -- the count in a row and a column
 abbrev pub cell : List (List ℕ) → ℕ → ℕ → ℕ
@@ -38,7 +38,7 @@ cell tally row column = getD (getD tally row []) column 0
 
 -- one more, but a full cell stays full
 abbrev pub more : ℕ → ℕ
-more count = cond (ltb count FULL) (count + 1) count
+more count = cond (ltb count fullCell) (count + 1) count
 
 -- the tally with one cell raised
 unfoldable pub oneMore : List (List ℕ) → ℕ → ℕ → List (List ℕ)

@@ -2,10 +2,10 @@
 use native.Mathlib.Omega.{arith}
 use mathlib.Core.Path.{refl}
 use Rattle.lists.proofs.Parts.{out-past, out-short}
-use Rattle.fields.proofs.Written.{part-missing, part-there}
+use Rattle.output.proofs.Written.{part-missing, part-there}
 use borrow.Author.Needs.{needs}
-use Rattle.fields.proofs.put_part.Statement.{statement}
-use Rattle.fields.proofs.put_part.Tie as tie
+use Rattle.output.proofs.put_part.Statement.{statement}
+use Rattle.output.proofs.put_part.Tie as tie
 
 returns : tie.Need-returns
 returns c = part-missing _ _ _ _ _ (out-past _ _ _ (omega arith))

@@ -11,9 +11,10 @@ use lib.Seq.{take-set-le, drop-set-lt, drop-cons, getD-set-same}
 use Rattle.lists.specs.Lists.{within, part, pasted}
 use Rattle.lists.proofs.Parts.{in-within}
 use Rattle.lists.proofs.Pasting.{paste-in, length-pasted, part-pasted}
 use Rattle.fields.specs.declared.Field.the-variants.{Number}
-use Rattle.fields.specs.Fields.{digitsMax, isDigit, numberFrom, readNumber, digitsOf, withPart}
+use Rattle.fields.specs.Fields.{digitsMax, isDigit, numberFrom, readNumber}
+use Rattle.output.specs.Output.{digitsOf, withPart}
 use Rattle.fields.proofs.Read.{inside, read-within}
 
 pub digits-length : (w v : ℕ) → length (digitsOf w v) ≡ w
 digits-length zero v = refl

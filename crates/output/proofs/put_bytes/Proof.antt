@@ -5,8 +5,8 @@ use mathlib.Core.Path.{_≡_, refl}
 use lib.ListN.{length, length-set}
 use Rattle.lists.proofs.Pasting.{Pasting, pasting-none, pasting-past, pasting-short, pasting-more, pasting-done}
 use borrow.Author.Needs.{needs}
-use Rattle.fields.proofs.put_bytes.Statement.{statement}
-use Rattle.fields.proofs.put_bytes.Tie as tie
+use Rattle.output.proofs.put_bytes.Statement.{statement}
+use Rattle.output.proofs.put_bytes.Tie as tie
 
 abbrev Inv-loop : tie.InvT-loop
 Inv-loop out₀ at s i₀ out i = (i ≤ length s) × (length out ≡ length out₀) × Pasting out₀ at s (length s) refl out i

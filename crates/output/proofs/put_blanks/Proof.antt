@@ -4,10 +4,10 @@ use native.Mathlib.Omega.{arith}
 use mathlib.Core.Path.{_≡_, refl}
 use lib.ListN.{length, length-set, length-replicate, getD-replicate}
 use Rattle.lists.proofs.Pasting.{Pasting, pasting-none, pasting-past, pasting-short, pasting-more, pasting-done}
-use Rattle.fields.specs.Fields.{blanks}
+use Rattle.output.specs.Output.{blanks}
 use borrow.Author.Needs.{needs}
-use Rattle.fields.proofs.put_blanks.Statement.{statement}
-use Rattle.fields.proofs.put_blanks.Tie as tie
+use Rattle.output.proofs.put_blanks.Statement.{statement}
+use Rattle.output.proofs.put_blanks.Tie as tie
 
 abbrev Inv-loop : tie.InvT-loop
 Inv-loop out₀ at n i₀ out i = (i ≤ n) × (length out ≡ length out₀) × Pasting out₀ at (blanks n) n (length-replicate {A = ℕ} n 32) out i

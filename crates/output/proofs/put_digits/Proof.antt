@@ -4,10 +4,10 @@ use native.Mathlib.Omega.{arith}
 use mathlib.Core.Path.{_≡_, refl, sym, _∙_}
 use lib.ListN.{length, length-set}
 use Rattle.lists.proofs.Pasting.{pasting-past, pasting-short}
-use Rattle.fields.proofs.Written.{digits-length, toWrite, put-none, put-down, put-is}
+use Rattle.output.proofs.Written.{digits-length, toWrite, put-none, put-down, put-is}
 use borrow.Author.Needs.{needs}
-use Rattle.fields.proofs.put_digits.Statement.{statement}
-use Rattle.fields.proofs.put_digits.Tie as tie
+use Rattle.output.proofs.put_digits.Statement.{statement}
+use Rattle.output.proofs.put_digits.Tie as tie
 
 abbrev Inv-loop : tie.InvT-loop
 Inv-loop out₀ at width value v₀ i₀ out v i = (i ≤ width) × (length out ≡ length out₀) × (toWrite out at i v ≡ toWrite out₀ at width value)
