@@ -34,7 +34,7 @@ fn four_at(s: &[u8], at: usize) -> [u8; 4]
     ensures { λ r. ⌜ r ≡ part (now (s .entry)) at 4 ⌝ }
 {
     let mut bytes = [0u8; 4];
-    fields::put_part(&mut bytes, 0, s, at, 4);
+    output::put_part(&mut bytes, 0, s, at, 4);
     bytes
 }
 
@@ -43,7 +43,7 @@ fn six_at(s: &[u8], at: usize) -> [u8; 6]
     ensures { λ r. ⌜ r ≡ part (now (s .entry)) at 6 ⌝ }
 {
     let mut bytes = [0u8; 6];
-    fields::put_part(&mut bytes, 0, s, at, 6);
+    output::put_part(&mut bytes, 0, s, at, 6);
     bytes
 }
 
@@ -52,7 +52,7 @@ fn sixteen_at(s: &[u8], at: usize) -> [u8; 16]
     ensures { λ r. ⌜ r ≡ part (now (s .entry)) at 16 ⌝ }
 {
     let mut bytes = [0u8; 16];
-    fields::put_part(&mut bytes, 0, s, at, 16);
+    output::put_part(&mut bytes, 0, s, at, 16);
     bytes
 }
 
