@@ -12,6 +12,8 @@ use reference::values::Limits;
 /// A lent slice is a pointer and a length.
 mod exported {
     extern "C" {
+        pub fn rhoikandra_column_at(i: usize) -> usize;
+        pub fn rhoikandra_column_width(i: usize) -> usize;
         pub fn rhoikandra_is_number(s: *const u8, len: usize, at: usize, width: usize) -> bool;
         pub fn rhoikandra_number(s: *const u8, len: usize, at: usize, width: usize) -> u64;
 
@@ -88,6 +90,11 @@ use exported::*;
 
 // Every call below is safe: the leaves ask nothing of their callers, read only what a slice
 // lends, and write only within one that is lent for writing.
+
+/// The first byte and the width of a column of the header, by its place in their order.
+pub fn column(i: usize) -> (usize, usize) {
+    unsafe { (rhoikandra_column_at(i), rhoikandra_column_width(i)) }
+}
 
 /// The number in the width digits from a place on, if they are digits.
 pub fn number(s: &[u8], at: usize, width: usize) -> Option<u64> {

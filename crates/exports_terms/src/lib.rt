@@ -1,12 +1,45 @@
-// Lends fields of digits, dates, trade IDs and prices to Rust and C: each exported function takes numbers and lent slices, and gives a number.
+// Lends the header's columns, fields of digits, dates, trade IDs and prices to Rust and C: each exported function takes numbers and lent slices, and gives a number.
 use fields::Field;
+use layout::Column;
 use trade_id::TradeId;
 ghost use mathlib.Core.Path.{_≡_};
 ghost use Rattle.fields.specs.Fields.{readNumber};
+ghost use Rattle.layout.specs.Columns.{column, header};
 ghost use Rattle.calendar.specs.Calendar.{isDate, businessDate};
 ghost use Rattle.trade_id.specs.SpecialInstructions.{tradeIdOf};
 ghost use Rattle.trade_id.specs.Prices.{pricesAgree};
-ghost use Rattle.exports_terms.specs.Numbers.{isNumber, numberOf, tradeIdNumber, placeOfId, lengthOfId};
+ghost use Rattle.exports_terms.specs.Numbers.{columnOf, isNumber, numberOf, tradeIdNumber, placeOfId, lengthOfId};
+
+const HEADER_COLUMNS: usize = 25;
+
+// A column of the header by its place in their order, or an empty one past the last.
+fn column_of(i: usize) -> Column
+    ensures { λ r. ⌜ r ≡ columnOf i ⌝ }
+{
+    let columns = layout::header_columns();
+    if HEADER_COLUMNS <= i {
+        return Column { at: 0, width: 0 };
+    }
+    columns[i]
+}
+
+// The first byte of a column of the header.
+#[no_mangle]
+pub extern "C" fn rhoikandra_column_at(i: usize) -> usize
+    ensures { λ r. ⌜ r ≡ columnOf i .at ⌝ }
+{
+    let column = column_of(i);
+    column.at
+}
+
+// Its width.
+#[no_mangle]
+pub extern "C" fn rhoikandra_column_width(i: usize) -> usize
+    ensures { λ r. ⌜ r ≡ columnOf i .width ⌝ }
+{
+    let column = column_of(i);
+    column.width
+}
 
 fn is_number(f: Field) -> bool
     ensures { λ r. ⌜ r ≡ isNumber f ⌝ }
