@@ -7,7 +7,7 @@ use lib.Dec.{eqb, leb}
 use Rattle.lists.specs.Lists.{same, any, all}
 use Rattle.fields.specs.Fields.{allVisible}
 use Rattle.calendar.specs.Calendar.{isDate, businessDate}
-use Rattle.sequence.specs.Sequence.{startLine}
+use Rattle.sequence.specs.Sequence.{startLine, outboundMax}
 use Rattle.book.specs.declared.Trade.{Trade}
 use Rattle.book.specs.declared.Limits.{Limits}
 use Rattle.book.specs.declared.Values.{Values}
@@ -33,10 +33,6 @@ elevenDigitsMax = 99999999999
 -- twelve digits: a price with nine decimals
 abbrev pub priceMax : ℕ
 priceMax = 999999999999
-
--- six digits
-abbrev pub outboundMax : ℕ
-outboundMax = 999999
 
 abbrev pub ceilingMax : ℕ
 ceilingMax = 9999

@@ -1,0 +1,247 @@
+-- Every call keeps book and history side by side: a refused one changes neither, an accepted one is a move. What the promise says can be read off them.
+use mathlib.Core.Path.{_≡_, refl, sym, ap, _∙_}
+use mathlib.Core.Bool.{Bool, true, false, not, cond, _&&_, _||_, false≢true, true≢false}
+use mathlib.Core.List.{List, [], _∷_, _++_, map, List·Memᴰ·not-nil, Memᴰ·map, Memᴰ·cast}
+use Prim.Native.Nat.{ℕ, zero, suc, _+_, _-_, _≤_, _<_}
+use native.Mathlib.Nat.{min-le-left}
+use native.Mathlib.Omega.{arith}
+use lib.Dec.{eqb, leb, ltb}
+use lib.ListN.{length, getD, set, take, replicate, length-take, List·getD-map}
+use lib.Seq.{take-append-seam, take-set-lt}
+use borrow.Author.Tests.{eqb-true, leb-true, ltb-true}
+use Rattle.lists.specs.Lists.{any, all, sumOf}
+use Rattle.lists.proofs.Tests.{_∈_, and-left, and-right, both, clash, any-in, sum-same, take-map}
+use Rattle.fields.specs.declared.Field.{Field}
+use Rattle.layout.specs.Details.{details}
+use Rattle.terminator.specs.Lots.{poolsOf, lotMillions}
+use Rattle.tally.specs.declared.MessageType.{MessageType}
+use Rattle.tally.specs.declared.MessageType.the-variants.{On, Cc, Dk, Cx, Other}
+use Rattle.book.specs.declared.Trade.{Trade}
+use Rattle.book.specs.declared.Values.{Values}
+use Rattle.book.specs.declared.Pool.{Pool}
+use Rattle.book.specs.Reasons.{isAccepted}
+use Rattle.book.specs.Records.{Fields, fieldsOf, noPool, runSum, millionsShare, shareOf, standingMillions, weightOfRecords}
+use Rattle.book.specs.Messages.{typeOf, targetOf, listed, brought}
+use Rattle.book.specs.Trades.{tradesOf, broughtWeight, tradeOfOn, openPars}
+use Rattle.book.specs.Opening.{atPar, opened, cleared}
+use Rattle.book.specs.Soundness.{liveOf}
+use Rattle.book.specs.Checks.{Call, live, trades, isOther, isCc, isCx, onOrCc, ccOrDk, targetTrade, concernedFor, concerned, tradeAt, noTrade, taken, exactLots, oneLot, canceledLots, lotFields, answerOf}
+use Rattle.book.specs.Step.{withLeft, tradesMoved, liveMoved, tableMoved, bookAfter, tableAfter}
+use Rattle.book.specs.History.{Brought, History, isTarget, touches, stands, tradeShare, standingWeight, millionsByOns, millionsByDks, atOpening, lotsAfter, feed, takesOffFor, takesOff}
+use Rattle.book.specs.Promise.{State, openedState, Demand3}
+use Rattle.book.proofs.Passed.{Fine, fine}
+use Rattle.book.proofs.Targets.{has-in}
+use Rattle.book.proofs.Laid.{flat, value, run-flat, value-share, value-millions}
+use Rattle.book.proofs.Taking.{Exact, exact, isListed, standing, first-time, listed-lot}
+use Rattle.book.proofs.Moving.{Beside, Move, movedTrades, movedRecords, movedLots, move}
+use Rattle.book.proofs.Stepping.{listed-as, on-move, on-lots, dk-move, dk-lots, cc-move, cc-lots}
+
+-- a state beside the history of the same calls
+abbrev pub Kept : Values → State → History → Type 0
+Kept v s h = Beside v (s .book .values .last) (tradesOf (s .book .values)) (liveOf (s .book) (s .table)) h
+
+-- ---- an accepted call is a move
+
+-- what 37 says of the listed pools alone
+listed-exact : (c : Call) → ccOrDk (typeOf (c .body)) ≡ true → Fine c → exactLots (targetOf (c .body)) (listed (c .body)) (live c) ≡ true
+listed-exact c e f =
+    and-left (exactLots (targetOf (c .body)) (listed (c .body)) (live c)) (not (isCc (typeOf (c .body))) || all (oneLot (targetOf (c .body)) (live c)) (canceledLots (details (c .body))))
+    (f .listedExact e)
+
+-- and of a CC's 6 lots
+canceled-exact : (c : Call) → typeOf (c .body) ≡ Cc → Fine c → all (oneLot (targetOf (c .body)) (live c)) (canceledLots (details (c .body))) ≡ true
+canceled-exact c e f = go (isCc (typeOf (c .body))) (ap isCc e)
+    (and-right (exactLots (targetOf (c .body)) (listed (c .body)) (live c)) (not (isCc (typeOf (c .body))) || all (oneLot (targetOf (c .body)) (live c)) (canceledLots (details (c .body))))
+    (f .listedExact (ap ccOrDk e)))
+  where
+    go : (b : Bool) → b ≡ true → (not b || all (oneLot (targetOf (c .body)) (live c)) (canceledLots (details (c .body)))) ≡ true
+        → all (oneLot (targetOf (c .body)) (live c)) (canceledLots (details (c .body))) ≡ true
+    go true p q = q
+    go false p q = absurd (false≢true p)
+
+module _ (v : Values) (c : Call) (h : History) (w : Beside v (c .book .values .last) (trades c) (live c) h) where
+  -- the flags of a message's lots, its move, and that the history makes the same lots of it
+  pub record Moves (byOn byDk : Bool) : Type 0 where
+    pub moves : Move (trades c) (live c) (h .lots) (concerned c) (targetOf (c .body)) (listed (c .body)) (brought (c .body)) byOn byDk
+    pub makes : movedLots (h .last) (h .lots) (concerned c) (targetOf (c .body)) (listed (c .body)) (brought (c .body)) byOn byDk
+        ≡ lotsAfter (typeOf (c .body)) v (h .last + 1) (c .body) (h .lots)
+
+  concerned-as : (k : MessageType) → typeOf (c .body) ≡ k → concerned c ≡ concernedFor k (c .body) (trades c) (live c)
+  unfolding concerned
+  concerned-as k e = ap (λ (x : MessageType). concernedFor x (c .body) (trades c) (live c)) e
+
+  range : onOrCc (typeOf (c .body)) ≡ true → Fine c → concerned c < length (trades c)
+  range e f = ltb-true (concerned c) (length (trades c))
+      (and-left (ltb (concerned c) (length (trades c))) (leb (broughtWeight (c .body)) (tradeAt (trades c) (concerned c) .left + weightOfRecords (taken c))) (f .parEnough e))
+
+  room : onOrCc (typeOf (c .body)) ≡ true → Fine c → broughtWeight (c .body) ≤ tradeAt (trades c) (concerned c) .left + weightOfRecords (taken c)
+  room e f = leb-true (broughtWeight (c .body)) (tradeAt (trades c) (concerned c) .left + weightOfRecords (taken c))
+      (and-right (ltb (concerned c) (length (trades c))) (leb (broughtWeight (c .body)) (tradeAt (trades c) (concerned c) .left + weightOfRecords (taken c))) (f .parEnough e))
+
+  moves-on : typeOf (c .body) ≡ On → Fine c → Moves true false
+  unfolding broughtWeight
+  moves-on e f =
+      record {
+        moves = on-move v (c .book .values .last) (trades c) (live c) h w (c .body) e (isCc (typeOf (c .body))) (f .formed (ap onOrCc e)) (f .repeated (ap onOrCc e))
+            (concerned c) (range (ap onOrCc e) f) (room (ap onOrCc e) f);
+        makes = rw (concerned-as On e, e) (on-lots v (c .book .values .last) (trades c) (live c) h w (c .body) e);
+      }
+
+  moves-dk : typeOf (c .body) ≡ Dk → Fine c → Moves false true
+  moves-dk e f =
+      record {
+        moves = rw (concerned-as Dk e)
+            (dk-move v (c .book .values .last) (trades c) (live c) h w (c .body) (f .targetLive (ap ccOrDk e)) (listed-exact c (ap ccOrDk e) f) e);
+        makes = rw (concerned-as Dk e, e)
+            (dk-lots v (c .book .values .last) (trades c) (live c) h w (c .body) (f .targetLive (ap ccOrDk e)) (listed-exact c (ap ccOrDk e) f) e);
+      }
+
+  moves-cc : typeOf (c .body) ≡ Cc → Fine c → Moves false false
+  unfolding broughtWeight
+  moves-cc e f =
+      record {
+        moves = rw (concerned-as Cc e)
+            (cc-move v (c .book .values .last) (trades c) (live c) h w (c .body) (f .targetLive (ap ccOrDk e)) (listed-exact c (ap ccOrDk e) f) e
+            (isCc (typeOf (c .body))) (f .formed (ap onOrCc e)) (f .repeated (ap onOrCc e)) (f .balanced (ap isCc e)) (canceled-exact c e f)
+            (rw (concerned-as Cc e) at (room (ap onOrCc e) f)));
+        makes = rw (concerned-as Cc e, e)
+            (cc-lots v (c .book .values .last) (trades c) (live c) h w (c .body) (f .targetLive (ap ccOrDk e)) (listed-exact c (ap ccOrDk e) f) e
+            (isCc (typeOf (c .body))) (f .formed (ap onOrCc e)) (f .grouped (ap isCc e)));
+      }
+
+  -- some flags, for one of the three types that are accepted
+  accepted-moves : isAccepted (answerOf c) ≡ true → (byOn : Bool) × ((byDk : Bool) × Moves byOn byDk)
+  accepted-moves a = go (typeOf (c .body)) refl (fine c a)
+    where
+      go : (k : MessageType) → typeOf (c .body) ≡ k → Fine c → (byOn : Bool) × ((byDk : Bool) × Moves byOn byDk)
+      go On e f = (true, (false, moves-on e f))
+      go Cc e f = (false, (false, moves-cc e f))
+      go Dk e f = (false, (true, moves-dk e f))
+      go Cx e f = clash (ap isCx e) (f .notCancel)
+      go Other e f = clash (ap isOther e) (f .notOther)
+
+-- ---- every call
+
+carry : (v : Values) (last : ℕ) (ts : List Trade) (rs : List Pool) (id : ℕ) (xs ys : List Brought) → xs ≡ ys
+    → Beside v last ts rs (record { last = id; lots = xs }) → Beside v last ts rs (record { last = id; lots = ys })
+carry v last ts rs id xs ys p w = rw p at w
+
+take-bound : {A : Type 0} (i n : ℕ) (xs : List A) → i < length (take n xs) → i < n
+take-bound i n xs lt = omega (arith, length-take n xs, min-le-left n (length xs))
+
+-- the concerned trade after the call
+abbrev newTrade : Call → Trade
+newTrade c = withLeft (tradeAt (trades c) (concerned c)) ((tradeAt (trades c) (concerned c) .left + weightOfRecords (taken c)) - broughtWeight (c .body))
+
+moved : (v : Values) (c : Call) (h : History) → Beside v (c .book .values .last) (trades c) (live c) h → isAccepted (answerOf c) ≡ true
+    → Beside v (c .book .values .last + 1) (take (c .book .values .count) (set (c .book .values .trades) (concerned c) (newTrade c))) (liveMoved c)
+    (record { last = h .last + 1; lots = lotsAfter (typeOf (c .body)) v (h .last + 1) (c .body) (h .lots) })
+unfolding liveMoved broughtWeight
+moved v c h w a =
+    let (byOn, (byDk, m)) = accepted-moves v c h w a in
+    rw (take-set-lt (c .book .values .count) (c .book .values .trades) (concerned c) (newTrade c) (take-bound (concerned c) (c .book .values .count) (c .book .values .trades) (m .moves .range)))
+    (carry v (c .book .values .last + 1) (movedTrades (trades c) (live c) (concerned c) (targetOf (c .body)) (listed (c .body)) (brought (c .body)))
+    (movedRecords (c .book .values .last) (live c) (concerned c) (targetOf (c .body)) (listed (c .body)) (brought (c .body))) (h .last + 1)
+    (movedLots (h .last) (h .lots) (concerned c) (targetOf (c .body)) (listed (c .body)) (brought (c .body)) byOn byDk)
+    (lotsAfter (typeOf (c .body)) v (h .last + 1) (c .body) (h .lots)) (m .makes)
+    (move v (c .book .values .last) (trades c) (live c) h w (concerned c) (targetOf (c .body)) (listed (c .body)) (brought (c .body)) byOn byDk (m .moves)))
+
+pub call-kept : (v : Values) (c : Call) (h : History) → Beside v (c .book .values .last) (trades c) (live c) h
+    → Beside v (bookAfter c .values .last) (tradesOf (bookAfter c .values)) (liveOf (bookAfter c) (tableAfter c)) (feed v h (c .body) (isAccepted (answerOf c)))
+unfolding bookAfter tableAfter feed tradesMoved tableMoved
+call-kept v c h w = go (isAccepted (answerOf c)) refl
+  where
+    go : (a : Bool) → isAccepted (answerOf c) ≡ a
+        → Beside v (cond a (c .book .values .last + 1) (c .book .values .last))
+        (take (c .book .values .count) (cond a (set (c .book .values .trades) (concerned c) (newTrade c)) (c .book .values .trades)))
+        (take (cond a (length (liveMoved c)) (c .book .live)) (cond a (liveMoved c ++ replicate (length (c .table) - length (liveMoved c)) noPool) (c .table)))
+        (cond a (record { last = h .last + 1; lots = lotsAfter (typeOf (c .body)) v (h .last + 1) (c .body) (h .lots) }) h)
+    go true e = rw (take-append-seam (liveMoved c) (replicate (length (c .table) - length (liveMoved c)) noPool)) (moved v c h w e)
+    go false e = w
+
+-- ---- opening
+
+twice-atPar : (ts : List Trade) → map atPar (map atPar ts) ≡ map atPar ts
+twice-atPar [] = refl
+twice-atPar (t ∷ ts) = ap (λ (l : List Trade). atPar t ∷ l) (twice-atPar ts)
+
+pub opened-kept : (v : Values) (table : List Pool) → Kept v (openedState v table) (atOpening v)
+unfolding opened standingWeight millionsByDks millionsByOns
+opened-kept v table =
+    record {
+      last = refl;
+      table = refl;
+      terms = rw (take-map atPar (v .count) (v .trades)) (twice-atPar (tradesOf v));
+      pars = λ t lt. rw (take-map atPar (v .count) (v .trades)) (omega (arith, ap (λ (x : Trade). x .left) (List·getD-map atPar (tradesOf v) t noTrade)));
+      lots = record { fine = λ g m. absurd (List·Memᴰ·not-nil m); apart = tt; pair = λ g k m n e. absurd (List·Memᴰ·not-nil m) };
+      millions = λ t. refl;
+    }
+
+-- ---- what can be read off
+
+standing-millions : (v : Values) (s : State) (h : History) → Kept v s h → (t : ℕ) → standingMillions t (liveOf (s .book) (s .table)) ≡ sumOf (tradeShare t (standing lotMillions)) (h .lots)
+unfolding standingMillions
+standing-millions v s h w t =
+    rw (w .table)
+    (run-flat (shareOf t millionsShare) stands 0 0 (h .lots) (λ g m. w .lots .fine g m .begins) (w .lots .apart)
+    ∙ sum-same (λ g. cond (stands g) (value (shareOf t millionsShare) g) 0) (tradeShare t (standing lotMillions)) (h .lots)
+    (λ g m. rw (value-share t millionsShare g, value-millions g) (swap (stands g) (eqb (g .trade) t) (lotMillions (g .lot)))))
+  where
+    swap : (s b : Bool) (x : ℕ) → cond s (cond b x 0) 0 ≡ cond b (cond s x 0) 0
+    swap true b x = refl
+    swap false true x = refl
+    swap false false x = refl
+
+pub kept-demand : (v : Values) (s : State) (h : History) → Kept v s h → Demand3 v s h
+kept-demand v s h w =
+    record {
+      historySum = w .pars;
+      bounded = λ t lt. omega (arith, w .pars t lt);
+      once = λ g m. w .lots .fine g m .once;
+      millions = λ t. omega (arith, standing-millions v s h w t, w .millions t);
+    }
+
+module _ (v : Values) (c : Call) (h : History) (w : Beside v (c .book .values .last) (trades c) (live c) h) (a : isAccepted (answerOf c) ≡ true) where
+  exact-flat : ccOrDk (typeOf (c .body)) ≡ true → Exact (targetOf (c .body)) (listed (c .body)) (flat stands (h .lots))
+  exact-flat e = rw (w .table) at (exact (targetOf (c .body)) (listed (c .body)) (live c) (listed-exact c e (fine c a)))
+
+  touched-stands : ccOrDk (typeOf (c .body)) ≡ true → (g : Brought) → g ∈ h .lots → touches (targetOf (c .body)) (listed (c .body)) g ≡ true → g .offs ≡ 0
+  touched-stands e g m q =
+      eqb-true (g .offs) 0 (first-time (targetOf (c .body)) (listed (c .body)) (h .lots) (length (tradesOf v)) (h .last) (w .lots) (exact-flat e .live) g m q)
+
+  pub taken-stands : (g : Brought) → g ∈ h .lots → takesOff (c .body) g ≡ true → g .offs ≡ 0
+  unfolding takesOff
+  taken-stands g m q = go (typeOf (c .body)) refl q
+    where
+      go : (k : MessageType) → typeOf (c .body) ≡ k → takesOffFor k (c .body) g ≡ true → g .offs ≡ 0
+      go On e t = absurd (false≢true t)
+      go Cc e t = touched-stands (ap ccOrDk e) g m t
+      go Dk e t = touched-stands (ap ccOrDk e) g m t
+      go Cx e t = absurd (false≢true t)
+      go Other e t = absurd (false≢true t)
+
+  -- a lot of the history with listed fields
+  abbrev pub Source : Fields → Type 0
+  Source f = (g : Brought) × (g ∈ h .lots) × (isTarget (targetOf (c .body)) (g .id) ≡ true) × (g .offs ≡ 0) × (takesOff (c .body) g ≡ true) × (f ∈ lotFields (g .lot))
+
+  pub listed-source : (f : Fields) → f ∈ listed (c .body) → Source f
+  unfolding takesOff
+  listed-source f m = go (typeOf (c .body)) refl
+    where
+      from : ccOrDk (typeOf (c .body)) ≡ true → ((g : Brought) → touches (targetOf (c .body)) (listed (c .body)) g ≡ true → takesOffFor (typeOf (c .body)) (c .body) g ≡ true) → Source f
+      from e k =
+          let (g, mg, sg, tg, (d, md, ed)) = listed-lot (targetOf (c .body)) (listed (c .body)) (h .lots) (exact-flat e .live) f m in (
+            g,
+            mg,
+            tg,
+            eqb-true (g .offs) 0 sg,
+            k g (both (isTarget (targetOf (c .body)) (g .id)) (any (isListed (listed (c .body))) (poolsOf (g .lot))) tg (any-in (isListed (listed (c .body))) md (rw ed (has-in m)))),
+            Memᴰ·cast (sym ed) (Memᴰ·map fieldsOf md),
+          )
+
+      go : (k : MessageType) → typeOf (c .body) ≡ k → Source f
+      go On e = absurd (List·Memᴰ·not-nil (rw (listed-as (c .body) On e) at m))
+      go Cc e = from (ap ccOrDk e) (λ g t. rw e t)
+      go Dk e = from (ap ccOrDk e) (λ g t. rw e t)
+      go Cx e = absurd (List·Memᴰ·not-nil (rw (listed-as (c .body) Cx e) at m))
+      go Other e = absurd (List·Memᴰ·not-nil (rw (listed-as (c .body) Other e) at m))

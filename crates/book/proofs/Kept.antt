@@ -1,0 +1,112 @@
+-- The values of a book stay in range: opening's rules look at no open par, the last message ID is not the highest when a message is accepted (43),
+-- and the outbound number stops at its highest.
+use Prim.Native.Nat.{ℕ, _+_, _<_}
+use mathlib.Core.Path.{_≡_, refl, sym, ap, ap₂, _∙_}
+use mathlib.Core.List.{List, map}
+use mathlib.Core.Bool.{Bool, true, false, cond, not, _&&_}
+use native.Mathlib.Omega.{arith}
+use lib.Dec.{leb, ltb}
+use lib.ListN.{take, set}
+use lib.Seq.{map-set-same, take-set-le, take-set-lt}
+use borrow.Author.Tests.{ltb-true, ltb-false, le-leb}
+use Rattle.lists.specs.Lists.{all}
+use Rattle.lists.proofs.Tests.{and-left, and-right}
+use Rattle.calendar.specs.Calendar.{isDate}
+use Rattle.sequence.specs.declared.Outbound.{Outbound}
+use Rattle.sequence.specs.Sequence.{nextOutbound, outboundMax, outbound}
+use Rattle.book.specs.declared.Trade.{Trade}
+use Rattle.book.specs.declared.Values.{Values}
+use Rattle.book.specs.Trades.{tradesOf, tradeName}
+use Rattle.book.specs.Opening.{tradesMax, holidaysMax, elevenDigitsMax, holidaysOf, limitsFine, accountFine, tradeFine, namesRepeat, valuesFine}
+use Rattle.book.specs.Checks.{noTrade, tradeAt}
+use Rattle.book.specs.Step.{withLeft}
+use Rattle.book.proofs.ListLaws.{all-of-map}
+
+-- ---- trades
+-- what looks at no open par sees no change where one trade gets another
+module _ {B : Type 0} (f : Trade → B) (blind : (t : Trade) (cents : ℕ) → f (withLeft t cents) ≡ f t) where
+  pub moved-blind : (n : ℕ) (ts : List Trade) (i cents : ℕ) → map f (take n (set ts i (withLeft (tradeAt (take n ts) i) cents))) ≡ map f (take n ts)
+  moved-blind n ts i cents = go (ltb i n) refl
+    where
+      moved : Trade
+      moved = withLeft (tradeAt (take n ts) i) cents
+
+      go : (b : Bool) → ltb i n ≡ b → map f (take n (set ts i moved)) ≡ map f (take n ts)
+      go true e = ap (map f) (take-set-lt n ts i moved (ltb-true i n e)) ∙ map-set-same f (take n ts) i moved noTrade (blind (tradeAt (take n ts) i) cents)
+      go false e = ap (map f) (take-set-le n ts i moved (ltb-false i n e))
+
+all-bits : {A : Type 0} (p : A → Bool) (xs : List A) → all (λ (b : Bool). b) (map p xs) ≡ all p xs
+all-bits p xs = all-of-map (λ (b : Bool). b) p xs
+
+-- whether trades are in range and have different IDs
+abbrev tradesFine : List ℕ → List Trade → Bool
+tradesFine holidays ts = all (tradeFine holidays) ts && not (namesRepeat (map tradeName ts))
+
+-- trades that look alike are alike in range
+pub trades-alike : (holidays : List ℕ) (ts us : List Trade) → map (tradeFine holidays) ts ≡ map (tradeFine holidays) us → map tradeName ts ≡ map tradeName us
+    → tradesFine holidays ts ≡ tradesFine holidays us
+trades-alike holidays ts us e f =
+    ap₂ (λ (a b : Bool). a && b) (sym (all-bits (tradeFine holidays) ts) ∙ ap (all (λ (b : Bool). b)) e ∙ all-bits (tradeFine holidays) us)
+    (ap (λ (ns : List (List ℕ)). not (namesRepeat ns)) f)
+
+-- ---- values
+exchanged : (a b d e g f o t : Bool) → (a && (b && (d && (e && (g && (f && (o && t))))))) ≡ true → (f′ o′ t′ : Bool) → f′ ≡ true → o′ ≡ true → t′ ≡ t
+    → (a && (b && (d && (e && (g && (f′ && (o′ && t′))))))) ≡ true
+exchanged true true true true true f o t h f′ o′ t′ p q r = rw (p, q, r) (and-right o t (and-right f (o && t) h))
+exchanged false b d e g f o t h f′ o′ t′ p q r = h
+exchanged true false d e g f o t h f′ o′ t′ p q r = h
+exchanged true true false e g f o t h f′ o′ t′ p q r = h
+exchanged true true true false g f o t h f′ o′ t′ p q r = h
+exchanged true true true true false f o t h f′ o′ t′ p q r = h
+
+-- values with other trades, last message ID and last outbound number
+abbrev pub exchange : Values → List Trade → ℕ → Outbound → Values
+exchange v ts last o =
+    record {
+      trades = ts;
+      count = v .count;
+      holidays = v .holidays;
+      days = v .days;
+      subscriber = v .subscriber;
+      connection = v .connection;
+      limits = v .limits;
+      last = last;
+      outbound = o;
+    }
+
+pub values-stay : (v : Values) (ts : List Trade) (last : ℕ) (o : Outbound) → valuesFine v ≡ true → leb last elevenDigitsMax ≡ true → leb (o .0) outboundMax ≡ true
+    → tradesFine (holidaysOf v) (take (v .count) ts) ≡ tradesFine (holidaysOf v) (tradesOf v) → valuesFine (exchange v ts last o) ≡ true
+unfolding valuesFine
+values-stay v ts last o e p q r =
+    exchanged (leb (v .count) tradesMax && leb (v .days) holidaysMax) (all isDate (holidaysOf v)) (accountFine (v .subscriber)) (accountFine (v .connection)) (limitsFine (v .limits))
+    (leb (v .last) elevenDigitsMax) (leb (v .outbound .0) outboundMax) (tradesFine (holidaysOf v) (tradesOf v)) e
+    (leb last elevenDigitsMax) (leb (o .0) outboundMax) (tradesFine (holidaysOf v) (take (v .count) ts)) p q r
+
+module _ (v : Values) (e : valuesFine v ≡ true) where
+  ranges : (leb (v .last) elevenDigitsMax && (leb (v .outbound .0) outboundMax && tradesFine (holidaysOf v) (tradesOf v))) ≡ true
+  unfolding valuesFine
+  ranges =
+      past (limitsFine (v .limits)) (past (accountFine (v .connection)) (past (accountFine (v .subscriber)) (past (all isDate (holidaysOf v))
+      (past (leb (v .count) tradesMax && leb (v .days) holidaysMax) e))))
+    where
+      past : (a : Bool) {b : Bool} → (a && b) ≡ true → b ≡ true
+      past a {b} h = and-right a b h
+
+  pub last-within : leb (v .last) elevenDigitsMax ≡ true
+  last-within = and-left (leb (v .last) elevenDigitsMax) (leb (v .outbound .0) outboundMax && tradesFine (holidaysOf v) (tradesOf v)) ranges
+
+  pub outbound-within : leb (v .outbound .0) outboundMax ≡ true
+  outbound-within =
+      and-left (leb (v .outbound .0) outboundMax) (tradesFine (holidaysOf v) (tradesOf v))
+      (and-right (leb (v .last) elevenDigitsMax) (leb (v .outbound .0) outboundMax && tradesFine (holidaysOf v) (tradesOf v)) ranges)
+
+-- ---- the outbound number stops at its highest
+pub next-within : (o : Outbound) → leb (o .0) outboundMax ≡ true → leb (nextOutbound o .0) outboundMax ≡ true
+unfolding nextOutbound
+next-within o e = go (ltb (o .0) outboundMax) refl
+  where
+    go : (b : Bool) → ltb (o .0) outboundMax ≡ b → leb ((cond b (outbound (o .0 + 1)) o) .0) outboundMax ≡ true
+    go true f =
+        let h : o .0 < outboundMax = ltb-true (o .0) outboundMax f in
+        le-leb (o .0 + 1) outboundMax (omega arith)
+    go false f = e

@@ -1,0 +1,164 @@
+-- Order of the live records: to follow is transitive, so each record follows all before it, and what is left of ordered records is ordered.
+-- The records of new lots follow each other by their ordinals, and all old ones by their message ID.
+use Prim.Native.Nat.{ℕ, _+_, _≤_, _<_}
+use mathlib.Core.Path.{_≡_, refl, sym, _∙_}
+use mathlib.Core.Logic.{_⊎_, inl, inr}
+use mathlib.Core.List.{List, [], _∷_, _++_, map}
+use mathlib.Core.Bool.{Bool, true, _&&_, _||_}
+use native.Mathlib.Omega.{arith}
+use lib.Dec.{eqb, leb, ltb}
+use borrow.Author.Tests.{ltb-true, leb-true, eqb-true, lt-ltb, le-leb, eq-eqb}
+use Rattle.lists.specs.Lists.{keep, all}
+use Rattle.lists.proofs.Tests.{and-left, and-right, both}
+use Rattle.layout.specs.declared.Detail.{Detail}
+use Rattle.terminator.specs.Lots.{Lot, poolsOf}
+use Rattle.book.specs.declared.Pool.{Pool}
+use Rattle.book.specs.Records.{poolOf, recordsOf}
+use Rattle.book.specs.Soundness.{follows, inOrder}
+use Rattle.book.proofs.ListLaws.{or-split, or-right, all-keep, all-implied, all-both, all-map, pairwise, pairwise-keep, pairwise-append}
+
+-- ---- the test as an order
+abbrev LotAfter : Pool → Pool → Type 0
+LotAfter q r = (q .ordinal < r .ordinal) ⊎ ((q .ordinal ≡ r .ordinal) × (q .kind ≡ r .kind) × (q .millions ≡ r .millions))
+
+abbrev After : Pool → Pool → Type 0
+After q r = (q .message < r .message) ⊎ ((q .message ≡ r .message) × (q .trade ≡ r .trade) × LotAfter q r)
+
+abbrev lotFollows : Pool → Pool → Bool
+lotFollows q r = ltb (q .ordinal) (r .ordinal) || (eqb (q .ordinal) (r .ordinal) && (eqb (q .kind) (r .kind) && eqb (q .millions) (r .millions)))
+
+lot-follows-is : (q r : Pool) → lotFollows q r ≡ true → LotAfter q r
+lot-follows-is q r e = go (or-split (ltb (q .ordinal) (r .ordinal)) (eqb (q .ordinal) (r .ordinal) && (eqb (q .kind) (r .kind) && eqb (q .millions) (r .millions))) e)
+  where
+    go : (ltb (q .ordinal) (r .ordinal) ≡ true) ⊎ ((eqb (q .ordinal) (r .ordinal) && (eqb (q .kind) (r .kind) && eqb (q .millions) (r .millions))) ≡ true) → LotAfter q r
+    go (inl a) = inl (ltb-true (q .ordinal) (r .ordinal) a)
+    go (inr a) =
+        let k : (eqb (q .kind) (r .kind) && eqb (q .millions) (r .millions)) ≡ true = and-right (eqb (q .ordinal) (r .ordinal)) (eqb (q .kind) (r .kind) && eqb (q .millions) (r .millions)) a in
+        inr (
+          eqb-true (q .ordinal) (r .ordinal) (and-left (eqb (q .ordinal) (r .ordinal)) (eqb (q .kind) (r .kind) && eqb (q .millions) (r .millions)) a),
+          eqb-true (q .kind) (r .kind) (and-left (eqb (q .kind) (r .kind)) (eqb (q .millions) (r .millions)) k),
+          eqb-true (q .millions) (r .millions) (and-right (eqb (q .kind) (r .kind)) (eqb (q .millions) (r .millions)) k),
+        )
+
+follows-is : (q r : Pool) → follows q r ≡ true → After q r
+follows-is q r e = go (or-split (ltb (q .message) (r .message)) (eqb (q .message) (r .message) && (eqb (q .trade) (r .trade) && lotFollows q r)) e)
+  where
+    go : (ltb (q .message) (r .message) ≡ true) ⊎ ((eqb (q .message) (r .message) && (eqb (q .trade) (r .trade) && lotFollows q r)) ≡ true) → After q r
+    go (inl a) = inl (ltb-true (q .message) (r .message) a)
+    go (inr a) =
+        let k : (eqb (q .trade) (r .trade) && lotFollows q r) ≡ true = and-right (eqb (q .message) (r .message)) (eqb (q .trade) (r .trade) && lotFollows q r) a in
+        inr (
+          eqb-true (q .message) (r .message) (and-left (eqb (q .message) (r .message)) (eqb (q .trade) (r .trade) && lotFollows q r) a),
+          eqb-true (q .trade) (r .trade) (and-left (eqb (q .trade) (r .trade)) (lotFollows q r) k),
+          lot-follows-is q r (and-right (eqb (q .trade) (r .trade)) (lotFollows q r) k),
+        )
+
+is-lot-follows : (q r : Pool) → LotAfter q r → lotFollows q r ≡ true
+is-lot-follows q r (inl a) = rw (lt-ltb (q .ordinal) (r .ordinal) a)
+is-lot-follows q r (inr (a, b, d)) =
+    or-right (ltb (q .ordinal) (r .ordinal)) (eqb (q .ordinal) (r .ordinal) && (eqb (q .kind) (r .kind) && eqb (q .millions) (r .millions)))
+    (rw (eq-eqb (q .ordinal) (r .ordinal) a, eq-eqb (q .kind) (r .kind) b, eq-eqb (q .millions) (r .millions) d))
+
+is-follows : (q r : Pool) → After q r → follows q r ≡ true
+is-follows q r (inl a) = rw (lt-ltb (q .message) (r .message) a)
+is-follows q r (inr (a, b, d)) =
+    or-right (ltb (q .message) (r .message)) (eqb (q .message) (r .message) && (eqb (q .trade) (r .trade) && lotFollows q r))
+    (rw (eq-eqb (q .message) (r .message) a, eq-eqb (q .trade) (r .trade) b) (is-lot-follows q r d))
+
+lot-after-trans : (q r s : Pool) → LotAfter q r → LotAfter r s → LotAfter q s
+lot-after-trans q r s (inl a) (inl b) = inl (omega arith)
+lot-after-trans q r s (inl a) (inr (b, k, m)) = inl (omega arith)
+lot-after-trans q r s (inr (a, k, m)) (inl b) = inl (omega arith)
+lot-after-trans q r s (inr (a, k, m)) (inr (b, l, n)) = inr (a ∙ b, k ∙ l, m ∙ n)
+
+after-trans : (q r s : Pool) → After q r → After r s → After q s
+after-trans q r s (inl a) (inl b) = inl (omega arith)
+after-trans q r s (inl a) (inr (b, t, l)) = inl (omega arith)
+after-trans q r s (inr (a, t, l)) (inl b) = inl (omega arith)
+after-trans q r s (inr (a, t, l)) (inr (b, u, k)) = inr (a ∙ b, t ∙ u, lot-after-trans q r s l k)
+
+pub follows-trans : (q r s : Pool) → follows q r ≡ true → follows r s ≡ true → follows q s ≡ true
+follows-trans q r s e f = is-follows q s (after-trans q r s (follows-is q r e) (follows-is r s f))
+
+-- ---- each record before all that come later
+abbrev chained : List Pool → Bool
+chained = pairwise follows
+
+order-chained : (rs : List Pool) → inOrder rs ≡ true → chained rs ≡ true
+order-chained [] e = refl
+order-chained (q ∷ []) e = refl
+order-chained (q ∷ r ∷ rs) e =
+    let near : follows q r ≡ true = and-left (follows q r) (inOrder (r ∷ rs)) e in
+    let below : chained (r ∷ rs) ≡ true = order-chained (r ∷ rs) (and-right (follows q r) (inOrder (r ∷ rs)) e) in
+    both (all (follows q) (r ∷ rs)) (chained (r ∷ rs))
+    (both (follows q r) (all (follows q) rs) near (all-implied (follows r) (follows q) (λ (s : Pool) h. follows-trans q r s near h) rs (and-left (all (follows r) rs) (chained rs) below)))
+    below
+
+chained-order : (rs : List Pool) → chained rs ≡ true → inOrder rs ≡ true
+chained-order [] e = refl
+chained-order (q ∷ []) e = refl
+chained-order (q ∷ r ∷ rs) e =
+    both (follows q r) (inOrder (r ∷ rs))
+    (and-left (follows q r) (all (follows q) rs) (and-left (all (follows q) (r ∷ rs)) (chained (r ∷ rs)) e))
+    (chained-order (r ∷ rs) (and-right (all (follows q) (r ∷ rs)) (chained (r ∷ rs)) e))
+
+-- ---- the records of new lots
+-- a record under a message ID and a trade, with an ordinal from a number on
+abbrev pub isFrom : ℕ → ℕ → ℕ → Pool → Bool
+isFrom id t o r = eqb (r .message) id && (eqb (r .trade) t && leb o (r .ordinal))
+
+from-next : (id t o : ℕ) (r : Pool) → isFrom id t (o + 1) r ≡ true → isFrom id t o r ≡ true
+from-next id t o r e =
+    let f : (eqb (r .trade) t && leb (o + 1) (r .ordinal)) ≡ true = and-right (eqb (r .message) id) (eqb (r .trade) t && leb (o + 1) (r .ordinal)) e in
+    let g : o + 1 ≤ r .ordinal = leb-true (o + 1) (r .ordinal) (and-right (eqb (r .trade) t) (leb (o + 1) (r .ordinal)) f) in
+    rw (and-left (eqb (r .message) id) (eqb (r .trade) t && leb (o + 1) (r .ordinal)) e, and-left (eqb (r .trade) t) (leb (o + 1) (r .ordinal)) f, le-leb o (r .ordinal) (omega arith))
+
+pub records-from : (id t o : ℕ) (ls : List Lot) → all (isFrom id t o) (recordsOf id t o ls) ≡ true
+records-from id t o [] = refl
+records-from id t o (l ∷ ls) =
+    all-both (isFrom id t o) (map (poolOf id o t l) (poolsOf l)) (recordsOf id t (o + 1) ls)
+    (all-map (isFrom id t o) (poolOf id o t l) (λ (d : Detail). rw (eq-eqb id id refl, eq-eqb t t refl, le-leb o o (omega arith))) (poolsOf l))
+    (all-implied (isFrom id t (o + 1)) (isFrom id t o) (from-next id t o) (recordsOf id t (o + 1) ls) (records-from id t (o + 1) ls))
+
+follows-from : (id t o : ℕ) (l : Lot) (d : Detail) (r : Pool) → isFrom id t (o + 1) r ≡ true → follows (poolOf id o t l d) r ≡ true
+follows-from id t o l d r e =
+    let f : (eqb (r .trade) t && leb (o + 1) (r .ordinal)) ≡ true = and-right (eqb (r .message) id) (eqb (r .trade) t && leb (o + 1) (r .ordinal)) e in
+    let m : r .message ≡ id = eqb-true (r .message) id (and-left (eqb (r .message) id) (eqb (r .trade) t && leb (o + 1) (r .ordinal)) e) in
+    let u : r .trade ≡ t = eqb-true (r .trade) t (and-left (eqb (r .trade) t) (leb (o + 1) (r .ordinal)) f) in
+    let g : o + 1 ≤ r .ordinal = leb-true (o + 1) (r .ordinal) (and-right (eqb (r .trade) t) (leb (o + 1) (r .ordinal)) f) in
+    is-follows (poolOf id o t l d) r (inr (sym m, sym u, inl (omega arith)))
+
+lot-chained : (id t o : ℕ) (l : Lot) (ds : List Detail) → chained (map (poolOf id o t l) ds) ≡ true
+lot-chained id t o l [] = refl
+lot-chained id t o l (d ∷ ds) =
+    both (all (follows (poolOf id o t l d)) (map (poolOf id o t l) ds)) (chained (map (poolOf id o t l) ds))
+    (all-map (follows (poolOf id o t l d)) (poolOf id o t l) (λ (e : Detail). is-follows (poolOf id o t l d) (poolOf id o t l e) (inr (refl, refl, inr (refl, refl, refl)))) ds)
+    (lot-chained id t o l ds)
+
+records-chained : (id t o : ℕ) (ls : List Lot) → chained (recordsOf id t o ls) ≡ true
+records-chained id t o [] = refl
+records-chained id t o (l ∷ ls) =
+    pairwise-append follows (map (poolOf id o t l) (poolsOf l)) (recordsOf id t (o + 1) ls) (lot-chained id t o l (poolsOf l)) (records-chained id t (o + 1) ls)
+    (all-map (λ (q : Pool). all (follows q) (recordsOf id t (o + 1) ls)) (poolOf id o t l)
+    (λ (d : Detail). all-implied (isFrom id t (o + 1)) (follows (poolOf id o t l d)) (follows-from id t o l d) (recordsOf id t (o + 1) ls) (records-from id t (o + 1) ls))
+    (poolsOf l))
+
+-- ---- old records, then new ones
+abbrev pub isOld : ℕ → Pool → Bool
+isOld last r = leb (r .message) last
+
+old-before : (last t : ℕ) (q r : Pool) → isOld last q ≡ true → isFrom (last + 1) t 1 r ≡ true → follows q r ≡ true
+old-before last t q r e f =
+    let m : r .message ≡ last + 1 = eqb-true (r .message) (last + 1) (and-left (eqb (r .message) (last + 1)) (eqb (r .trade) t && leb 1 (r .ordinal)) f) in
+    let h : q .message ≤ last = leb-true (q .message) last e in
+    is-follows q r (inl (omega arith))
+
+pub ordered-after : (last t : ℕ) (p : Pool → Bool) (rs : List Pool) (ls : List Lot) → all (isOld last) rs ≡ true → inOrder rs ≡ true
+    → inOrder (keep p rs ++ recordsOf (last + 1) t 1 ls) ≡ true
+ordered-after last t p rs ls old e =
+    let new : List Pool = recordsOf (last + 1) t 1 ls in
+    chained-order (keep p rs ++ new)
+    (pairwise-append follows (keep p rs) new (pairwise-keep follows p rs (order-chained rs e)) (records-chained (last + 1) t 1 ls)
+    (all-implied (isOld last) (λ (q : Pool). all (follows q) new)
+    (λ (q : Pool) h. all-implied (isFrom (last + 1) t 1) (follows q) (λ (r : Pool) f. old-before last t q r h f) new (records-from (last + 1) t 1 ls))
+    (keep p rs) (all-keep (isOld last) p rs old)))

@@ -1,0 +1,102 @@
+-- What an accepted call has passed: the first check that fails gives the answer, so where the answer is accepted none fails, whatever its number.
+use Prim.Native.Nat.{ℕ}
+use mathlib.Core.Path.{_≡_, refl, sym, _∙_}
+use mathlib.Core.List.{List, [], _∷_, map}
+use mathlib.Core.Bool.{Bool, true, false, cond, not, _&&_, _||_, false≢true}
+use lib.Dec.{eqb, leb}
+use borrow.Author.Tests.{not-false}
+use Rattle.lists.specs.Lists.{any}
+use Rattle.layout.specs.Details.{lengthFits, details}
+use Rattle.terminator.specs.Lots.{formedFor}
+use Rattle.terminator.specs.Groups.{groupsFormed, groupsBalanced}
+use Rattle.faces.specs.Faces.{newPools}
+use Rattle.sequence.specs.Sequence.{arrivalOf, outboundSpent}
+use Rattle.tally.specs.declared.MessageType.{MessageType}
+use Rattle.book.specs.declared.Reason.{Reason}
+use Rattle.book.specs.declared.Answer.the-variants.{Rejected, Dked}
+use Rattle.book.specs.Reasons.{numberOf, isAccepted}
+use Rattle.book.specs.Records.{fieldsOf, distinct}
+use Rattle.book.specs.Messages.{typeOf, idIn, targetOf, under}
+use Rattle.book.specs.Opening.{elevenDigitsMax, between}
+use Rattle.book.specs.Soundness.{isSound}
+use Rattle.book.specs.Checks.{Call, live, sequenceFails, arrived, isDuplicate, isOther, isCc, isDk, isCx, onOrCc, ccOrDk, idFails, termsFail, listedFine, parFine, tableFine, Check, checks, refusal, answerFrom, answerOf}
+
+-- whether the first check of a number is for the type and fails
+abbrev pub failsFor : ℕ → List Check → Call → Bool
+failsFor n [] c = false
+failsFor n (k ∷ ks) c = cond (eqb n (numberOf (k .reason))) (k .types (typeOf (c .body)) && k .fails c) (failsFor n ks c)
+
+refused : (t : MessageType) (r : Reason) → isAccepted (refusal t r) ≡ false
+refused t r = elim (between 30 38 (numberOf r) && not (isDk t)) as (λ b. isAccepted (cond b (Dked r) (Rejected r)) ≡ false) [ true ↦ refl | false ↦ refl ]
+
+passes : (n : ℕ) (ks : List Check) (c : Call) → isAccepted (answerFrom ks c) ≡ true → failsFor n ks c ≡ false
+passes n [] c e = refl
+passes n (k ∷ ks) c e = go (k .types (typeOf (c .body)) && k .fails c) e (passes n ks c)
+  where
+    go : (f : Bool) → isAccepted (cond f (refusal (typeOf (c .body)) (k .reason)) (answerFrom ks c)) ≡ true
+        → (isAccepted (answerFrom ks c) ≡ true → failsFor n ks c ≡ false)
+        → cond (eqb n (numberOf (k .reason))) f (failsFor n ks c) ≡ false
+    go true a below = absurd (false≢true (sym (refused (typeOf (c .body)) (k .reason)) ∙ a))
+    go false a below = elim (eqb n (numberOf (k .reason))) as (λ b. cond b false (failsFor n ks c) ≡ false) [ true ↦ refl | false ↦ below a ]
+
+-- a check that an accepted call passed, by its number
+pub passed : (n : ℕ) (c : Call) → isAccepted (answerOf c) ≡ true → failsFor n checks c ≡ false
+unfolding answerOf
+passed n c e = passes n checks c e
+
+-- a check of one type that was passed, for a message of that type
+pub for-type : (type fine : Bool) → (type && not fine) ≡ false → type ≡ true → fine ≡ true
+for-type true fine e t = not-false fine e
+for-type false fine e t = absurd (false≢true t)
+
+and-true : (b : Bool) → (b && true) ≡ false → b ≡ false
+and-true true e = e
+and-true false e = refl
+
+-- the facts that the promises use, by name
+pub record Fine (c : Call) : Type 0 where
+  -- 42, 43, 10, 11, 12
+  pub sound : isSound (c .book) (c .table) ≡ true
+  pub notSpent : (leb elevenDigitsMax (c .book .values .last) || outboundSpent (c .book .values .outbound)) ≡ false
+  pub lengthFine : lengthFits (c .body) ≡ true
+  pub sequenceFine : sequenceFails (c .body) ≡ false
+  pub notDuplicate : isDuplicate (arrivalOf (c .book .line) (arrived (c .body))) ≡ false
+  -- 13, 18
+  pub notOther : isOther (typeOf (c .body)) ≡ false
+  pub notCancel : isCx (typeOf (c .body)) ≡ false
+  -- 19, 20, 21
+  pub formed : onOrCc (typeOf (c .body)) ≡ true → formedFor (isCc (typeOf (c .body))) (details (c .body)) ≡ true
+  pub grouped : isCc (typeOf (c .body)) ≡ true → groupsFormed (details (c .body)) ≡ true
+  pub balanced : isCc (typeOf (c .body)) ≡ true → groupsBalanced (details (c .body)) ≡ true
+  -- 30, 31, 32
+  pub targetLive : ccOrDk (typeOf (c .body)) ≡ true → any (under (targetOf (c .body))) (live c) ≡ true
+  pub idFine : idFails c (idIn (c .body)) ≡ false
+  pub termsFine : termsFail c (idIn (c .body)) ≡ false
+  -- 36, 37, 38, 40
+  pub repeated : onOrCc (typeOf (c .body)) ≡ true → distinct (map fieldsOf (newPools (details (c .body)))) ≡ true
+  pub listedExact : ccOrDk (typeOf (c .body)) ≡ true → listedFine c ≡ true
+  pub parEnough : onOrCc (typeOf (c .body)) ≡ true → parFine c ≡ true
+  pub tableFits : onOrCc (typeOf (c .body)) ≡ true → tableFine c ≡ true
+
+pub fine : (c : Call) → isAccepted (answerOf c) ≡ true → Fine c
+unfolding checks
+fine c e =
+    record {
+      sound = not-false (isSound (c .book) (c .table)) (passed 42 c e);
+      notSpent = passed 43 c e;
+      lengthFine = not-false (lengthFits (c .body)) (passed 10 c e);
+      sequenceFine = passed 11 c e;
+      notDuplicate = passed 12 c e;
+      notOther = passed 13 c e;
+      notCancel = and-true (isCx (typeOf (c .body))) (passed 18 c e);
+      formed = for-type (onOrCc (typeOf (c .body))) (formedFor (isCc (typeOf (c .body))) (details (c .body))) (passed 19 c e);
+      grouped = for-type (isCc (typeOf (c .body))) (groupsFormed (details (c .body))) (passed 20 c e);
+      balanced = for-type (isCc (typeOf (c .body))) (groupsBalanced (details (c .body))) (passed 21 c e);
+      targetLive = for-type (ccOrDk (typeOf (c .body))) (any (under (targetOf (c .body))) (live c)) (passed 30 c e);
+      idFine = passed 31 c e;
+      termsFine = passed 32 c e;
+      repeated = for-type (onOrCc (typeOf (c .body))) (distinct (map fieldsOf (newPools (details (c .body))))) (passed 36 c e);
+      listedExact = for-type (ccOrDk (typeOf (c .body))) (listedFine c) (passed 37 c e);
+      parEnough = for-type (onOrCc (typeOf (c .body))) (parFine c) (passed 38 c e);
+      tableFits = for-type (onOrCc (typeOf (c .body))) (tableFine c) (passed 40 c e);
+    }

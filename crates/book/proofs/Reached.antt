@@ -1,0 +1,344 @@
+-- Every state that is reached is sound: opening leaves a sound book, and each fact of soundness outlasts every call, refused or accepted.
+-- That open par is par less the weights is the one fact that is given here; it comes from the history.
+use Prim.Native.Nat.{ℕ, zero, suc, _+_, _-_, _≤_, _<_}
+use mathlib.Core.Path.{_≡_, refl, ap, ap₂, _∙_}
+use mathlib.Core.Logic.{_⊎_, inl, inr}
+use mathlib.Core.List.{List, [], _∷_, _++_, map}
+use mathlib.Core.Bool.{Bool, true, false, cond, not, _&&_}
+use native.Mathlib.Omega.{arith}
+use lib.Dec.{eqb, leb, ltb}
+use lib.ListN.{length, take, drop, replicate, length-append, length-replicate}
+use lib.Seq.{take-append-seam, drop-append-seam, length-take-le}
+use borrow.Author.Tests.{ltb-true, leb-true, leb-false, le-leb, lt-ltb, eq-eqb}
+use Rattle.lists.specs.Lists.{keep, all}
+use Rattle.lists.proofs.Tests.{and-left, and-right, both}
+use Rattle.layout.specs.declared.Detail.{Detail}
+use Rattle.layout.specs.Details.{details}
+use Rattle.terminator.specs.Lots.{Lot}
+use Rattle.faces.specs.Faces.{newLots, newPools}
+use Rattle.sequence.specs.Sequence.{outboundMax, soundLine, lineAfter, nextOutbound, outboundSpent}
+use Rattle.sequence.proofs.Soundness.{start-sound, stays-sound}
+use Rattle.tally.specs.declared.MessageType.{MessageType}
+use Rattle.tally.specs.declared.MessageType.the-variants.{On, Cc, Dk, Cx, Other}
+use Rattle.book.specs.declared.Trade.{Trade}
+use Rattle.book.specs.declared.Values.{Values}
+use Rattle.book.specs.declared.Book.{Book}
+use Rattle.book.specs.declared.Pool.{Pool}
+use Rattle.book.specs.declared.Answer.{Answer}
+use Rattle.book.specs.Reasons.{isAccepted}
+use Rattle.book.specs.Records.{fieldsOf, distinct, recordsOf, noPool, tradeWeight, weightOfRecords}
+use Rattle.book.specs.Messages.{typeOf, targetOf, listedOf, listed, broughtBy, brought}
+use Rattle.book.specs.Trades.{tradesOf, tradeName}
+use Rattle.book.specs.Opening.{recordsMax, elevenDigitsMax, holidaysOf, tradeFine, valuesFine, openingFine, atPar, opened, cleared}
+use Rattle.book.specs.Soundness.{liveOf, recordFine, inOrder, fieldsOnce, isNone, parsFrom, Sound, isSound}
+use Rattle.book.specs.Checks.{Call, live, trades, arrived, concerned, onOrCc, ccOrDk, isCc, isTaken, taken, allLive, wholeLots, exactLots, tradeAt, answerOf}
+use Rattle.book.specs.Trades.{broughtWeight}
+use Rattle.book.specs.Step.{isSilent, gapAt, lineOf, beforeAa, outboundOf, tradesMoved, liveMoved, tableMoved, accepted, bookAfter, tableAfter}
+use Rattle.book.specs.History.{fieldsOfLots}
+use Rattle.book.proofs.ListLaws.{neither-left, all-keep, all-implied, all-both, all-replicate, length-keep}
+use Rattle.book.proofs.Passed.{fine}
+use Rattle.book.proofs.Pools.{lots-formed-fields, records-new}
+use Rattle.book.proofs.Ordered.{isOld, ordered-after}
+use Rattle.book.proofs.Matched.{once-after, taken-enough}
+use Rattle.book.proofs.Stored.{new-ends, records-fine, record-stays, record-old}
+use Rattle.book.proofs.Kept.{moved-blind, trades-alike, exchange, values-stay, last-within, outbound-within, next-within}
+
+-- ---- the test and the facts
+pub is-sound : (b : Book) (table : List Pool) → isSound b table ≡ true → Sound b table
+unfolding isSound
+is-sound b table e =
+    let e₁ = and-right (valuesFine (b .values)) _ e in
+    let e₂ = and-right (leb (length table) recordsMax) _ e₁ in
+    let e₃ = and-right (soundLine (b .line)) _ e₂ in
+    let e₄ = and-right (leb (b .live) (length table)) _ e₃ in
+    let e₅ = and-right (all (recordFine (b .values)) (liveOf b table)) _ e₄ in
+    let e₆ = and-right (inOrder (liveOf b table)) _ e₅ in
+    let e₇ = and-right (fieldsOnce (liveOf b table)) _ e₆ in
+    record {
+      values = and-left (valuesFine (b .values)) _ e;
+      tableShort = and-left (leb (length table) recordsMax) _ e₁;
+      inbound = and-left (soundLine (b .line)) _ e₂;
+      liveWithin = and-left (leb (b .live) (length table)) _ e₃;
+      records = and-left (all (recordFine (b .values)) (liveOf b table)) _ e₄;
+      ordered = and-left (inOrder (liveOf b table)) _ e₅;
+      once = and-left (fieldsOnce (liveOf b table)) _ e₆;
+      zeros = and-left (all isNone (drop (b .live) table)) _ e₇;
+      pars = and-right (all isNone (drop (b .live) table)) _ e₇;
+    }
+
+pub sound-is : (b : Book) (table : List Pool) → Sound b table → isSound b table ≡ true
+unfolding isSound
+sound-is b table s =
+    rw (s .values, s .tableShort, s .inbound, s .liveWithin, s .records, s .ordered, s .once, s .zeros, s .pars)
+
+-- ---- opening
+take-map : {A B : Type 0} (f : A → B) (n : ℕ) (xs : List A) → take n (map f xs) ≡ map f (take n xs)
+take-map f zero xs = refl
+take-map f (suc n) [] = refl
+take-map {A} {B} f (suc n) (x ∷ xs) = ap (λ (ys : List B). f x ∷ ys) (take-map f n xs)
+
+at-par-blind : {B : Type 0} (f : Trade → B) → ((t : Trade) → f (atPar t) ≡ f t) → (ts : List Trade) → map f (map atPar ts) ≡ map f ts
+at-par-blind f h [] = refl
+at-par-blind {B} f h (t ∷ ts) = ap₂ (λ (x : B) (xs : List B). x ∷ xs) (h t) (at-par-blind f h ts)
+
+at-par : (i : ℕ) (ts : List Trade) → parsFrom i (map atPar ts) [] ≡ true
+unfolding tradeWeight
+at-par i [] = refl
+at-par i (t ∷ ts) = both (eqb (t .par + 0) (t .par)) (parsFrom (i + 1) (map atPar ts) []) (eq-eqb (t .par + 0) (t .par) (omega arith)) (at-par (i + 1) ts)
+
+pub opened-sound : (v : Values) (table : List Pool) → openingFine v table ≡ true → Sound (opened v) (cleared table)
+unfolding openingFine opened cleared
+opened-sound v table e =
+    let fits : valuesFine v ≡ true = and-left (valuesFine v) (leb (length table) recordsMax) e in
+    let same : take (v .count) (map atPar (v .trades)) ≡ map atPar (tradesOf v) = take-map atPar (v .count) (v .trades) in
+    record {
+      values =
+          values-stay v (map atPar (v .trades)) (v .last) (v .outbound) fits (last-within v fits) (outbound-within v fits)
+          (trades-alike (holidaysOf v) (take (v .count) (map atPar (v .trades))) (tradesOf v)
+          (ap (map (tradeFine (holidaysOf v))) same ∙ at-par-blind (tradeFine (holidaysOf v)) (λ (t : Trade). refl) (tradesOf v))
+          (ap (map tradeName) same ∙ at-par-blind tradeName (λ (t : Trade). refl) (tradesOf v)));
+      tableShort = rw (length-replicate (length table) noPool) (and-right (valuesFine v) (leb (length table) recordsMax) e);
+      inbound = start-sound;
+      liveWithin = le-leb 0 (length (replicate (length table) noPool)) (omega arith);
+      records = refl;
+      ordered = refl;
+      once = refl;
+      zeros = all-replicate isNone (length table) noPool refl;
+      pars = ap (λ (ts : List Trade). parsFrom 0 ts []) same ∙ at-par 0 (tradesOf v);
+    }
+
+-- ---- what an accepted message takes off and brings
+module _ (c : Call) (ok : isAccepted (answerOf c) ≡ true) where
+  abbrev ds : List Detail
+  ds = details (c .body)
+
+  abbrev last : ℕ
+  last = c .book .values .last
+
+  -- new lots, or none
+  brought-either : ((onOrCc (typeOf (c .body)) ≡ true) × (brought (c .body) ≡ newLots ds)) ⊎ (brought (c .body) ≡ [])
+  unfolding brought
+  brought-either = go (typeOf (c .body))
+    where
+      go : (t : MessageType) → ((onOrCc t ≡ true) × (broughtBy t (details (c .body)) ≡ newLots (details (c .body)))) ⊎ (broughtBy t (details (c .body)) ≡ [])
+      go On = inl (refl, refl)
+      go Cc = inl (refl, refl)
+      go Dk = inr refl
+      go Cx = inr refl
+      go Other = inr refl
+
+  -- fields to take off are found, or none are listed
+  listed-either : (ccOrDk (typeOf (c .body)) ≡ true) ⊎ (listed (c .body) ≡ [])
+  unfolding listed
+  listed-either = go (typeOf (c .body))
+    where
+      go : (t : MessageType) → (ccOrDk t ≡ true) ⊎ (map fieldsOf (listedOf t (details (c .body))) ≡ [])
+      go On = inr refl
+      go Cc = inl refl
+      go Dk = inl refl
+      go Cx = inr refl
+      go Other = inr refl
+
+  -- at least as many records go as fields are listed
+  gone-enough : length (listed (c .body)) ≤ length (taken c)
+  gone-enough = go listed-either
+    where
+      go : (ccOrDk (typeOf (c .body)) ≡ true) ⊎ (listed (c .body) ≡ []) → length (listed (c .body)) ≤ length (taken c)
+      go (inr e) =
+          let h : length (listed (c .body)) ≡ 0 = ap length e in
+          omega arith
+      go (inl t) =
+          let exact : exactLots (targetOf (c .body)) (listed (c .body)) (live c) ≡ true = and-left (exactLots (targetOf (c .body)) (listed (c .body)) (live c)) _ (fine c ok .listedExact t) in
+          let rest : (distinct (listed (c .body)) && wholeLots (targetOf (c .body)) (listed (c .body)) (live c)) ≡ true =
+          and-right (allLive (targetOf (c .body)) (listed (c .body)) (live c)) (distinct (listed (c .body)) && wholeLots (targetOf (c .body)) (listed (c .body)) (live c)) exact in
+          taken-enough (targetOf (c .body)) (listed (c .body)) (live c)
+          (and-left (allLive (targetOf (c .body)) (listed (c .body)) (live c)) (distinct (listed (c .body)) && wholeLots (targetOf (c .body)) (listed (c .body)) (live c)) exact)
+          (and-left (distinct (listed (c .body))) (wholeLots (targetOf (c .body)) (listed (c .body)) (live c)) rest)
+
+  abbrev stays : Pool → Bool
+  stays r = not (isTaken (targetOf (c .body)) (listed (c .body)) r)
+
+  abbrev new : List Pool
+  new = recordsOf (last + 1) (concerned c) 1 (brought (c .body))
+
+  -- the live records after it fit the table
+  pub moved-fits : Sound (c .book) (c .table) → length (liveMoved c) ≤ length (c .table)
+  unfolding liveMoved
+  moved-fits s = go brought-either
+    where
+      split : length (keep stays (live c)) + length (taken c) ≡ length (live c)
+      split = length-keep (isTaken (targetOf (c .body)) (listed (c .body))) (live c)
+
+      within : c .book .live ≤ length (c .table)
+      within = leb-true (c .book .live) (length (c .table)) (s .liveWithin)
+
+      size : length (live c) ≡ c .book .live
+      size = length-take-le (c .book .live) (c .table) within
+
+      sum : length (keep stays (live c) ++ new) ≡ length (keep stays (live c)) + length new
+      sum = length-append (keep stays (live c)) new
+
+      go : ((onOrCc (typeOf (c .body)) ≡ true) × (brought (c .body) ≡ newLots ds)) ⊎ (brought (c .body) ≡ []) → length (keep stays (live c) ++ new) ≤ length (c .table)
+      go (inl (t, e)) =
+          let count : length new ≡ length (newPools ds) =
+          ap (λ (ls : List Lot). length (recordsOf (last + 1) (concerned c) 1 ls)) e ∙ records-new (last + 1) (concerned c) 1 (isCc (typeOf (c .body))) ds (fine c ok .formed t) in
+          let room : length (live c) + length (newPools ds) ≤ length (c .table) + length (listed (c .body)) =
+          leb-true (length (live c) + length (newPools ds)) (length (c .table) + length (listed (c .body))) (fine c ok .tableFits t) in
+          omega (arith, sum, split, gone-enough)
+      go (inr e) =
+          let count : length new ≡ 0 = ap (λ (ls : List Lot). length (recordsOf (last + 1) (concerned c) 1 ls)) e in
+          omega (arith, sum, split, size, within)
+
+  -- they are in order
+  old : Sound (c .book) (c .table) → all (isOld last) (live c) ≡ true
+  old s = all-implied (recordFine (c .book .values)) (isOld last) (record-old (c .book .values)) (live c) (s .records)
+
+  moved-ordered : Sound (c .book) (c .table) → inOrder (liveMoved c) ≡ true
+  unfolding liveMoved
+  moved-ordered s = ordered-after last (concerned c) stays (live c) (brought (c .body)) (old s) (s .ordered)
+
+  -- no matched fields stand twice under one message ID
+  new-distinct : distinct (fieldsOfLots (brought (c .body))) ≡ true
+  new-distinct = go brought-either
+    where
+      go : ((onOrCc (typeOf (c .body)) ≡ true) × (brought (c .body) ≡ newLots ds)) ⊎ (brought (c .body) ≡ []) → distinct (fieldsOfLots (brought (c .body))) ≡ true
+      go (inl (t, e)) =
+          ap (λ (ls : List Lot). distinct (fieldsOfLots ls)) e ∙ ap distinct (lots-formed-fields (isCc (typeOf (c .body))) ds (fine c ok .formed t)) ∙ fine c ok .repeated t
+      go (inr e) = ap (λ (ls : List Lot). distinct (fieldsOfLots ls)) e
+
+  moved-once : Sound (c .book) (c .table) → fieldsOnce (liveMoved c) ≡ true
+  unfolding liveMoved
+  moved-once s = once-after last (concerned c) stays (live c) (brought (c .body)) (old s) (s .once) new-distinct
+
+  -- each is fine by itself
+  opened-trade : onOrCc (typeOf (c .body)) ≡ true → ltb (concerned c) (c .book .values .count) ≡ true
+  opened-trade t =
+      let h : concerned c < length (trades c) = ltb-true (concerned c) (length (trades c)) (and-left (ltb (concerned c) (length (trades c))) _ (fine c ok .parEnough t)) in
+      lt-ltb (concerned c) (c .book .values .count) (omega (arith, short (c .book .values .count) (c .book .values .trades)))
+    where
+      short : (n : ℕ) (ts : List Trade) → length (take n ts) ≤ n
+      short zero ts = omega arith
+      short (suc n) [] = omega arith
+      short (suc n) (x ∷ ts) = omega (arith, short n ts)
+
+  moved-records : Sound (c .book) (c .table) → (w : Values) → w .count ≡ c .book .values .count → w .last ≡ last + 1 → all (recordFine w) (liveMoved c) ≡ true
+  unfolding liveMoved
+  moved-records s w ec el =
+      all-both (recordFine w) (keep stays (live c)) new
+      (all-keep (recordFine w) stays (live c) (all-implied (recordFine (c .book .values)) (recordFine w) (record-stays (c .book .values) w ec (omega arith)) (live c) (s .records)))
+      (go brought-either)
+    where
+      go : ((onOrCc (typeOf (c .body)) ≡ true) × (brought (c .body) ≡ newLots ds)) ⊎ (brought (c .body) ≡ []) → all (recordFine w) new ≡ true
+      go (inl (t, e)) =
+          let low : leb 1 (last + 1) ≡ true = le-leb 1 (last + 1) (omega arith) in
+          let high : leb (last + 1) (w .last) ≡ true = le-leb (last + 1) (w .last) (omega arith) in
+          ap (λ (ls : List Lot). all (recordFine w) (recordsOf (last + 1) (concerned c) 1 ls)) e
+          ∙ records-fine w (last + 1) (concerned c) 1 (newLots ds) (ap (ltb (concerned c)) ec ∙ opened-trade t) (rw (low, high)) (omega arith) (new-ends ds)
+      go (inr e) = ap (λ (ls : List Lot). all (recordFine w) (recordsOf (last + 1) (concerned c) 1 ls)) e
+
+-- ---- the counters of any call
+line-sound : (c : Call) (a : Answer) → soundLine (c .book .line) ≡ true → soundLine (lineOf c a) ≡ true
+line-sound c a e =
+    elim (isSilent a) as (λ b. soundLine (cond b (c .book .line) (lineAfter (c .book .line) (arrived (c .body)))) ≡ true)
+    [ true ↦ e | false ↦ stays-sound (c .book .line) (arrived (c .body)) e ]
+
+outbound-fits : (c : Call) (a : Answer) → leb (c .book .values .outbound .0) outboundMax ≡ true → leb (outboundOf c a .0) outboundMax ≡ true
+outbound-fits c a e =
+    elim (isSilent a) as (λ b. leb ((cond b (c .book .values .outbound) (nextOutbound (beforeAa c))) .0) outboundMax ≡ true)
+    [ true ↦ e | false ↦ next-within (beforeAa c) before ]
+  where
+    before : leb (beforeAa c .0) outboundMax ≡ true
+    before =
+        elim (gapAt c) as (λ b. leb ((cond b (nextOutbound (c .book .values .outbound)) (c .book .values .outbound)) .0) outboundMax ≡ true)
+        [ true ↦ next-within (c .book .values .outbound) e | false ↦ e ]
+
+-- ---- after a call
+abbrev bookIf : Call → Bool → Book
+bookIf c ok =
+    record {
+      values = exchange (c .book .values) (cond ok (tradesMoved c) (c .book .values .trades)) (cond ok (c .book .values .last + 1) (c .book .values .last)) (outboundOf c (answerOf c));
+      line = lineOf c (answerOf c);
+      live = cond ok (length (liveMoved c)) (c .book .live);
+    }
+
+abbrev tableIf : Call → Bool → List Pool
+tableIf c ok = cond ok (tableMoved c) (c .table)
+
+moved-values : (c : Call) → isAccepted (answerOf c) ≡ true → Sound (c .book) (c .table) → valuesFine (bookIf c true .values) ≡ true
+unfolding tradesMoved
+moved-values c ok s =
+    values-stay v (tradesMoved c) (v .last + 1) (outboundOf c (answerOf c)) (s .values) (le-leb (v .last + 1) elevenDigitsMax (omega (arith, spare)))
+    (outbound-fits c (answerOf c) (outbound-within v (s .values)))
+    (trades-alike (holidaysOf v) (take (v .count) (tradesMoved c)) (tradesOf v)
+    (moved-blind (tradeFine (holidaysOf v)) (λ (t : Trade) (cents : ℕ). refl) (v .count) (v .trades) (concerned c) left)
+    (moved-blind tradeName (λ (t : Trade) (cents : ℕ). refl) (v .count) (v .trades) (concerned c) left))
+  where
+    v : Values
+    v = c .book .values
+
+    spare : v .last < elevenDigitsMax
+    spare = leb-false elevenDigitsMax (v .last) (neither-left (leb elevenDigitsMax (v .last)) (outboundSpent (v .outbound)) (fine c ok .notSpent))
+
+    left : ℕ
+    left = (tradeAt (trades c) (concerned c) .left + weightOfRecords (taken c)) - broughtWeight (c .body)
+
+moved-zeros : (c : Call) → all isNone (drop (length (liveMoved c)) (tableMoved c)) ≡ true
+unfolding tableMoved
+moved-zeros c = rw (drop-append-seam (liveMoved c) (replicate (length (c .table) - length (liveMoved c)) noPool)) (all-replicate isNone (length (c .table) - length (liveMoved c)) noPool refl)
+
+moved-live : (c : Call) → take (length (liveMoved c)) (tableMoved c) ≡ liveMoved c
+unfolding tableMoved
+moved-live c = take-append-seam (liveMoved c) (replicate (length (c .table) - length (liveMoved c)) noPool)
+
+moved-length : (c : Call) → isAccepted (answerOf c) ≡ true → Sound (c .book) (c .table) → length (tableMoved c) ≡ length (c .table)
+unfolding tableMoved
+moved-length c ok s =
+    let fits : length (liveMoved c) ≤ length (c .table) = moved-fits c ok s in
+    length-append (liveMoved c) (replicate (length (c .table) - length (liveMoved c)) noPool)
+    ∙ rw (length-replicate (length (c .table) - length (liveMoved c)) noPool) (omega arith)
+
+-- a refused call moves no more than the counters
+refused-sound : (c : Call) → Sound (c .book) (c .table) → Sound (bookIf c false) (c .table)
+refused-sound c s =
+    record {
+      values =
+          values-stay (c .book .values) (c .book .values .trades) (c .book .values .last) (outboundOf c (answerOf c)) (s .values) (last-within (c .book .values) (s .values))
+          (outbound-fits c (answerOf c) (outbound-within (c .book .values) (s .values))) refl;
+      tableShort = s .tableShort;
+      inbound = line-sound c (answerOf c) (s .inbound);
+      liveWithin = s .liveWithin;
+      records = s .records;
+      ordered = s .ordered;
+      once = s .once;
+      zeros = s .zeros;
+      pars = s .pars;
+    }
+
+accepted-sound : (c : Call) → isAccepted (answerOf c) ≡ true → Sound (c .book) (c .table)
+    → parsFrom 0 (tradesOf (bookIf c true .values)) (liveOf (bookIf c true) (tableMoved c)) ≡ true → Sound (bookIf c true) (tableMoved c)
+accepted-sound c ok s p =
+    record {
+      values = moved-values c ok s;
+      tableShort = rw (moved-length c ok s) (s .tableShort);
+      inbound = line-sound c (answerOf c) (s .inbound);
+      liveWithin = le-leb (length (liveMoved c)) (length (tableMoved c)) (omega (arith, moved-length c ok s, moved-fits c ok s));
+      records = rw (moved-live c) (moved-records c ok s (bookIf c true .values) refl refl);
+      ordered = rw (moved-live c) (moved-ordered c ok s);
+      once = rw (moved-live c) (moved-once c ok s);
+      zeros = moved-zeros c;
+      pars = p;
+    }
+
+-- soundness outlasts every call that is refused, and every other where the open pars do
+pub kept-refused : (c : Call) → accepted c ≡ false → Sound (c .book) (c .table) → Sound (bookAfter c) (tableAfter c)
+unfolding bookAfter tableAfter
+kept-refused c e s = rw e (refused-sound c s)
+
+pub kept : (c : Call) → Sound (c .book) (c .table) → parsFrom 0 (tradesOf (bookAfter c .values)) (liveOf (bookAfter c) (tableAfter c)) ≡ true
+    → Sound (bookAfter c) (tableAfter c)
+unfolding bookAfter tableAfter
+kept c s p = go (accepted c) refl p
+  where
+    go : (ok : Bool) → accepted c ≡ ok → parsFrom 0 (tradesOf (bookIf c ok .values)) (liveOf (bookIf c ok) (tableIf c ok)) ≡ true → Sound (bookIf c ok) (tableIf c ok)
+    go true e q = accepted-sound c e s q
+    go false e q = refused-sound c s

@@ -1,0 +1,194 @@
+-- What the checks of an accepted ON, CC or DK give is what its move asks for; and the lots that the history makes of the message are those of the move.
+use mathlib.Core.Path.{_≡_, refl, sym, ap, _∙_}
+use mathlib.Core.Bool.{Bool, true, false, not, cond, _&&_, _||_, false≢true, and-false}
+use mathlib.Core.List.{List, [], _∷_, _++_, map, append-nil}
+use Prim.Native.Nat.{ℕ, _+_, _≤_, _<_}
+use native.Mathlib.Omega.{arith}
+use native.Mathlib.Nat.{add-zero}
+use native.Mathlib.Decide.{ℕ-discrete}
+use lib.Dec.{eqb}
+use lib.ListN.{length, length-map}
+use borrow.Author.Tests.{eq-eqb, ne-eqb}
+use Rattle.lists.specs.Lists.{same, keep, any, all, sumOf}
+use Rattle.lists.proofs.Tests.{_∈_, clash, cond-zero, all-in, any-none, sum-same, sum-zero}
+use Rattle.fields.specs.declared.Field.{Field}
+use Rattle.layout.specs.Columns as columns
+use Rattle.layout.specs.Columns.{bytesIn, numberIn}
+use Rattle.layout.specs.Details.{details}
+use Rattle.terminator.specs.Lots.{Lot, poolsOf, lotWeight, lotMillions, formedFor}
+use Rattle.terminator.specs.Groups.{groups, groupFormed, groupBalanced, groupsFormed, groupsBalanced}
+use Rattle.faces.specs.Faces.{newPools, newLots}
+use Rattle.tally.specs.declared.MessageType.{MessageType}
+use Rattle.tally.specs.declared.MessageType.the-variants.{On, Cc, Dk, Cx, Other}
+use Rattle.trade_id.specs.declared.TradeId.{TradeId}
+use Rattle.trade_id.specs.declared.TradeId.the-variants.{Whole, Broken, Absent}
+use Rattle.book.specs.declared.Trade.{Trade}
+use Rattle.book.specs.declared.Values.{Values}
+use Rattle.book.specs.declared.Pool.{Pool}
+use Rattle.book.specs.Records.{Fields, fieldsOf, distinct, weightOfRecords}
+use Rattle.book.specs.Messages.{typeOf, idIn, targetOf, under, listedOf, listed, broughtBy, brought}
+use Rattle.book.specs.Trades.{tradesOf, sideOf, isNumber, priceIs, agrees, firstTrade, mayTake, tradeOfOn, openPars}
+use Rattle.book.specs.Opening.{atPar}
+use Rattle.book.specs.Checks.{targetTrade, tradeAt, isTaken, wholeLots, exactLots, oneLot, canceledLots}
+use Rattle.book.specs.History.{Brought, History, isTarget, touches, takeOff, tradeShare, stands, due, bring, historySums, fieldsOfLots, dueByGroups, lotsAfter}
+use Rattle.book.proofs.Pools.{canceledOf, replacementOf, lots-formed-fields, canceled-fields, groups-canceled, groups-new}
+use Rattle.book.proofs.Laid.{flat}
+use Rattle.book.proofs.Taking.{Lots, Exact, exact, isListed, touches-target, gone, gone-there, gone-elsewhere, target-trade, target-range}
+use Rattle.book.proofs.Moving.{Beside, Move, same-count, same-opens, movedLots}
+use Rattle.book.proofs.Substituting.{gone-canceled, due-there, groups-even}
+
+-- ---- a message that lists nothing touches nothing
+
+touches-none : (tgt : Field) (h : Brought) → touches tgt [] h ≡ false
+touches-none tgt h = rw (any-none (isListed []) (poolsOf (h .lot)) (λ d. refl)) (and-false (isTarget tgt (h .id)))
+
+gone-none : (tgt : Field) (v : Lot → ℕ) (u : ℕ) (hs : List Brought) → sumOf (tradeShare u (gone tgt [] v)) hs ≡ 0
+gone-none tgt v u hs =
+    sum-same (tradeShare u (gone tgt [] v)) (λ h. 0) hs (λ h m. rw (touches-none tgt h, and-false (stands h)) (cond-zero (eqb (h .trade) u))) ∙ sum-zero hs
+
+take-none : (tgt : Field) (hs : List Brought) → map (takeOff false tgt []) hs ≡ hs
+take-none tgt [] = refl
+take-none tgt (h ∷ hs) = rw (take-none tgt hs, touches-none tgt h, add-zero (h .offs), add-zero (h .dks))
+
+exact-none : (tgt : Field) (rs : List Pool) → Exact tgt [] rs
+exact-none tgt rs = record { live = refl; distinct = refl; whole = all-in _ rs (λ r m. rw (and-false (under tgt r))) }
+
+-- ---- the trade that an ON goes to does not depend on the trades' open pars but for those that it is given
+
+side-atPar : (k : MessageType) (t : Trade) → sideOf k (atPar t) ≡ sideOf k t
+side-atPar On t = refl
+side-atPar Cc t = refl
+side-atPar Dk t = refl
+side-atPar Cx t = refl
+side-atPar Other t = refl
+
+agrees-atPar : (body : List ℕ) (t : Trade) → agrees body (atPar t) ≡ agrees body t
+unfolding agrees
+agrees-atPar body t = rw (side-atPar (typeOf body) t)
+
+may-atPar : (body : List ℕ) (id : TradeId) (t : Trade) (left : ℕ) → mayTake body id (atPar t) left ≡ mayTake body id t left
+may-atPar body (Whole place n) t left = refl
+may-atPar body Broken t left = refl
+may-atPar body Absent t left = rw (agrees-atPar body t)
+
+first-atPar : (body : List ℕ) (id : TradeId) (i : ℕ) (ts : List Trade) (os : List ℕ) → firstTrade (mayTake body id) i (map atPar ts) os ≡ firstTrade (mayTake body id) i ts os
+first-atPar body id i [] os = refl
+first-atPar body id i (t ∷ ts) [] = ap (λ (n : ℕ). i + n) (length-map (t ∷ ts) atPar)
+first-atPar body id i (t ∷ ts) (o ∷ os) = rw (may-atPar body id t o, first-atPar body id (i + 1) ts os)
+
+same-trade : (body : List ℕ) (os : List ℕ) (ts us : List Trade) → map atPar ts ≡ map atPar us → tradeOfOn body ts os ≡ tradeOfOn body us os
+unfolding tradeOfOn
+same-trade body os ts us e =
+    sym (first-atPar body (idIn body) 0 ts os) ∙ ap (λ (xs : List Trade). firstTrade (mayTake body (idIn body)) 0 xs os) e ∙ first-atPar body (idIn body) 0 us os
+
+-- ---- what a body of a type lists and brings
+
+pub listed-as : (body : List ℕ) (k : MessageType) → typeOf body ≡ k → listed body ≡ map fieldsOf (listedOf k (details body))
+unfolding listed
+listed-as body k e = ap (λ (x : MessageType). map fieldsOf (listedOf x (details body))) e
+
+brought-as : (body : List ℕ) (k : MessageType) → typeOf body ≡ k → brought body ≡ broughtBy k (details body)
+unfolding brought
+brought-as body k e = ap (λ (x : MessageType). broughtBy x (details body)) e
+
+-- ---- the moves of the three types
+
+module _ (v : Values) (last : ℕ) (ts : List Trade) (rs : List Pool) (h : History) (w : Beside v last ts rs h) (body : List ℕ) where
+  -- an ON
+  pub on-move : typeOf body ≡ On → (cc : Bool) → formedFor cc (details body) ≡ true → distinct (map fieldsOf (newPools (details body))) ≡ true
+      → (t : ℕ) → t < length ts → sumOf lotWeight (brought body) ≤ tradeAt ts t .left + weightOfRecords (keep (isTaken (targetOf body) (listed body)) rs)
+      → Move ts rs (h .lots) t (targetOf body) (listed body) (brought body) true false
+  on-move e cc fo di t lt le =
+      record {
+        exact = rw (listed-as body On e) (exact-none (targetOf body) rs);
+        range = lt;
+        there = λ g m q. clash (rw (listed-as body On e) at q) (touches-none (targetOf body) g);
+        room = le;
+        apart = rw (brought-as body On e, lots-formed-fields cc (details body) fo) di;
+        even = λ u. rw (listed-as body On e, gone-none (targetOf body) lotMillions u (h .lots));
+      }
+
+  pub on-lots : typeOf body ≡ On
+      → movedLots (h .last) (h .lots) (tradeOfOn body ts (openPars ts)) (targetOf body) (listed body) (brought body) true false ≡ lotsAfter On v (h .last + 1) body (h .lots)
+  on-lots e =
+      rw (same-opens v last ts rs h w, same-trade body (openPars ts) (tradesOf v) ts (sym (w .terms)), listed-as body On e, take-none (targetOf body) (h .lots))
+
+  -- a CC or DK: its lots are of the target's trade
+  module _ (un : any (under (targetOf body)) rs ≡ true) (ex : exactLots (targetOf body) (listed body) rs ≡ true) where
+    target-there : (g : Brought) → g ∈ h .lots → isTarget (targetOf body) (g .id) ≡ true → g .trade ≡ targetTrade body rs
+    unfolding targetTrade
+    target-there = rw (w .table) (target-trade (length (tradesOf v)) (h .last) (targetOf body) (h .lots) (w .lots) (rw (w .table) at un))
+
+    listed-there : (g : Brought) → g ∈ h .lots → touches (targetOf body) (listed body) g ≡ true → g .trade ≡ targetTrade body rs
+    listed-there g m q = target-there g m (touches-target (targetOf body) (listed body) g q)
+
+    target-opened : targetTrade body rs < length ts
+    unfolding targetTrade
+    target-opened = rw (same-count v ts (w .terms), w .table) (target-range (length (tradesOf v)) (h .last) (targetOf body) (h .lots) (w .lots) (rw (w .table) at un))
+
+    -- a DK
+    pub dk-move : typeOf body ≡ Dk → Move ts rs (h .lots) (targetTrade body rs) (targetOf body) (listed body) (brought body) false true
+    dk-move e =
+        record {
+          exact = exact (targetOf body) (listed body) rs ex;
+          range = target-opened;
+          there = listed-there;
+          room = rw (brought-as body Dk e) (omega arith);
+          apart = rw (brought-as body Dk e);
+          even = λ u. rw (brought-as body Dk e, cond-zero (eqb (targetTrade body rs) u));
+        }
+
+    pub dk-lots : typeOf body ≡ Dk
+        → movedLots (h .last) (h .lots) (targetTrade body rs) (targetOf body) (listed body) (brought body) false true ≡ lotsAfter Dk v (h .last + 1) body (h .lots)
+    dk-lots e = rw (brought-as body Dk e) (append-nil (map (takeOff true (targetOf body) (listed body)) (h .lots)))
+
+    -- a CC
+    module _ (e : typeOf body ≡ Cc) (cc : Bool) (fo : formedFor cc (details body) ≡ true) where
+      listed-canceled : listed body ≡ fieldsOfLots (canceledLots (details body))
+      listed-canceled = listed-as body Cc e ∙ sym (canceled-fields cc (details body) fo)
+
+      cc-gone : groupsBalanced (details body) ≡ true → all (oneLot (targetOf body) rs) (canceledLots (details body)) ≡ true
+          → sumOf (gone (targetOf body) (listed body) lotMillions) (h .lots) ≡ sumOf lotMillions (brought body)
+      unfolding groupsBalanced
+      cc-gone ba on =
+          rw listed-canceled
+          (gone-canceled (length (tradesOf v)) (h .last) (targetOf body) (h .lots) (w .lots) (canceledLots (details body))
+          (rw (w .table, listed-canceled) at (exact (targetOf body) (listed body) rs ex .live)) (rw listed-canceled at (exact (targetOf body) (listed body) rs ex .distinct)) (rw (w .table) at on))
+          ∙ ap (sumOf lotMillions) (sym (groups-canceled (details body)))
+          ∙ groups-even (groups (details body)) ba
+          ∙ ap (sumOf lotMillions) (groups-new (details body) ∙ sym (brought-as body Cc e))
+
+      pub cc-move : distinct (map fieldsOf (newPools (details body))) ≡ true → groupsBalanced (details body) ≡ true
+          → all (oneLot (targetOf body) rs) (canceledLots (details body)) ≡ true
+          → sumOf lotWeight (brought body) ≤ tradeAt ts (targetTrade body rs) .left + weightOfRecords (keep (isTaken (targetOf body) (listed body)) rs)
+          → Move ts rs (h .lots) (targetTrade body rs) (targetOf body) (listed body) (brought body) false false
+      cc-move di ba on le =
+          record {
+            exact = exact (targetOf body) (listed body) rs ex;
+            range = target-opened;
+            there = listed-there;
+            room = le;
+            apart = rw (brought-as body Cc e, lots-formed-fields cc (details body) fo) di;
+            even = λ u. omega (arith, even u (ℕ-discrete u (targetTrade body rs)));
+          }
+        where
+          even : (u : ℕ) → Dec (u ≡ targetTrade body rs)
+              → sumOf (tradeShare u (gone (targetOf body) (listed body) lotMillions)) (h .lots) ≡ cond (eqb (targetTrade body rs) u) (sumOf lotMillions (brought body)) 0
+          even u (yes q) =
+              rw (q, eq-eqb (targetTrade body rs) (targetTrade body rs) refl)
+              (gone-there (targetOf body) (listed body) (h .lots) lotMillions (targetTrade body rs) listed-there ∙ cc-gone ba on)
+          even u (no q) =
+              rw (ne-eqb (targetTrade body rs) u (λ p. q (sym p)))
+              (gone-elsewhere (targetOf body) (listed body) (h .lots) lotMillions (targetTrade body rs) u listed-there q)
+
+      cc-due : groupsFormed (details body) ≡ true → dueByGroups (targetOf body) (h .lots) (groups (details body)) ≡ map (due (targetTrade body rs)) (brought body)
+      unfolding groupsFormed
+      cc-due gf =
+          due-there (length (tradesOf v)) (h .last) (targetOf body) (h .lots) (w .lots) (targetTrade body rs) target-there
+          (listed body) (rw (w .table) at (exact (targetOf body) (listed body) rs ex .live)) (groups (details body)) gf
+          (λ f m. rw (listed-canceled, ← groups-canceled (details body)) m)
+          ∙ ap (map (due (targetTrade body rs))) (groups-new (details body) ∙ sym (brought-as body Cc e))
+
+      pub cc-lots : groupsFormed (details body) ≡ true
+          → movedLots (h .last) (h .lots) (targetTrade body rs) (targetOf body) (listed body) (brought body) false false ≡ lotsAfter Cc v (h .last + 1) body (h .lots)
+      cc-lots gf = rw (cc-due gf)

@@ -1,0 +1,116 @@
+-- The records of new lots are fine by themselves: a lot ends in an end, which has a kind and millions, and a face has eleven digits.
+-- Old records stay fine, since the last message ID only grows.
+use Prim.Native.Nat.{ℕ, zero, suc, _+_, _≤_, _<_}
+use mathlib.Core.Path.{_≡_, refl, ap, _∙_}
+use mathlib.Core.List.{List, [], _∷_, _++_, map}
+use mathlib.Core.Bool.{Bool, true, false, cond, _&&_, _||_, false≢true}
+use native.Mathlib.Omega.{arith}
+use lib.Dec.{eqb, leb, ltb}
+use borrow.Author.Tests.{leb-true, le-leb, eqb-false}
+use Rattle.lists.specs.Lists.{all}
+use Rattle.lists.proofs.Tests.{and-left, and-right, both}
+use Rattle.fields.specs.declared.Field.{Field}
+use Rattle.fields.specs.declared.Field.the-variants.{Number, NotDigits}
+use Rattle.fields.specs.Fields.{readNumber}
+use Rattle.layout.specs.declared.Detail.{Detail}
+use Rattle.terminator.specs.declared.Terminator.{Terminator}
+use Rattle.terminator.specs.declared.Terminator.the-variants.{Middle, BadMiddle, GoodEnd, OddEnd, BadEnd, Wrong}
+use Rattle.terminator.specs.Terminators.{positions, positionsOf, terminatorOf, isEnd, kindOf, millionsOf, term}
+use Rattle.terminator.specs.Lots.{Lot, poolsOf, lotsFrom, lots, currentCents}
+use Rattle.terminator.proofs.Found.{cents-small}
+use Rattle.faces.specs.Faces.{isNewLot, newLots}
+use Rattle.book.specs.declared.Values.{Values}
+use Rattle.book.specs.declared.Pool.{Pool}
+use Rattle.book.specs.Records.{kindGood, kindOdd, kindBad, kindNumber, poolOf, recordsOf}
+use Rattle.book.specs.Opening.{between, elevenDigitsMax}
+use Rattle.book.specs.Soundness.{kindFine, recordFine}
+use Rattle.book.proofs.ListLaws.{all-keep, all-both, all-map}
+
+-- ---- what an end gives
+abbrev kindsFine : ℕ → ℕ → Bool
+kindsFine kind millions = (eqb kind kindGood && between 1 99 millions) || ((eqb kind kindOdd || eqb kind kindBad) && eqb millions 0)
+
+abbrev gives : Terminator → Bool
+gives t = kindsFine (kindNumber (kindOf t)) (millionsOf t)
+
+high-gives : (a b d : Bool) → isEnd (cond a BadMiddle (cond b BadEnd (cond d OddEnd Wrong))) ≡ true → gives (cond a BadMiddle (cond b BadEnd (cond d OddEnd Wrong))) ≡ true
+high-gives true b d e = absurd (false≢true e)
+high-gives false true d e = refl
+high-gives false false true e = refl
+high-gives false false false e = absurd (false≢true e)
+
+positions-give : (n : ℕ) → isEnd (positions n) ≡ true → gives (positions n) ≡ true
+unfolding positions
+positions-give n h = go (eqb n 0) refl (leb n 99) refl h
+  where
+    go : (none : Bool) → eqb n 0 ≡ none → (low : Bool) → leb n 99 ≡ low
+        → isEnd (cond none Middle (cond low (GoodEnd n) (cond (eqb n 888) BadMiddle (cond (eqb n 889) BadEnd (cond (eqb n 999) OddEnd Wrong))))) ≡ true
+        → gives (cond none Middle (cond low (GoodEnd n) (cond (eqb n 888) BadMiddle (cond (eqb n 889) BadEnd (cond (eqb n 999) OddEnd Wrong))))) ≡ true
+    go true e low f g = absurd (false≢true g)
+    go false e true f g =
+        let p : n ≡ 0 → ⊥ = eqb-false n 0 e in
+        let q : leb 1 n ≡ true = le-leb 1 n (some n p) in
+        rw (q, f)
+      where
+        some : (m : ℕ) → (m ≡ 0 → ⊥) → 1 ≤ m
+        some zero k = absurd (k refl)
+        some (suc m) k = omega arith
+    go false e false f g = high-gives (eqb n 888) (eqb n 889) (eqb n 999) g
+
+pub term-gives : (d : Detail) → isEnd (term d) ≡ true → gives (term d) ≡ true
+unfolding terminatorOf
+term-gives d = go (readNumber (d .terminator) 1 3)
+  where
+    go : (f : Field) → isEnd (positionsOf f) ≡ true → gives (positionsOf f) ≡ true
+    go (Number n) e = positions-give n e
+    go NotDigits e = absurd (false≢true e)
+
+-- ---- every lot ends in an end
+abbrev pub hasEnd : Lot → Bool
+hasEnd l = isEnd (term (l .last))
+
+ends-from : (ms ds : List Detail) → all hasEnd (lotsFrom ms ds) ≡ true
+ends-from ms [] = refl
+ends-from ms (d ∷ ds) = go (isEnd (term d)) refl (ends-from [] ds) (ends-from (ms ++ (d ∷ [])) ds)
+  where
+    go : (b : Bool) → isEnd (term d) ≡ b → all hasEnd (lotsFrom [] ds) ≡ true → all hasEnd (lotsFrom (ms ++ (d ∷ [])) ds) ≡ true
+        → all hasEnd (cond b (record { middles = ms; last = d } ∷ lotsFrom [] ds) (lotsFrom (ms ++ (d ∷ [])) ds)) ≡ true
+    go true e h k = both (isEnd (term d)) (all hasEnd (lotsFrom [] ds)) e h
+    go false e h k = k
+
+pub new-ends : (ds : List Detail) → all hasEnd (newLots ds) ≡ true
+unfolding lots
+new-ends ds = all-keep hasEnd isNewLot (lotsFrom [] ds) (ends-from [] ds)
+
+-- ---- records
+pub records-fine : (v : Values) (id t o : ℕ) (ls : List Lot) → ltb t (v .count) ≡ true → between 1 (v .last) id ≡ true → 1 ≤ o → all hasEnd ls ≡ true
+    → all (recordFine v) (recordsOf id t o ls) ≡ true
+records-fine v id t o [] et ei ho e = refl
+records-fine v id t o (l ∷ ls) et ei ho e =
+    all-both (recordFine v) (map (poolOf id o t l) (poolsOf l)) (recordsOf id t (o + 1) ls)
+    (all-map (recordFine v) (poolOf id o t l) one (poolsOf l))
+    (records-fine v id t (o + 1) ls et ei (omega arith) (and-right (hasEnd l) (all hasEnd ls) e))
+  where
+    one : (d : Detail) → recordFine v (poolOf id o t l d) ≡ true
+    one d =
+        let a : leb 1 o ≡ true = le-leb 1 o ho in
+        let k : currentCents d < 100000000000 = cents-small d in
+        let b : leb (currentCents d) elevenDigitsMax ≡ true = le-leb (currentCents d) elevenDigitsMax (omega arith) in
+        rw (et, ei, a, b) (term-gives (l .last) (and-left (hasEnd l) (all hasEnd ls) e))
+
+pub record-stays : (v w : Values) → w .count ≡ v .count → v .last ≤ w .last → (r : Pool) → recordFine v r ≡ true → recordFine w r ≡ true
+record-stays v w ec h r e =
+    let k : (between 1 (v .last) (r .message) && (leb 1 (r .ordinal) && (leb (r .current) elevenDigitsMax && kindFine r))) ≡ true =
+    and-right (ltb (r .trade) (v .count)) (between 1 (v .last) (r .message) && (leb 1 (r .ordinal) && (leb (r .current) elevenDigitsMax && kindFine r))) e in
+    let m : between 1 (v .last) (r .message) ≡ true = and-left (between 1 (v .last) (r .message)) (leb 1 (r .ordinal) && (leb (r .current) elevenDigitsMax && kindFine r)) k in
+    let n : r .message ≤ v .last = leb-true (r .message) (v .last) (and-right (leb 1 (r .message)) (leb (r .message) (v .last)) m) in
+    let t : ltb (r .trade) (w .count) ≡ true = ap (ltb (r .trade)) ec ∙ and-left (ltb (r .trade) (v .count)) (between 1 (v .last) (r .message) && (leb 1 (r .ordinal) && (leb (r .current) elevenDigitsMax && kindFine r))) e in
+    rw (t, and-left (leb 1 (r .message)) (leb (r .message) (v .last)) m, le-leb (r .message) (w .last) (omega arith))
+    (and-right (between 1 (v .last) (r .message)) (leb 1 (r .ordinal) && (leb (r .current) elevenDigitsMax && kindFine r)) k)
+
+-- a live record's message ID is at most the last
+pub record-old : (v : Values) (r : Pool) → recordFine v r ≡ true → leb (r .message) (v .last) ≡ true
+record-old v r e =
+    let k : (between 1 (v .last) (r .message) && (leb 1 (r .ordinal) && (leb (r .current) elevenDigitsMax && kindFine r))) ≡ true =
+    and-right (ltb (r .trade) (v .count)) (between 1 (v .last) (r .message) && (leb 1 (r .ordinal) && (leb (r .current) elevenDigitsMax && kindFine r))) e in
+    and-right (leb 1 (r .message)) (leb (r .message) (v .last)) (and-left (between 1 (v .last) (r .message)) (leb 1 (r .ordinal) && (leb (r .current) elevenDigitsMax && kindFine r)) k)
