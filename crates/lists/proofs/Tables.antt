@@ -5,6 +5,7 @@ use Prim.Native.Nat.{ℕ, zero, suc, _+_, _-_, _≤_, _<_}
 use native.Mathlib.Nat.{add-zero, sub-zero}
 use native.Mathlib.Omega.{arith}
 use lib.ListN.{length, getD, take, drop}
+use lib.Seq.{ext-getD}
 use Rattle.lists.specs.Lists.{tab}
 
 module _ {A : Type 0} where
@@ -57,3 +58,9 @@ module _ {A : Type 0} where
   tab-same f g zero i h = refl
   tab-same f g (suc n) i h =
       rw (h i (omega arith) (omega arith), tab-same f g n (i + 1) (λ (k : ℕ) a b. h k (omega arith) (omega arith)))
+
+  -- a list is the table of its elements
+  pub table-of : (d : A) (s : List A) (n : ℕ) → length s ≡ n → s ≡ tab (λ (i : ℕ). getD s i d) n 0
+  table-of d s n e =
+      ext-getD d s (tab (λ (i : ℕ). getD s i d) n 0) (e ∙ sym (length-tab (λ (i : ℕ). getD s i d) n 0))
+      (λ (i : ℕ) h. sym (getD-tab (λ (j : ℕ). getD s j d) n 0 i d (omega (arith, e, h)) ∙ ap (λ (k : ℕ). getD s k d) (omega arith)))

@@ -1,0 +1,2 @@
+mod Cells
+mod Said
