@@ -86,6 +86,13 @@ unfoldable pub detail : ℕ → ℕ → ℕ → ℕ → List ℕ
 detail pool original current terminator =
     joined (blanks 8 ∷ digitsOf 7 pool ∷ digitsOf 9 original ∷ blanks 55 ∷ digitsOf 11 current ∷ blanks 32 ∷ digitsOf 4 terminator ∷ blanks 73 ∷ [])
 
+-- a body with other bytes in a column, and with another field of the detail of an index
+abbrev pub altered : Column → List ℕ → List ℕ → List ℕ
+altered c bytes body = pasted body (c .at) bytes
+
+abbrev pub alteredPool : ℕ → Column → List ℕ → List ℕ → List ℕ
+alteredPool i c bytes body = pasted body (placeOf i + c .at) bytes
+
 -- an ON of a good lot of two millions, an odd lot and a bad one
 unfoldable pub onBody : List ℕ
 onBody =
@@ -100,11 +107,11 @@ ccBody =
     (detail 2 1000000 100000000 6000 ∷ detail 1 1000000 100000000 6002 ∷ detail 11 1000000 100000000 7001 ∷ detail 12 1000000 100000000 7001
     ∷ detail 3 200000 12345600 6999 ∷ detail 13 300000 20000000 7999 ∷ [])
 
--- a DK of one of the lots that the CC brought
+-- a DK of one of the lots that the CC brought, after a gap
 unfoldable pub dkBody : List ℕ
-dkBody = header (record { type = dk; sequence = 3; submitter = buyer; gdmm = 0; reason = 1; target = 2; pools = 0 }) ++ detail 12 1000000 0 0
+dkBody = header (record { type = dk; sequence = 5; submitter = buyer; gdmm = 0; reason = 1; target = 2; pools = 0 }) ++ detail 12 1000000 0 0
 
--- ---- the book: the first trade is too small for the ON
+-- ---- the book: the first trade is too small for the ON, and the table has room for its pools alone
 unfoldable pub trade : ℕ → ℕ → Trade
 trade n par =
     record {
@@ -135,7 +142,7 @@ values last =
     }
 
 unfoldable pub table : List Pool
-table = replicate 8 noPool
+table = replicate 4 noPool
 
 unfoldable pub put : List ℕ → Put
 put body = record { body = body; room = 217 }
@@ -165,7 +172,7 @@ told s (p ∷ ps) =
 unfoldable pub tells : Answer → ℕ → ℕ → Told
 tells a left millions = record { answer = a; pars = 200000000 ∷ left ∷ []; millions = 0 ∷ millions ∷ [] }
 
-pub day : told start (put onBody ∷ put ccBody ∷ put dkBody ∷ put (pasted dkBody 2 (digitsOf 6 5)) ∷ [])
+pub day : told start (put onBody ∷ put ccBody ∷ put dkBody ∷ put (altered columns.sequence (digitsOf 6 6) dkBody) ∷ [])
     ≡ tells (Accepted 1) 237654400 2 ∷ tells (Accepted 2) 230000000 2 ∷ tells (Accepted 3) 330000000 1 ∷ tells (Rejected reason.Listed) 330000000 1 ∷ []
 unfolding answerOf checks isSound valuesFine opened cleared values table trade put onBody header detail allBetween within part readNumber businessDate isDate weekdayOf dayNumber soundLine lengthFits poolCount detailAt details arrivalOf typeOf markIn beginsWithMark idAt tradeIdOf terminatorOf positions lots formedFor currentCents lotWeight goodMillions faceFails facesFail goodLotFails lotFails lotsFail listed brought agrees broughtWeight tradeOfOn concerned targetTrade weightOfRecords tradeWeight told tells start ccBody dkBody pasted after bookAfter tableAfter tradesMoved liveMoved tableMoved lineAfter nextOutbound standingMillions groups groupsFormed groupsBalanced replacementCount
 day = refl
@@ -180,13 +187,6 @@ unfolding answerOf checks isSound valuesFine opened cleared values table trade p
 remembered = refl
 
 -- ---- refusals: a call for each number of a frame, 42 to 44 and 10 to 40; every other check before it passes
--- a body with other bytes in a column, and with another field of the detail of an index
-abbrev pub altered : Column → List ℕ → List ℕ → List ℕ
-altered c bytes body = pasted body (c .at) bytes
-
-abbrev pub alteredPool : ℕ → Column → List ℕ → List ℕ → List ℕ
-alteredPool i c bytes body = pasted body (placeOf i + c .at) bytes
-
 -- the state after the ON
 unfoldable pub second : State
 second = after start (put onBody)

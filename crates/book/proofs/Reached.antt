@@ -28,11 +28,10 @@ use Rattle.book.specs.declared.Answer.{Answer}
 use Rattle.book.specs.Reasons.{isAccepted}
 use Rattle.book.specs.Records.{fieldsOf, distinct, recordsOf, noPool, tradeWeight, weightOfRecords}
 use Rattle.book.specs.Messages.{typeOf, targetOf, listedOf, listed, broughtBy, brought}
-use Rattle.book.specs.Trades.{tradesOf, tradeName}
+use Rattle.book.specs.Trades.{tradesOf, tradeName, broughtWeight}
 use Rattle.book.specs.Opening.{recordsMax, elevenDigitsMax, outboundMax, holidaysOf, tradeFine, valuesFine, openingFine, atPar, opened, cleared}
 use Rattle.book.specs.Soundness.{liveOf, recordFine, inOrder, fieldsOnce, isNone, parsFrom, Sound, isSound}
 use Rattle.book.specs.Checks.{Call, live, trades, arrived, concerned, onOrCc, ccOrDk, isCc, isTaken, taken, allLive, wholeLots, exactLots, tradeAt, answerOf}
-use Rattle.book.specs.Trades.{broughtWeight}
 use Rattle.book.specs.Step.{isSilent, gapAt, lineOf, beforeAa, outboundOf, tradesMoved, liveMoved, tableMoved, accepted, bookAfter, tableAfter}
 use Rattle.book.specs.History.{fieldsOfLots}
 use Rattle.book.specs.Promise.{State, Put, callOf, after, afterAll, openedState}
