@@ -5,7 +5,7 @@ use mathlib.Core.Logic.{_⊎_, inl, inr}
 use mathlib.Core.List.{List, [], _∷_, _++_, map}
 use mathlib.Core.Bool.{Bool, true, false, cond, not, _&&_, _||_, false≢true, true≢false}
 use native.Mathlib.Omega.{arith}
-use lib.ListN.{length, take, replicate}
+use lib.ListN.{length, replicate}
 use Rattle.lists.specs.Lists.{keep, any, all}
 use Rattle.lists.proofs.Tests.{and-left, and-right, both}
 

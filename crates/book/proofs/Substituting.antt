@@ -66,7 +66,7 @@ module _ (n last : ℕ) (tgt : Field) (hs : List Brought) (lots : Lots n last hs
   -- no live record has message ID and ordinal 0
   begins : (r : Pool) → r ∈ flat stands hs → (eqb (r .message) 0 && eqb (r .ordinal) 0) ≡ false
   begins r m =
-      let (h, mh, sh, (d, md, ed)) = from-live tgt [] hs r m in
+      let (h, mh, sh, (d, md, ed)) = from-live hs r m in
       rw (← ed) (lots .fine h mh .begins)
 
   -- the lots that a 6 lot takes off have its millions

@@ -65,19 +65,19 @@ isListed fs d = hasFields (fieldsOf d) fs
 abbrev pub standing : (Lot → ℕ) → Brought → ℕ
 standing v h = cond (stands h) (v (h .lot)) 0
 
+-- a live record leads back to its standing lot and to the pool there
+pub from-live : (hs : List Brought) (r : Pool) → r ∈ flat stands hs
+    → (h : Brought) × (h ∈ hs) × (stands h ≡ true) × ((d : Detail) × (d ∈ poolsOf (h .lot)) × (recordOf h d ≡ r))
+from-live hs r m =
+    let (h, mh, sh, rh) = flat-in stands hs m in
+    (h, mh, sh, Memᴰ·of-map (recordOf h) (poolsOf (h .lot)) rh)
+
 module _ (tgt : Field) (fs : List Fields) where
   pub touches-target : (h : Brought) → touches tgt fs h ≡ true → isTarget tgt (h .id) ≡ true
   touches-target h e = and-left (isTarget tgt (h .id)) (any (isListed fs) (poolsOf (h .lot))) e
 
   pub touches-pool : (h : Brought) → touches tgt fs h ≡ true → (d : Detail) × (d ∈ poolsOf (h .lot)) × (isListed fs d ≡ true)
   touches-pool h e = any-out (isListed fs) (poolsOf (h .lot)) (and-right (isTarget tgt (h .id)) (any (isListed fs) (poolsOf (h .lot))) e)
-
-  -- a live record leads back to its standing lot and to the pool there
-  pub from-live : (hs : List Brought) (r : Pool) → r ∈ flat stands hs
-      → (h : Brought) × (h ∈ hs) × (stands h ≡ true) × ((d : Detail) × (d ∈ poolsOf (h .lot)) × (recordOf h d ≡ r))
-  from-live hs r m =
-      let (h, mh, sh, rh) = flat-in stands hs m in
-      (h, mh, sh, Memᴰ·of-map (recordOf h) (poolsOf (h .lot)) rh)
 
   -- a record that is taken is of a lot that is touched
   taken-touches : (h : Brought) (d : Detail) → d ∈ poolsOf (h .lot) → isTaken tgt fs (recordOf h d) ≡ true → touches tgt fs h ≡ true
@@ -137,7 +137,7 @@ module _ (tgt : Field) (fs : List Fields) (hs : List Brought) where
   listed-lot li f m =
       let (r, mr, er) = any-out (λ (r : Pool). under tgt r && sameFields (liveFields r) f) (flat stands hs)
       (all-out (λ (f : Fields). any (λ (r : Pool). under tgt r && sameFields (liveFields r) f) (flat stands hs)) m li) in
-      let (h, mh, sh, (d, md, ed)) = from-live tgt fs hs r mr in (
+      let (h, mh, sh, (d, md, ed)) = from-live hs r mr in (
         h,
         mh,
         sh,
@@ -224,7 +224,7 @@ module _ (n last : ℕ) (tgt : Field) (hs : List Brought) (lots : Lots n last hs
   under-lot : (g : Brought) × (g ∈ hs) × (isTarget tgt (g .id) ≡ true) × (firstUnder (keep (under tgt) (flat stands hs)) ≡ g .trade)
   under-lot =
       let (r, mr, er, (rs, k)) = keep-first (under tgt) (flat stands hs) some in
-      let (h, mh, sh, (d, md, ed)) = from-live tgt [] hs r mr in
+      let (h, mh, sh, (d, md, ed)) = from-live hs r mr in
       (h, mh, ap (isTarget tgt) (ap (λ (x : Pool). x .message) ed) ∙ sym (under-is tgt r) ∙ er, ap firstUnder k ∙ sym (ap (λ (x : Pool). x .trade) ed))
 
   pub target-trade : (g : Brought) → g ∈ hs → isTarget tgt (g .id) ≡ true → g .trade ≡ firstUnder (keep (under tgt) (flat stands hs))
