@@ -1,10 +1,10 @@
 -- The checks of a frame call in their order (01, "Who causes which number"), the first that fails, and the answer that follows from it.
 use Prim.Native.Nat.{ℕ, _+_}
-use mathlib.Core.List.{List, [], _∷_, _++_, map}
+use mathlib.Core.List.{List, [], _∷_, map}
 use mathlib.Core.Bool.{Bool, true, false, cond, not, _&&_, _||_}
 use lib.ListN.{length, getD}
 use lib.Dec.{eqb, leb, ltb}
-use Rattle.lists.specs.Lists.{same, keep, any, all, part}
+use Rattle.lists.specs.Lists.{same, keep, any, all}
 use Rattle.fields.specs.declared.Field.{Field}
 use Rattle.fields.specs.declared.Field.the-variants.{Number, NotDigits}
 use Rattle.fields.specs.Fields.{allBlank}
@@ -13,7 +13,6 @@ use Rattle.layout.specs.declared.Detail.{Detail}
 use Rattle.layout.specs.Columns as columns
 use Rattle.layout.specs.Columns.{bytesIn, numberIn}
 use Rattle.layout.specs.Details.{lengthFits, details}
-use Rattle.terminator.specs.Terminators.{isCanceled}
 use Rattle.terminator.specs.Lots.{Lot, poolsOf, lots, lotKind, lotMillions, formedFor, goodMillions, replacementCount}
 use Rattle.terminator.specs.Groups.{lotCanceled, groupsFormed, groupsBalanced}
 use Rattle.faces.specs.Faces.{newPools, facesFail, lotsFail}
@@ -35,8 +34,8 @@ use Rattle.book.specs.declared.Reason.the-variants as reason
 use Rattle.book.specs.declared.Answer.{Answer}
 use Rattle.book.specs.declared.Answer.the-variants.{Accepted, Rejected, Dked}
 use Rattle.book.specs.Reasons.{numberOf}
-use Rattle.book.specs.Records.{Fields, fieldsOf, liveFields, sameFields, hasFields, distinct, kindNumber, sameLot, weightOfRecords, noPool}
-use Rattle.book.specs.Messages.{typeOf, ftba, fsti, isStipulated, idIn, targetOf, under, listed, brought}
+use Rattle.book.specs.Records.{Fields, fieldsOf, liveFields, sameFields, hasFields, distinct, kindNumber, sameLot, weightOfRecords}
+use Rattle.book.specs.Messages.{typeOf, ftba, fsti, isStipulated, idIn, targetOf, under, listed}
 use Rattle.book.specs.Trades.{tradesOf, agrees, isNamedBy, firstTrade, broughtWeight, tradeOfOn, openPars}
 use Rattle.book.specs.Opening.{holidaysOf, elevenDigitsMax, between}
 use Rattle.book.specs.Soundness.{liveOf, isSound}

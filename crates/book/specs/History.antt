@@ -1,9 +1,8 @@
 -- The history (01, "The book"): what was brought and taken off, read from the messages alone. It is fed opening's values, then each call's body
 -- and whether it was accepted; nothing here has a book or a table in its type.
-use Prim.Native.Nat.{ℕ, zero, suc, _+_, _-_, _*_}
+use Prim.Native.Nat.{ℕ, _+_, _-_, _*_}
 use mathlib.Core.List.{List, [], _∷_, _++_, map}
-use mathlib.Core.Bool.{Bool, true, false, cond, not, _&&_}
-use lib.ListN.{length}
+use mathlib.Core.Bool.{Bool, true, false, cond, _&&_}
 use lib.Dec.{eqb}
 use Rattle.lists.specs.Lists.{any, keep, sumOf}
 use Rattle.fields.specs.declared.Field.{Field}

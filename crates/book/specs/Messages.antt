@@ -1,7 +1,7 @@
 -- What a body says to the book (01, "Columns" and "The book"): its type, sequence, target and trade ID, the pools that it lists and the lots that it brings.
 use Prim.Native.Nat.{ℕ}
 use mathlib.Core.List.{List, [], _∷_, map}
-use mathlib.Core.Bool.{Bool, true, false, cond}
+use mathlib.Core.Bool.{Bool, false, cond}
 use lib.Dec.{eqb}
 use Rattle.lists.specs.Lists.{same, keep}
 use Rattle.fields.specs.declared.Field.{Field}

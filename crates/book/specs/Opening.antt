@@ -1,7 +1,7 @@
 -- Opening (01, "The book" and number 41): which values are in range, and the book and table that an accepted opening leaves.
-use Prim.Native.Nat.{ℕ, _+_}
+use Prim.Native.Nat.{ℕ}
 use mathlib.Core.List.{List, [], _∷_, map}
-use mathlib.Core.Bool.{Bool, true, false, cond, not, _&&_, _||_}
+use mathlib.Core.Bool.{Bool, false, not, _&&_, _||_}
 use lib.ListN.{length, take, replicate}
 use lib.Dec.{eqb, leb}
 use Rattle.lists.specs.Lists.{same, any, all}

@@ -1,24 +1,19 @@
 -- Demand 3: what holds after every list of frame calls put to a book that was opened without refusal, refused calls included.
-use Prim.Native.Nat.{ℕ, _+_, _-_, _≤_, _<_}
+use Prim.Native.Nat.{ℕ, _+_, _≤_, _<_}
 use mathlib.Core.List.{List, [], _∷_, List·Memᴰ}
-use mathlib.Core.Bool.{Bool, true, false}
 use mathlib.Core.Path.{_≡_}
-use lib.ListN.{length, getD}
-use Rattle.terminator.specs.Lots.{poolsOf, lotMillions}
-use Rattle.layout.specs.declared.Detail.{Detail}
-use Rattle.book.specs.declared.Trade.{Trade}
+use lib.ListN.{length}
 use Rattle.book.specs.declared.Values.{Values}
 use Rattle.book.specs.declared.Book.{Book}
 use Rattle.book.specs.declared.Pool.{Pool}
-use Rattle.book.specs.declared.Answer.{Answer}
 use Rattle.book.specs.Reasons.{isAccepted}
 use Rattle.book.specs.Records.{standingMillions}
 use Rattle.book.specs.Trades.{tradesOf}
 use Rattle.book.specs.Opening.{opened, cleared}
-use Rattle.book.specs.Soundness.{liveOf, isSound}
+use Rattle.book.specs.Soundness.{liveOf}
 use Rattle.book.specs.Checks.{Call, tradeAt, answerOf}
 use Rattle.book.specs.Step.{bookAfter, tableAfter}
-use Rattle.book.specs.History.{Brought, History, Fed, history, atOpening, standingWeight, millionsByOns, millionsByDks}
+use Rattle.book.specs.History.{Brought, History, Fed, standingWeight, millionsByOns, millionsByDks}
 
 -- book and table between two calls
 pub record State : Type 0 where

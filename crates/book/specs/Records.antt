@@ -1,10 +1,10 @@
 -- Live pools (01, "The book"): records of a table, the lots that they make up, what a trade's lots weigh, and its standing millions.
-use Prim.Native.Nat.{ℕ, zero, suc, _+_, _*_}
+use Prim.Native.Nat.{ℕ, _+_, _*_}
 use mathlib.Core.List.{List, [], _∷_, _++_, map}
-use mathlib.Core.Bool.{Bool, true, false, cond, not, _&&_, _||_}
-use lib.ListN.{length, replicate}
+use mathlib.Core.Bool.{Bool, true, cond, not, _&&_}
+use lib.ListN.{replicate}
 use lib.Dec.{eqb}
-use Rattle.lists.specs.Lists.{same, keep, any, all}
+use Rattle.lists.specs.Lists.{same, any}
 use Rattle.layout.specs.declared.Detail.{Detail}
 use Rattle.terminator.specs.declared.Kind.{Kind}
 use Rattle.terminator.specs.declared.Kind.the-variants.{Good, Odd, Bad}

@@ -1,17 +1,17 @@
 -- Soundness (01, number 42): the facts that hold of a book and its table, each by name.
 use Prim.Native.Nat.{ℕ, _+_}
-use mathlib.Core.List.{List, [], _∷_, map}
-use mathlib.Core.Bool.{Bool, true, false, cond, not, _&&_, _||_}
+use mathlib.Core.List.{List, [], _∷_}
+use mathlib.Core.Bool.{Bool, true, not, _&&_, _||_}
 use mathlib.Core.Path.{_≡_}
-use lib.ListN.{length, take, drop, getD}
+use lib.ListN.{length, take, drop}
 use lib.Dec.{eqb, leb, ltb}
-use Rattle.lists.specs.Lists.{same, any, all, tab}
+use Rattle.lists.specs.Lists.{same, any, all}
 use Rattle.sequence.specs.Sequence.{soundLine}
 use Rattle.book.specs.declared.Trade.{Trade}
 use Rattle.book.specs.declared.Values.{Values}
 use Rattle.book.specs.declared.Book.{Book}
 use Rattle.book.specs.declared.Pool.{Pool}
-use Rattle.book.specs.Records.{Fields, liveFields, sameFields, kindGood, kindOdd, kindBad, tradeWeight, noPool}
+use Rattle.book.specs.Records.{liveFields, sameFields, kindGood, kindOdd, kindBad, tradeWeight, noPool}
 use Rattle.book.specs.Trades.{tradesOf}
 use Rattle.book.specs.Opening.{valuesFine, recordsMax, elevenDigitsMax, between}
 

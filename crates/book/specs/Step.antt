@@ -1,7 +1,7 @@
 -- What a frame call leaves (01, "The book", "What goes out"): answer, book, table, output and tally after it, for any book, table, body, time bytes and output.
 use Prim.Native.Nat.{ℕ, _+_, _-_}
-use mathlib.Core.List.{List, [], _∷_, _++_}
-use mathlib.Core.Bool.{Bool, true, false, cond, not, _||_}
+use mathlib.Core.List.{List, _++_}
+use mathlib.Core.Bool.{Bool, true, false, cond, not}
 use lib.ListN.{length, set, replicate}
 use Rattle.lists.specs.Lists.{keep, pasted}
 use Rattle.layout.specs.Columns as columns
@@ -28,7 +28,6 @@ use Rattle.book.specs.Reasons.{codeOf, idOf, isAccepted}
 use Rattle.book.specs.Records.{recordsOf, weightOfRecords, noPool}
 use Rattle.book.specs.Messages.{typeOf, targetOf, listed, brought}
 use Rattle.book.specs.Trades.{broughtWeight}
-use Rattle.book.specs.Opening.{withTrades}
 use Rattle.book.specs.Checks.{Call, live, trades, arrived, concerned, isTaken, taken, tradeAt, answerOf}
 
 -- 10, 11 and 42 to 44 move nothing and write nothing

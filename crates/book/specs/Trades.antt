@@ -1,16 +1,15 @@
 -- Trades (01, "The book"): the one that an ID names, whose terms agree with a message's, and where an ON goes.
 use Prim.Native.Nat.{ℕ, _+_}
 use mathlib.Core.List.{List, [], _∷_, map}
-use mathlib.Core.Bool.{Bool, true, false, cond, _&&_, _||_}
-use lib.ListN.{length, take, getD, set}
-use lib.Dec.{eqb, leb, ltb}
-use Rattle.lists.specs.Lists.{same, part, any, sumOf}
+use mathlib.Core.Bool.{Bool, false, cond, _&&_}
+use lib.ListN.{length, take}
+use lib.Dec.{eqb, leb}
+use Rattle.lists.specs.Lists.{same, part, sumOf}
 use Rattle.fields.specs.declared.Field.{Field}
 use Rattle.fields.specs.declared.Field.the-variants.{Number, NotDigits}
 use Rattle.layout.specs.Columns as columns
 use Rattle.layout.specs.Columns.{bytesIn, numberIn}
-use Rattle.layout.specs.Details.{details}
-use Rattle.terminator.specs.Lots.{Lot, lotWeight}
+use Rattle.terminator.specs.Lots.{lotWeight}
 use Rattle.tally.specs.declared.MessageType.{MessageType}
 use Rattle.tally.specs.declared.MessageType.the-variants.{On, Cc, Dk, Cx, Other}
 use Rattle.trade_id.specs.declared.TradeId.{TradeId}
