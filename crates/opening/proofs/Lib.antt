@@ -1,0 +1,4 @@
+pub mod Looking
+pub mod Names
+pub mod Rules
+pub mod Opened

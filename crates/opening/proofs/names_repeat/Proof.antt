@@ -1,0 +1,74 @@
+-- The loop's invariant: whether the names from i on repeat is still the answer. They do where the first of them stands among the later ones.
+use mathlib.Core.Path.{_≡_, refl, sym, ap, _∙_}
+use mathlib.Core.List.{map}
+use Prim.Native.Nat.{_≤_, _-_}
+use native.Mathlib.Omega.{arith}
+use lib.ListN.{take, drop}
+use borrow.Author.Needs.{needs}
+use Rattle.book.specs.Trades.{tradeName}
+use Rattle.book.specs.Opening.{namesRepeat}
+use Rattle.book.specs.Checks.{noTrade}
+use Rattle.opening.proofs.Looking.{first-turn, first-done}
+use Rattle.opening.proofs.Names.{repeat-stop, repeat-more}
+use Rattle.opening.proofs.names_repeat.Statement.{statement}
+use Rattle.opening.proofs.names_repeat.Tie as tie
+
+abbrev Inv-loop : tie.InvT-loop
+Inv-loop count trades i₀ i = (i ≤ count) × (namesRepeat (map tradeName (drop i (take count trades))) ≡ namesRepeat (map tradeName (take count trades)))
+
+abbrev μ-loop : tie.MeasureT-loop
+μ-loop count trades i₀ i = count - i
+
+loop-holds : tie.Need-loop-holds Inv-loop μ-loop
+loop-holds c = (search needs, refl)
+
+mul-t : tie.Need-mul-t Inv-loop μ-loop
+mul-t c = search needs
+
+array-copy-out-t : tie.Need-array-copy-out-t Inv-loop μ-loop
+array-copy-out-t c = search needs
+
+add-i : tie.Need-add-i Inv-loop μ-loop
+add-i c = search needs
+
+named-from-requires : tie.Need-named-from-requires Inv-loop μ-loop
+named-from-requires c κs = search needs
+
+returns : tie.Need-returns Inv-loop μ-loop
+returns c =
+    let a = c .before .before .before .before .before .args in
+    let l = c .before .before .before .before .loop in
+    let turn = first-turn (a .t1) (a .count) (l .i) noTrade (omega (arith, c .before .before .before .before .before .good .0 .1 .0 .1)) (c .before .before .before .loop-test .taken) in
+    sym (repeat-stop (ap (map tradeName) turn) (sym (c .before .named-from .ensures) ∙ c .if1 .taken)) ∙ l .inv .1
+
+loop-less : tie.Need-loop-less Inv-loop μ-loop
+loop-less c = search needs
+
+loop-again : tie.Need-loop-again Inv-loop μ-loop
+loop-again c =
+    let a = c .before .before .before .before .before .args in
+    let l = c .before .before .before .before .loop in
+    let turn = first-turn (a .t1) (a .count) (l .i) noTrade (omega (arith, c .before .before .before .before .before .good .0 .1 .0 .1)) (c .before .before .before .loop-test .taken) in
+    (omega arith, sym (repeat-more (ap (map tradeName) turn) (sym (c .before .named-from .ensures) ∙ c .if1 .left)) ∙ l .inv .1)
+
+returns-2 : tie.Need-returns-2 Inv-loop μ-loop
+returns-2 c =
+    let a = c .before .before .args in
+    let l = c .before .loop in
+    sym (ap namesRepeat (ap (map tradeName) (first-done (a .t1) (a .count) (l .i) (c .loop-test .left)))) ∙ l .inv .1
+
+pub names-repeat-spec : {M : Type 1} → statement M
+names-repeat-spec =
+    tie.close
+    (tie.spec
+    Inv-loop
+    μ-loop
+    loop-holds
+    mul-t
+    array-copy-out-t
+    add-i
+    named-from-requires
+    returns
+    loop-less
+    loop-again
+    returns-2)
