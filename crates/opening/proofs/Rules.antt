@@ -17,7 +17,6 @@ use Rattle.book.specs.Opening.{
   holidaysMax,
   elevenDigitsMax,
   priceMax,
-  outboundMax,
   between,
   holidaysOf,
   limitsFine,
@@ -27,6 +26,7 @@ use Rattle.book.specs.Opening.{
   namesRepeat,
   valuesFine,
 }
+use Rattle.sequence.specs.Sequence.{outboundMax}
 
 module _ (t : Trade) where
   pub id-short : t .length < 1 → false ≡ idFine t

@@ -1,4 +1,5 @@
 -- Words, numbers and blanks are written end to end and fill the text.
+use native.Mathlib.Omega.{arith}
 use Rattle.acknowledgment.specs.Frames.{sequenceWidth}
 use Rattle.acknowledgment.proofs.Building.{first, part, digits, filled}
 use mathlib.Core.Path.{refl}
@@ -19,7 +20,7 @@ slice-aggregate-put-digits : tie.Need-slice-aggregate-put-digits
 slice-aggregate-put-digits c = search needs
 
 cast-put-digits : tie.Need-cast-put-digits
-cast-put-digits c = search needs
+cast-put-digits c = omega arith
 
 put-digits-requires : tie.Need-put-digits-requires
 put-digits-requires c κs = search needs
@@ -37,7 +38,7 @@ slice-aggregate-put-digits-2 : tie.Need-slice-aggregate-put-digits-2
 slice-aggregate-put-digits-2 c = search needs
 
 cast-put-digits-2 : tie.Need-cast-put-digits-2
-cast-put-digits-2 c = search needs
+cast-put-digits-2 c = omega arith
 
 put-digits-requires-2 : tie.Need-put-digits-requires-2
 put-digits-requires-2 c κs = search needs

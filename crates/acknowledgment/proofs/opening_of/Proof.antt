@@ -1,4 +1,5 @@
 -- The parts are written end to end and fill the opening.
+use native.Mathlib.Omega.{arith}
 use Rattle.acknowledgment.specs.Frames.{sequenceWidth}
 use Rattle.acknowledgment.proofs.Building.{first, part, digits, filled}
 use mathlib.Core.Path.{refl}
@@ -28,7 +29,7 @@ slice-aggregate-put-digits : tie.Need-slice-aggregate-put-digits
 slice-aggregate-put-digits c = search needs
 
 cast-put-digits : tie.Need-cast-put-digits
-cast-put-digits c = search needs
+cast-put-digits c = omega arith
 
 put-digits-requires : tie.Need-put-digits-requires
 put-digits-requires c κs = search needs

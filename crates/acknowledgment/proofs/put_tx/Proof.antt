@@ -1,4 +1,5 @@
 -- The frame is finished before it is written, with the next outbound number, which is given back.
+use native.Mathlib.Omega.{arith}
 use Rattle.acknowledgment.proofs.Building.{sent}
 use Rattle.acknowledgment.specs.Frames.{txBytes}
 use borrow.Author.Needs.{needs}
@@ -18,7 +19,7 @@ put-bytes-requires : tie.Need-put-bytes-requires
 put-bytes-requires c κs = search needs
 
 same-length : tie.Need-same-length
-same-length c = search needs
+same-length c = omega arith
 
 returns : tie.Need-returns
 returns c =

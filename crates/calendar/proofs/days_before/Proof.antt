@@ -1,4 +1,5 @@
 -- A leap year's months begin as a common year's up to February, and a day later from March on.
+use native.Mathlib.Omega.{arith}
 use Rattle.calendar.proofs.Days.{up-to-february, from-march}
 use mathlib.Core.Path.{_∙_}
 use borrow.Author.Tests.{not-true, not-false}
@@ -16,7 +17,7 @@ returns-2 : tie.Need-returns-2
 returns-2 c = (rw (not-false (c .before .before .before .args .leap) (c .before .if1 .left)) (c .before .before .common-days-before .ensures .0 ∙ up-to-february (c .before .before .before .args .month) (c .if2 .taken)), search needs)
 
 add-result : tie.Need-add-result
-add-result c = search needs
+add-result c = omega arith
 
 returns-3 : tie.Need-returns-3
 returns-3 c = (rw (not-false (c .before .before .before .args .leap) (c .before .if1 .left), c .before .before .common-days-before .ensures .0) (from-march (c .before .before .before .args .month) (c .if2 .left) (c .before .before .before .pre .1)), search needs)

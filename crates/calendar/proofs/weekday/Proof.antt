@@ -19,22 +19,22 @@ days-before-requires : tie.Need-days-before-requires
 days-before-requires c κs = let p = parts (c .before .args .n) (c .before .pre) in (omega arith, omega arith)
 
 mul-result : tie.Need-mul-result
-mul-result c = search needs
+mul-result c = omega arith
 
 add-result : tie.Need-add-result
-add-result c = search needs
+add-result c = omega arith
 
 add-result-2 : tie.Need-add-result-2
-add-result-2 c = search needs
+add-result-2 c = omega arith
 
 add-result-3 : tie.Need-add-result-3
-add-result-3 c = search needs
+add-result-3 c = omega arith
 
 sub-result : tie.Need-sub-result
 sub-result c = let p = parts (c .before .before .args .n) (c .before .before .pre) in omega arith
 
 add-result-4 : tie.Need-add-result-4
-add-result-4 c = search needs
+add-result-4 c = omega arith
 
 returns : tie.Need-returns
 returns c =

@@ -1,4 +1,5 @@
 -- The AA is made of the parts of what is said, and written; what is said in another length writes nothing.
+use native.Mathlib.Omega.{arith}
 use borrow.Author.Needs.{needs}
 use Rattle.exports_output.proofs.Said.{aa-unsaid, aa-said}
 use Rattle.exports_output.proofs.rhoikandra_put_aa.Statement.{statement}
@@ -26,7 +27,7 @@ put-aa-requires : tie.Need-put-aa-requires
 put-aa-requires c κs = search needs
 
 same-length : tie.Need-same-length
-same-length c = search needs
+same-length c = omega arith
 
 returns-2 : tie.Need-returns-2
 returns-2 c = aa-said _ _ _ _ _ _ _ _ _ _ _ _ _ (c .before .before .before .before .before .before .before .before .before .if1 .left) (c .before .before .before .before .before .four-at .ensures) (c .before .before .before .before .four-at2 .ensures) (c .before .before .before .before .before .before .before .before .sixteen-at .ensures) (c .before .before .before .before .before .before .before .six-at .ensures) (c .before .before .before .before .before .before .six-at2 .ensures) (c .before .before .put-aa .ensures)

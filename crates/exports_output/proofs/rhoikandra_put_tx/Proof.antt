@@ -1,4 +1,5 @@
 -- The TX is made of the parts of what is said, and written; what is said in another length writes nothing.
+use native.Mathlib.Omega.{arith}
 use borrow.Author.Needs.{needs}
 use Rattle.exports_output.proofs.Said.{tx-unsaid, tx-said}
 use Rattle.exports_output.proofs.rhoikandra_put_tx.Statement.{statement}
@@ -17,7 +18,7 @@ put-tx-requires : tie.Need-put-tx-requires
 put-tx-requires c κs = search needs
 
 same-length : tie.Need-same-length
-same-length c = search needs
+same-length c = omega arith
 
 returns-2 : tie.Need-returns-2
 returns-2 c = tx-said _ _ _ _ _ _ _ _ _ _ (c .before .before .before .before .before .before .if1 .left) (c .before .before .before .before .before .four-at .ensures) (c .before .before .before .before .four-at2 .ensures) (c .before .before .put-tx .ensures)

@@ -1,4 +1,5 @@
 -- Twelve cells are read as a tally, one is raised, and they are written back; any other number of cells stays.
+use native.Mathlib.Omega.{arith}
 use borrow.Author.Needs.{needs}
 use Rattle.exports_output.proofs.Cells.{not-twelve, cells-raised}
 use Rattle.exports_output.proofs.rhoikandra_tally_raise.Statement.{statement}
@@ -23,7 +24,7 @@ put-cells-requires : tie.Need-put-cells-requires
 put-cells-requires c κs = c .before .before .before .before .before .before .if1 .left
 
 same-length : tie.Need-same-length
-same-length c = search needs
+same-length c = omega arith
 
 returns-2 : tie.Need-returns-2
 returns-2 c = cells-raised _ _ _ _ _ _ _ _ (c .before .before .before .before .before .before .before .before .before .if1 .left) (c .before .before .before .before .before .before .before .tally-of .ensures) (c .before .before .before .before .before .before .type-of .ensures) (c .before .before .before .before .before .outcome-of .ensures) (c .before .before .before .before .raise .ensures) (c .before .before .put-cells .ensures)

@@ -1,4 +1,5 @@
 -- The six numbers are those of the lot that is read; another number of them stays.
+use native.Mathlib.Omega.{arith}
 use borrow.Author.Needs.{needs}
 use Rattle.exports_pools.proofs.Cases.{not-six, lot-written}
 use Rattle.exports_pools.proofs.rhoikandra_lot_at.Statement.{statement}
@@ -17,7 +18,7 @@ put-six-requires : tie.Need-put-six-requires
 put-six-requires c κs = search needs
 
 same-length : tie.Need-same-length
-same-length c = search needs
+same-length c = omega arith
 
 returns-2 : tie.Need-returns-2
 returns-2 c = lot-written _ _ _ _ _ _ (c .before .before .before .before .before .before .if1 .left) (c .before .before .before .before .before .lot-at .ensures) (c .before .before .before .lot-numbers .ensures) (c .before .before .put-six .ensures)

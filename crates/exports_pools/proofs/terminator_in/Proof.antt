@@ -1,4 +1,5 @@
 -- Four bytes are the terminator, and any other number of bytes is wrong.
+use native.Mathlib.Omega.{arith}
 use borrow.Author.Needs.{needs}
 use Rattle.exports_pools.proofs.Cases.{four-bytes, not-four}
 use Rattle.exports_pools.proofs.terminator_in.Statement.{statement}
@@ -8,16 +9,16 @@ returns : tie.Need-returns
 returns c = not-four _ (c .if1 .taken)
 
 shared-slice-read-t6 : tie.Need-shared-slice-read-t6
-shared-slice-read-t6 c = search needs
+shared-slice-read-t6 c = omega arith
 
 shared-slice-read-t8 : tie.Need-shared-slice-read-t8
-shared-slice-read-t8 c = search needs
+shared-slice-read-t8 c = omega arith
 
 shared-slice-read-t10 : tie.Need-shared-slice-read-t10
-shared-slice-read-t10 c = search needs
+shared-slice-read-t10 c = omega arith
 
 shared-slice-read-t12 : tie.Need-shared-slice-read-t12
-shared-slice-read-t12 c = search needs
+shared-slice-read-t12 c = omega arith
 
 terminator-of-requires : tie.Need-terminator-of-requires
 terminator-of-requires c κs = search needs

@@ -1,4 +1,5 @@
 -- Within the order the table is asked, and past it there is an empty column.
+use native.Mathlib.Omega.{arith}
 use borrow.Author.Needs.{needs}
 use Rattle.exports_terms.proofs.HeaderColumns.{past-the-last, in-their-order}
 use Rattle.exports_terms.proofs.column_of.Statement.{statement}
@@ -11,7 +12,7 @@ returns : tie.Need-returns
 returns c = past-the-last _ (c .if1 .taken)
 
 mul-result : tie.Need-mul-result
-mul-result c = search needs
+mul-result c = omega arith
 
 array-copy-out-result : tie.Need-array-copy-out-result
 array-copy-out-result c = search needs

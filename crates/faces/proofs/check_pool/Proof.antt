@@ -15,7 +15,7 @@ add-cents : tie.Need-add-cents
 add-cents c = omega (arith, c .before .current-cents .ensures, cents-small (c .before .before .args .d))
 
 add-pools : tie.Need-add-pools
-add-pools c = search needs
+add-pools c = omega arith
 
 terminator-of-requires : tie.Need-terminator-of-requires
 terminator-of-requires c κs = search needs

@@ -27,7 +27,7 @@ pool-at-requires : tie.Need-pool-at-requires Inv-loop μ-loop
 pool-at-requires c κs = omega (arith, c .before .before .pool-count .ensures)
 
 add-i : tie.Need-add-i Inv-loop μ-loop
-add-i c = search needs
+add-i c = omega arith
 
 is-new-requires : tie.Need-is-new-requires Inv-loop μ-loop
 is-new-requires c κs = search needs
@@ -36,7 +36,7 @@ face-fails-requires : tie.Need-face-fails-requires Inv-loop μ-loop
 face-fails-requires c κs = search needs
 
 loop-less : tie.Need-loop-less Inv-loop μ-loop
-loop-less c = search needs
+loop-less c = omega arith
 
 loop-again : tie.Need-loop-again Inv-loop μ-loop
 loop-again c =

@@ -29,7 +29,7 @@ pool-at-requires : tie.Need-pool-at-requires Inv-loop μ-loop
 pool-at-requires c κs = omega (arith, c .before .before .pool-count .ensures)
 
 add-i : tie.Need-add-i Inv-loop μ-loop
-add-i c = search needs
+add-i c = omega arith
 
 check-pool-requires : tie.Need-check-pool-requires Inv-loop μ-loop
 check-pool-requires c κs =
@@ -38,7 +38,7 @@ check-pool-requires c κs =
     (omega arith, omega arith)
 
 loop-less : tie.Need-loop-less Inv-loop μ-loop
-loop-less c = search needs
+loop-less c = omega arith
 
 loop-again : tie.Need-loop-again Inv-loop μ-loop
 loop-again c =

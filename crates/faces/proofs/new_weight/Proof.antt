@@ -27,13 +27,13 @@ pool-at-requires : tie.Need-pool-at-requires Inv-loop μ-loop
 pool-at-requires c κs = omega (arith, c .before .before .pool-count .ensures)
 
 add-i : tie.Need-add-i Inv-loop μ-loop
-add-i c = search needs
+add-i c = omega arith
 
 weigh-pool-requires : tie.Need-weigh-pool-requires Inv-loop μ-loop
 weigh-pool-requires c κs = omega (arith, count-max (c .before .before .before .before .before .args .body .now), c .before .before .before .pool-count .ensures)
 
 loop-less : tie.Need-loop-less Inv-loop μ-loop
-loop-less c = search needs
+loop-less c = omega arith
 
 loop-again : tie.Need-loop-again Inv-loop μ-loop
 loop-again c =

@@ -1,4 +1,5 @@
 -- A product is passed where the quotient of one less reaches the other factor; with nothing to divide by, any number over 0 passes it.
+use native.Mathlib.Omega.{arith}
 use Rattle.faces.proofs.Limits.{over-none, over-all, over-quotient}
 use borrow.Author.Needs.{needs}
 use Rattle.faces.proofs.over.Statement.{statement}
@@ -11,7 +12,7 @@ returns-2 : tie.Need-returns-2
 returns-2 c = over-all _ _ _ (c .before .if1 .left) (c .if2 .taken)
 
 sub-result : tie.Need-sub-result
-sub-result c = search needs
+sub-result c = omega arith
 
 div-result : tie.Need-div-result
 div-result c = search needs

@@ -55,10 +55,10 @@ array-write-terminators : tie.Need-array-write-terminators Inv-loop μ-loop
 array-write-terminators c = omega (arith, count-max (c .before .before .before .before .before .before .before .args .body .now), c .before .before .before .before .before .pool-count .ensures)
 
 add-i : tie.Need-add-i Inv-loop μ-loop
-add-i c = search needs
+add-i c = omega arith
 
 loop-less : tie.Need-loop-less Inv-loop μ-loop
-loop-less c = search needs
+loop-less c = omega arith
 
 loop-again : tie.Need-loop-again Inv-loop μ-loop
 loop-again c =

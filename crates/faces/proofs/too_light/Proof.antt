@@ -9,7 +9,7 @@ returns : tie.Need-returns
 returns c = light-never (c .before .args .sum) (c .before .args .millions) _ (c .if1 .taken)
 
 sub-result : tie.Need-sub-result
-sub-result c = search needs
+sub-result c = omega arith
 
 div-result : tie.Need-div-result
 div-result c = search needs

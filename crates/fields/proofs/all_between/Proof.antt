@@ -17,7 +17,7 @@ returns : tie.Need-returns Inv-loop μ-loop
 returns c = codes-out _ _ _ _ _ (out-past _ _ _ (omega arith))
 
 sub-if2 : tie.Need-sub-if2 Inv-loop μ-loop
-sub-if2 c = search needs
+sub-if2 c = omega arith
 
 returns-2 : tie.Need-returns-2 Inv-loop μ-loop
 returns-2 c = codes-out _ _ _ _ _ (out-short _ _ _ (omega arith))
@@ -26,13 +26,13 @@ loop-holds : tie.Need-loop-holds Inv-loop μ-loop
 loop-holds c = (search needs, codes-none _ _ _ _ _)
 
 add-b : tie.Need-add-b Inv-loop μ-loop
-add-b c = search needs
+add-b c = omega arith
 
 shared-slice-read-b : tie.Need-shared-slice-read-b Inv-loop μ-loop
-shared-slice-read-b c = search needs
+shared-slice-read-b c = omega arith
 
 add-i : tie.Need-add-i Inv-loop μ-loop
-add-i c = search needs
+add-i c = omega arith
 
 returns-3 : tie.Need-returns-3 Inv-loop μ-loop
 returns-3 c =
@@ -47,7 +47,7 @@ returns-4 c =
     codes-stop (a .low) (a .high) (a .s .now) (a .at) (a .n) (omega arith) (omega arith) (l .i) (l .inv .1) (omega arith) (above _ _ _ (c .if4 .taken))
 
 loop-less : tie.Need-loop-less Inv-loop μ-loop
-loop-less c = search needs
+loop-less c = omega arith
 
 loop-again : tie.Need-loop-again Inv-loop μ-loop
 loop-again c =

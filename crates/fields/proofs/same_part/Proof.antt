@@ -17,7 +17,7 @@ returns : tie.Need-returns Inv-loop μ-loop
 returns c = first-out _ _ _ _ _ (out-past _ _ _ (omega arith))
 
 sub-if2 : tie.Need-sub-if2 Inv-loop μ-loop
-sub-if2 c = search needs
+sub-if2 c = omega arith
 
 returns-2 : tie.Need-returns-2 Inv-loop μ-loop
 returns-2 c = first-out _ _ _ _ _ (out-short _ _ _ (omega arith))
@@ -26,7 +26,7 @@ returns-3 : tie.Need-returns-3 Inv-loop μ-loop
 returns-3 c = second-out _ _ _ _ _ (out-past _ _ _ (omega arith))
 
 sub-if4 : tie.Need-sub-if4 Inv-loop μ-loop
-sub-if4 c = search needs
+sub-if4 c = omega arith
 
 returns-4 : tie.Need-returns-4 Inv-loop μ-loop
 returns-4 c = second-out _ _ _ _ _ (out-short _ _ _ (omega arith))
@@ -35,16 +35,16 @@ loop-holds : tie.Need-loop-holds Inv-loop μ-loop
 loop-holds c = (search needs, left-none _ _ _ _ _)
 
 add-if5 : tie.Need-add-if5 Inv-loop μ-loop
-add-if5 c = search needs
+add-if5 c = omega arith
 
 shared-slice-read-if5 : tie.Need-shared-slice-read-if5 Inv-loop μ-loop
-shared-slice-read-if5 c = search needs
+shared-slice-read-if5 c = omega arith
 
 add-if5-2 : tie.Need-add-if5-2 Inv-loop μ-loop
-add-if5-2 c = search needs
+add-if5-2 c = omega arith
 
 shared-slice-read-if5-2 : tie.Need-shared-slice-read-if5-2 Inv-loop μ-loop
-shared-slice-read-if5-2 c = search needs
+shared-slice-read-if5-2 c = omega arith
 
 returns-5 : tie.Need-returns-5 Inv-loop μ-loop
 returns-5 c =
@@ -52,10 +52,10 @@ returns-5 c =
     left-stop (a .a .now) (a .i) (a .b .now) (a .j) (a .n) (omega arith) (omega arith) (omega arith) (omega arith) (c .before .before .before .before .loop .k) (c .before .before .before .before .loop .inv .1) (omega arith) (c .if5 .taken)
 
 add-k : tie.Need-add-k Inv-loop μ-loop
-add-k c = search needs
+add-k c = omega arith
 
 loop-less : tie.Need-loop-less Inv-loop μ-loop
-loop-less c = search needs
+loop-less c = omega arith
 
 loop-again : tie.Need-loop-again Inv-loop μ-loop
 loop-again c =

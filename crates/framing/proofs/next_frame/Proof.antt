@@ -17,13 +17,13 @@ loop-holds : tie.Need-loop-holds Inv-loop μ-loop
 loop-holds c = (search needs, search needs, search needs, left-none _ _ (c .args .at))
 
 shared-slice-read-byte : tie.Need-shared-slice-read-byte Inv-loop μ-loop
-shared-slice-read-byte c = search needs
+shared-slice-read-byte c = omega arith
 
 add-i : tie.Need-add-i Inv-loop μ-loop
-add-i c = search needs
+add-i c = omega arith
 
 loop-less : tie.Need-loop-less Inv-loop μ-loop
-loop-less c = search needs
+loop-less c = omega arith
 
 loop-again : tie.Need-loop-again Inv-loop μ-loop
 loop-again c =
@@ -32,10 +32,10 @@ loop-again c =
     (omega arith, omega arith, omega arith, left-begin (a .tape .now) (a .at) (l .started) (l .mark) (l .i) (l .inv .3) (omega arith) (c .if1 .taken))
 
 add-t14 : tie.Need-add-t14 Inv-loop μ-loop
-add-t14 c = search needs
+add-t14 c = omega arith
 
 sub-t16 : tie.Need-sub-t16 Inv-loop μ-loop
-sub-t16 c = search needs
+sub-t16 c = omega arith
 
 returns : tie.Need-returns Inv-loop μ-loop
 returns c =
@@ -44,7 +44,7 @@ returns c =
     record { frame = left-end (a .tape .now) (a .at) (l .started) (l .mark) (l .i) (l .inv .3) (omega arith) (c .before .before .if1 .left) (c .before .if2 .taken) (c .if3 .taken); dropped = omega arith }
 
 loop-less-2 : tie.Need-loop-less-2 Inv-loop μ-loop
-loop-less-2 c = search needs
+loop-less-2 c = omega arith
 
 loop-again-2 : tie.Need-loop-again-2 Inv-loop μ-loop
 loop-again-2 c =
@@ -53,7 +53,7 @@ loop-again-2 c =
     (omega arith, omega arith, omega arith, left-stray (a .tape .now) (a .at) (l .started) (l .mark) (l .i) (l .inv .3) (omega arith) (c .before .before .if1 .left) (c .if3 .left))
 
 loop-less-3 : tie.Need-loop-less-3 Inv-loop μ-loop
-loop-less-3 c = search needs
+loop-less-3 c = omega arith
 
 loop-again-3 : tie.Need-loop-again-3 Inv-loop μ-loop
 loop-again-3 c =
@@ -62,7 +62,7 @@ loop-again-3 c =
     (omega arith, omega arith, omega arith, left-other (a .tape .now) (a .at) (l .started) (l .mark) (l .i) (l .inv .3) (omega arith) (c .before .if1 .left) (c .if2 .left))
 
 sub-t18 : tie.Need-sub-t18 Inv-loop μ-loop
-sub-t18 c = search needs
+sub-t18 c = omega arith
 
 returns-2 : tie.Need-returns-2 Inv-loop μ-loop
 returns-2 c =

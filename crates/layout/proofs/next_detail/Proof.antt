@@ -1,4 +1,5 @@
 -- Where no whole detail is left it is the end; else the detail stands at the place, and the next one follows it.
+use native.Mathlib.Omega.{arith}
 use Rattle.lists.proofs.Parts.{out-past, out-short}
 use Rattle.layout.proofs.Reader.{at-end, at-detail}
 use borrow.Author.Needs.{needs}
@@ -12,7 +13,7 @@ returns : tie.Need-returns
 returns c = at-end _ _ _ (c .no-detail .ensures) (out-past _ _ _ (c .before .if1 .taken))
 
 sub-if2 : tie.Need-sub-if2
-sub-if2 c = search needs
+sub-if2 c = omega arith
 
 no-detail-requires-2 : tie.Need-no-detail-requires-2
 no-detail-requires-2 c κs = search needs
@@ -24,7 +25,7 @@ detail-at-requires : tie.Need-detail-at-requires
 detail-at-requires c κs = search needs
 
 add-t3 : tie.Need-add-t3
-add-t3 c = search needs
+add-t3 c = omega arith
 
 returns-3 : tie.Need-returns-3
 returns-3 c = at-detail _ _ _ (c .detail-at .ensures) (c .before .before .if1 .left) (c .before .if2 .left)

@@ -1,7 +1,7 @@
 -- Each early answer names the part of check 10 that fails; what is left is a whole number of details.
+use native.Mathlib.Omega.{arith}
 use mathlib.Core.Path.{refl}
 use Rattle.layout.proofs.Lengths.{too-short, too-many, not-whole, whole}
-use borrow.Author.Needs.{needs}
 use Rattle.layout.proofs.pool_count.Statement.{statement}
 use Rattle.layout.proofs.pool_count.Tie as tie
 
@@ -9,13 +9,13 @@ returns : tie.Need-returns
 returns c = too-short _ (c .if1 .taken)
 
 sub-rest : tie.Need-sub-rest
-sub-rest c = search needs
+sub-rest c = omega arith
 
 returns-2 : tie.Need-returns-2
 returns-2 c = too-many _ _ refl (c .if2 .taken)
 
 mul-if3 : tie.Need-mul-if3
-mul-if3 c = search needs
+mul-if3 c = omega arith
 
 returns-3 : tie.Need-returns-3
 returns-3 c = not-whole _ _ refl (c .if3 .taken)

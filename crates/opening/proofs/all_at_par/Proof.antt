@@ -21,22 +21,22 @@ loop-holds c =
     (omega arith, c .good .0 .1 .0 .1, changing-none atPar (c .args .trades))
 
 mul-t : tie.Need-mul-t Inv-loop μ-loop
-mul-t c = search needs
+mul-t c = omega arith
 
 array-copy-out-t : tie.Need-array-copy-out-t Inv-loop μ-loop
 array-copy-out-t c = search needs
 
 mul-opened : tie.Need-mul-opened Inv-loop μ-loop
-mul-opened c = search needs
+mul-opened c = omega arith
 
 array-set-from-opened : tie.Need-array-set-from-opened Inv-loop μ-loop
 array-set-from-opened c = search needs
 
 add-i : tie.Need-add-i Inv-loop μ-loop
-add-i c = search needs
+add-i c = omega arith
 
 loop-less : tie.Need-loop-less Inv-loop μ-loop
-loop-less c = search needs
+loop-less c = omega arith
 
 loop-again : tie.Need-loop-again Inv-loop μ-loop
 loop-again c =

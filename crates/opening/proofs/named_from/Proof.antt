@@ -23,13 +23,13 @@ loop-holds : tie.Need-loop-holds Inv-loop μ-loop
 loop-holds c = (omega (arith, c .pre), refl)
 
 mul-other : tie.Need-mul-other Inv-loop μ-loop
-mul-other c = search needs
+mul-other c = omega arith
 
 array-copy-out-other : tie.Need-array-copy-out-other Inv-loop μ-loop
 array-copy-out-other c = search needs
 
 add-i : tie.Need-add-i Inv-loop μ-loop
-add-i c = search needs
+add-i c = omega arith
 
 same-name-requires : tie.Need-same-name-requires Inv-loop μ-loop
 same-name-requires c κs = search needs
@@ -42,7 +42,7 @@ returns c =
     sym (any-stop (same (tradeName (a .t))) (ap (map tradeName) turn) (sym (c .before .same-name .ensures) ∙ c .if1 .taken)) ∙ l .inv .1
 
 loop-less : tie.Need-loop-less Inv-loop μ-loop
-loop-less c = search needs
+loop-less c = omega arith
 
 loop-again : tie.Need-loop-again Inv-loop μ-loop
 loop-again c =

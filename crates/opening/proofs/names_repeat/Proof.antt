@@ -23,13 +23,13 @@ loop-holds : tie.Need-loop-holds Inv-loop μ-loop
 loop-holds c = (search needs, refl)
 
 mul-t : tie.Need-mul-t Inv-loop μ-loop
-mul-t c = search needs
+mul-t c = omega arith
 
 array-copy-out-t : tie.Need-array-copy-out-t Inv-loop μ-loop
 array-copy-out-t c = search needs
 
 add-i : tie.Need-add-i Inv-loop μ-loop
-add-i c = search needs
+add-i c = omega arith
 
 named-from-requires : tie.Need-named-from-requires Inv-loop μ-loop
 named-from-requires c κs = search needs
@@ -42,7 +42,7 @@ returns c =
     sym (repeat-stop (ap (map tradeName) turn) (sym (c .before .named-from .ensures) ∙ c .if1 .taken)) ∙ l .inv .1
 
 loop-less : tie.Need-loop-less Inv-loop μ-loop
-loop-less c = search needs
+loop-less c = omega arith
 
 loop-again : tie.Need-loop-again Inv-loop μ-loop
 loop-again c =

@@ -22,13 +22,13 @@ loop-holds : tie.Need-loop-holds Inv-loop μ-loop
 loop-holds c = (search needs, refl)
 
 mul-t : tie.Need-mul-t Inv-loop μ-loop
-mul-t c = search needs
+mul-t c = omega arith
 
 array-copy-out-t : tie.Need-array-copy-out-t Inv-loop μ-loop
 array-copy-out-t c = search needs
 
 add-i : tie.Need-add-i Inv-loop μ-loop
-add-i c = search needs
+add-i c = omega arith
 
 trade-fine-requires : tie.Need-trade-fine-requires Inv-loop μ-loop
 trade-fine-requires c κs = search needs
@@ -41,7 +41,7 @@ returns c =
     sym (all-stop (tradeFine (a .holidays .now)) turn (sym (c .before .trade-fine .ensures) ∙ not-true _ (c .if1 .taken))) ∙ l .inv .1
 
 loop-less : tie.Need-loop-less Inv-loop μ-loop
-loop-less c = search needs
+loop-less c = omega arith
 
 loop-again : tie.Need-loop-again Inv-loop μ-loop
 loop-again c =

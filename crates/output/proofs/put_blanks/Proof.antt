@@ -19,7 +19,7 @@ returns : tie.Need-returns Inv-loop μ-loop
 returns c = let a = c .before .args in pasting-past (a .out .now) (a .at) (blanks (a .n)) (a .n) (length-replicate {A = ℕ} (a .n) 32) (omega arith)
 
 sub-if2 : tie.Need-sub-if2 Inv-loop μ-loop
-sub-if2 c = search needs
+sub-if2 c = omega arith
 
 returns-2 : tie.Need-returns-2 Inv-loop μ-loop
 returns-2 c = let a = c .before .before .args in pasting-short (a .out .now) (a .at) (blanks (a .n)) (a .n) (length-replicate {A = ℕ} (a .n) 32) (omega arith)
@@ -28,16 +28,16 @@ loop-holds : tie.Need-loop-holds Inv-loop μ-loop
 loop-holds c = let a = c .before .before .args in (search needs, refl, pasting-none (a .out .now) (a .at) (blanks (a .n)) (a .n) (length-replicate {A = ℕ} (a .n) 32))
 
 add-out : tie.Need-add-out Inv-loop μ-loop
-add-out c = search needs
+add-out c = omega arith
 
 slice-write-out : tie.Need-slice-write-out Inv-loop μ-loop
-slice-write-out c = search needs
+slice-write-out c = omega arith
 
 add-i : tie.Need-add-i Inv-loop μ-loop
-add-i c = search needs
+add-i c = omega arith
 
 loop-less : tie.Need-loop-less Inv-loop μ-loop
-loop-less c = search needs
+loop-less c = omega arith
 
 loop-again : tie.Need-loop-again Inv-loop μ-loop
 loop-again c =
@@ -46,7 +46,7 @@ loop-again c =
     (omega arith, simp length-set (l .inv .1), pasting-more (a .out .now) (a .at) (blanks (a .n)) (a .n) (length-replicate {A = ℕ} (a .n) 32) (l .out) (l .i) (l .inv .2) 32 0 (getD-replicate {A = ℕ} (a .n) (l .i) 32 0 (omega arith)) (omega arith) (omega arith))
 
 same-length : tie.Need-same-length Inv-loop μ-loop
-same-length c = search needs
+same-length c = omega arith
 
 returns-3 : tie.Need-returns-3 Inv-loop μ-loop
 returns-3 c =

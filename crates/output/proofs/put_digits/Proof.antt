@@ -19,7 +19,7 @@ returns : tie.Need-returns Inv-loop μ-loop
 returns c = let a = c .before .args in pasting-past (a .out .now) (a .at) _ (a .width) (digits-length _ (a .value)) (omega arith)
 
 sub-if2 : tie.Need-sub-if2 Inv-loop μ-loop
-sub-if2 c = search needs
+sub-if2 c = omega arith
 
 returns-2 : tie.Need-returns-2 Inv-loop μ-loop
 returns-2 c = let a = c .before .before .args in pasting-short (a .out .now) (a .at) _ (a .width) (digits-length _ (a .value)) (omega arith)
@@ -28,22 +28,22 @@ loop-holds : tie.Need-loop-holds Inv-loop μ-loop
 loop-holds c = (search needs, refl, refl)
 
 sub-i : tie.Need-sub-i Inv-loop μ-loop
-sub-i c = search needs
+sub-i c = omega arith
 
 cast-out : tie.Need-cast-out Inv-loop μ-loop
-cast-out c = search needs
+cast-out c = omega arith
 
 add-out : tie.Need-add-out Inv-loop μ-loop
-add-out c = search needs
+add-out c = omega arith
 
 add-out-2 : tie.Need-add-out-2 Inv-loop μ-loop
-add-out-2 c = search needs
+add-out-2 c = omega arith
 
 slice-write-out : tie.Need-slice-write-out Inv-loop μ-loop
-slice-write-out c = search needs
+slice-write-out c = omega arith
 
 loop-less : tie.Need-loop-less Inv-loop μ-loop
-loop-less c = search needs
+loop-less c = omega arith
 
 loop-again : tie.Need-loop-again Inv-loop μ-loop
 loop-again c =
@@ -53,7 +53,7 @@ loop-again c =
     (omega arith, simp length-set (l .inv .1), put-down (l .out) (a .at) (l .i) (l .v) (omega arith) h ∙ l .inv .2)
 
 same-length : tie.Need-same-length Inv-loop μ-loop
-same-length c = search needs
+same-length c = omega arith
 
 returns-3 : tie.Need-returns-3 Inv-loop μ-loop
 returns-3 c =

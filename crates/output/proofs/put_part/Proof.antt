@@ -11,16 +11,16 @@ returns : tie.Need-returns
 returns c = part-missing _ _ _ _ _ (out-past _ _ _ (omega arith))
 
 sub-if2 : tie.Need-sub-if2
-sub-if2 c = search needs
+sub-if2 c = omega arith
 
 returns-2 : tie.Need-returns-2
 returns-2 c = part-missing _ _ _ _ _ (out-short _ _ _ (omega arith))
 
 add-end : tie.Need-add-end
-add-end c = search needs
+add-end c = omega arith
 
 sub-put-bytes : tie.Need-sub-put-bytes
-sub-put-bytes c = search needs
+sub-put-bytes c = omega arith
 
 part-put-bytes-start : tie.Need-part-put-bytes-start
 part-put-bytes-start c = search needs
@@ -32,7 +32,7 @@ put-bytes-requires : tie.Need-put-bytes-requires
 put-bytes-requires c κs = search needs
 
 same-length : tie.Need-same-length
-same-length c = search needs
+same-length c = omega arith
 
 returns-3 : tie.Need-returns-3
 returns-3 c = let a = c .before .before .before .before .before .before .before .before .before .args in part-there (a .out .now) (a .to) (a .s .now) (a .at) (a .n) _ _ refl (omega arith) (c .before .before .put-bytes .ensures)

@@ -1,6 +1,6 @@
 -- The highest stays; one more than any lower one still fits.
+use native.Mathlib.Omega.{arith}
 use Rattle.sequence.proofs.Arrivals.{highest-stays, one-more}
-use borrow.Author.Needs.{needs}
 use Rattle.sequence.proofs.next.Statement.{statement}
 use Rattle.sequence.proofs.next.Tie as tie
 
@@ -8,7 +8,7 @@ returns : tie.Need-returns
 returns c = highest-stays _ (c .if1 .taken)
 
 add-t3 : tie.Need-add-t3
-add-t3 c = search needs
+add-t3 c = omega arith
 
 returns-2 : tie.Need-returns-2
 returns-2 c = one-more _ (c .before .if1 .left)

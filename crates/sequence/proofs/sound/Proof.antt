@@ -1,4 +1,5 @@
 -- Each case of what was received asks the definition's test of what is expected.
+use native.Mathlib.Omega.{arith}
 use Rattle.sequence.proofs.Soundness.{too-high, in-range}
 use Rattle.sequence.specs.Sequence.{soundLine}
 use borrow.Author.Needs.{needs}
@@ -16,7 +17,7 @@ unfolding soundLine
 returns c = rw (c .before .before .before .received .given .1) (too-high _ _ (c .if1 .taken))
 
 add-result : tie.Need-add-result
-add-result c = search needs
+add-result c = omega arith
 
 returns-2 : tie.Need-returns-2
 unfolding soundLine

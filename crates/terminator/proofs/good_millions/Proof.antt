@@ -26,7 +26,7 @@ mark-at-requires : tie.Need-mark-at-requires Inv-loop μ-loop
 mark-at-requires c κs = omega (arith, c .before .before .pool-count .ensures)
 
 add-i : tie.Need-add-i Inv-loop μ-loop
-add-i c = search needs
+add-i c = omega arith
 
 add-sum : tie.Need-add-sum Inv-loop μ-loop
 add-sum c =
@@ -35,7 +35,7 @@ add-sum c =
     omega (arith, count-max (a .body .now), c .before .before .before .before .pool-count .ensures, mark-millions p _ (c .before .mark-at .ensures), millions-small p)
 
 loop-less : tie.Need-loop-less Inv-loop μ-loop
-loop-less c = search needs
+loop-less c = omega arith
 
 loop-again : tie.Need-loop-again Inv-loop μ-loop
 loop-again c =

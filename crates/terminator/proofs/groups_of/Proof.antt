@@ -40,10 +40,10 @@ run-on-requires c κs =
     (small-most (l .i) 250 (l .g) (omega (arith, count-max (a .body .now), c .before .before .before .before .pool-count .ensures)) (l .inv .1), omega (arith, mark-millions p _ (c .mark-at .ensures), millions-small p))
 
 add-i : tie.Need-add-i Inv-loop μ-loop
-add-i c = search needs
+add-i c = omega arith
 
 loop-less : tie.Need-loop-less Inv-loop μ-loop
-loop-less c = search needs
+loop-less c = omega arith
 
 loop-again : tie.Need-loop-again Inv-loop μ-loop
 loop-again c =

@@ -42,7 +42,7 @@ add-faces c =
     omega (arith, l .inv .1, count-max (a .body .now), c .before .before .before .before .before .pool-count .ensures, c .current-cents .ensures, cents-small (c .before .before .pool-at .result))
 
 add-i : tie.Need-add-i Inv-loop μ-loop
-add-i c = search needs
+add-i c = omega arith
 
 lot-ended-requires : tie.Need-lot-ended-requires Inv-loop μ-loop
 lot-ended-requires c κs = search needs
@@ -59,7 +59,7 @@ returns c =
     ∙ sought-found (a .body .now) (a .first) (c .before .before .before .before .before .before .before .pool-count .result) (l .faces) (l .i) (l .inv .2) (omega arith) e
 
 loop-less : tie.Need-loop-less Inv-loop μ-loop
-loop-less c = search needs
+loop-less c = omega arith
 
 loop-again : tie.Need-loop-again Inv-loop μ-loop
 loop-again c =

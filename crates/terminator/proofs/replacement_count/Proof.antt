@@ -25,13 +25,13 @@ mark-at-requires : tie.Need-mark-at-requires Inv-loop μ-loop
 mark-at-requires c κs = omega (arith, c .before .before .pool-count .ensures)
 
 add-i : tie.Need-add-i Inv-loop μ-loop
-add-i c = search needs
+add-i c = omega arith
 
 add-count : tie.Need-add-count Inv-loop μ-loop
-add-count c = search needs
+add-count c = omega arith
 
 loop-less : tie.Need-loop-less Inv-loop μ-loop
-loop-less c = search needs
+loop-less c = omega arith
 
 loop-again : tie.Need-loop-again Inv-loop μ-loop
 loop-again c =
@@ -40,7 +40,7 @@ loop-again c =
     (omega arith, omega arith, pass-more addReplacement _ _ _ (l .count) (l .i) (l .inv .2) (omega arith) _ (replacement-more (l .count) p (sym (mark-one p _ (c .before .before .mark-at .ensures)) ∙ c .if1 .taken)))
 
 loop-less-2 : tie.Need-loop-less-2 Inv-loop μ-loop
-loop-less-2 c = search needs
+loop-less-2 c = omega arith
 
 loop-again-2 : tie.Need-loop-again-2 Inv-loop μ-loop
 loop-again-2 c =

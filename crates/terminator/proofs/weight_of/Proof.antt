@@ -1,4 +1,5 @@
 -- By cases on the kind.
+use native.Mathlib.Omega.{arith}
 use mathlib.Core.Path.{sym, ap}
 use Rattle.terminator.specs.declared.Kind.{Kind}
 use Rattle.terminator.specs.Lots.{weightOf}
@@ -10,7 +11,7 @@ enum-told : tie.Need-enum-told
 enum-told c = search needs
 
 mul-result : tie.Need-mul-result
-mul-result c = search needs
+mul-result c = omega arith
 
 enum-told-2 : tie.Need-enum-told-2
 enum-told-2 c = search needs

@@ -26,10 +26,10 @@ returns c =
     left-found (c .before .before .before .before .before .args .special .now) (l .i) (l .inv) (omega arith) (sym (c .before .mark-at .ensures) ∙ c .if1 .taken)
 
 add-i : tie.Need-add-i Inv-loop μ-loop
-add-i c = search needs
+add-i c = omega arith
 
 loop-less : tie.Need-loop-less Inv-loop μ-loop
-loop-less c = search needs
+loop-less c = omega arith
 
 loop-again : tie.Need-loop-again Inv-loop μ-loop
 loop-again c =

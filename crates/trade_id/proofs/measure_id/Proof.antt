@@ -17,7 +17,7 @@ loop-holds : tie.Need-loop-holds Inv-loop μ-loop
 loop-holds c = (search needs, counted-none (c .args .special .now) (c .args .start))
 
 sub-if1 : tie.Need-sub-if1 Inv-loop μ-loop
-sub-if1 c = search needs
+sub-if1 c = omega arith
 
 returns : tie.Need-returns Inv-loop μ-loop
 returns c =
@@ -26,7 +26,7 @@ returns c =
     too-long (a .special .now) (a .start) (l .end) (omega arith) (l .inv .1) (omega arith)
 
 shared-slice-read-if2 : tie.Need-shared-slice-read-if2 Inv-loop μ-loop
-shared-slice-read-if2 c = search needs
+shared-slice-read-if2 c = omega arith
 
 returns-2 : tie.Need-returns-2 Inv-loop μ-loop
 returns-2 c =
@@ -35,7 +35,7 @@ returns-2 c =
     empty (a .special .now) (a .start) (l .end) (omega arith) (l .inv .1) (omega arith) (c .before .if2 .taken) (c .if3 .taken)
 
 sub-t9 : tie.Need-sub-t9 Inv-loop μ-loop
-sub-t9 c = search needs
+sub-t9 c = omega arith
 
 returns-3 : tie.Need-returns-3 Inv-loop μ-loop
 returns-3 c =
@@ -44,10 +44,10 @@ returns-3 c =
     whole (a .special .now) (a .start) (l .end) (omega arith) (l .inv .1) (omega arith) (c .before .if2 .taken) (c .if3 .left) (omega arith)
 
 add-end : tie.Need-add-end Inv-loop μ-loop
-add-end c = search needs
+add-end c = omega arith
 
 loop-less : tie.Need-loop-less Inv-loop μ-loop
-loop-less c = search needs
+loop-less c = omega arith
 
 loop-again : tie.Need-loop-again Inv-loop μ-loop
 loop-again c = (
