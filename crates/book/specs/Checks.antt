@@ -13,7 +13,7 @@ use Rattle.layout.specs.declared.Detail.{Detail}
 use Rattle.layout.specs.Columns as columns
 use Rattle.layout.specs.Columns.{bytesIn, numberIn}
 use Rattle.layout.specs.Details.{lengthFits, details}
-use Rattle.terminator.specs.Lots.{Lot, poolsOf, lots, lotKind, lotMillions, formedFor, goodMillions, replacementCount}
+use Rattle.terminator.specs.Lots.{Lot, poolsOf, lots, lotKind, lotMillions, formedFor, goodMillions, replacementCount, valueOf}
 use Rattle.terminator.specs.Groups.{lotCanceled, groupsFormed, groupsBalanced}
 use Rattle.faces.specs.Faces.{newPools, facesFail, lotsFail}
 use Rattle.calendar.specs.Calendar.{businessDate}
@@ -61,10 +61,6 @@ notNumber p NotDigits = true
 -- 11: not digits, or 999999
 abbrev pub sequenceFails : List ℕ → Bool
 sequenceFails body = notNumber (λ (n : ℕ). leb n 999998) (numberIn body columns.sequence)
-
-abbrev pub valueOf : Field → ℕ
-valueOf (Number n) = n
-valueOf NotDigits = 0
 
 abbrev pub arrived : List ℕ → Inbound
 arrived body = inbound (valueOf (numberIn body columns.sequence))
