@@ -19,7 +19,7 @@ use Rattle.book.specs.Records.{fieldsOf, distinct}
 use Rattle.book.specs.Messages.{typeOf, idIn, targetOf, under}
 use Rattle.book.specs.Opening.{elevenDigitsMax, between}
 use Rattle.book.specs.Soundness.{isSound}
-use Rattle.book.specs.Checks.{Call, live, sequenceFails, arrived, isDuplicate, isOther, isCc, isDk, isCx, onOrCc, ccOrDk, idFails, termsFail, listedFine, parFine, tableFine, Check, checks, refusal, answerFrom, answerOf}
+use Rattle.book.specs.Checks.{Call, live, trades, targetTrade, sequenceFails, arrived, isDuplicate, isOther, isCc, isDk, isCx, onOrCc, ccOrDk, idFails, termsFail, listedFine, parFine, tableFine, Check, checks, refusal, answerFrom, answerOf}
 
 -- whether the first check of a number is for the type and fails
 abbrev pub failsFor : ℕ → List Check → Call → Bool
@@ -70,11 +70,11 @@ pub record Fine (c : Call) : Type 0 where
   pub balanced : isCc (typeOf (c .body)) ≡ true → groupsBalanced (details (c .body)) ≡ true
   -- 30, 31, 32
   pub targetLive : ccOrDk (typeOf (c .body)) ≡ true → any (under (targetOf (c .body))) (live c) ≡ true
-  pub idFine : idFails c (idIn (c .body)) ≡ false
-  pub termsFine : termsFail c (idIn (c .body)) ≡ false
+  pub idFine : idFails (c .body) (trades c) (targetTrade (c .body) (live c)) (idIn (c .body)) ≡ false
+  pub termsFine : termsFail (c .body) (trades c) (targetTrade (c .body) (live c)) (idIn (c .body)) ≡ false
   -- 36, 37, 38, 40
   pub repeated : onOrCc (typeOf (c .body)) ≡ true → distinct (map fieldsOf (newPools (details (c .body)))) ≡ true
-  pub listedExact : ccOrDk (typeOf (c .body)) ≡ true → listedFine c ≡ true
+  pub listedExact : ccOrDk (typeOf (c .body)) ≡ true → listedFine (c .body) (live c) ≡ true
   pub parEnough : onOrCc (typeOf (c .body)) ≡ true → parFine c ≡ true
   pub tableFits : onOrCc (typeOf (c .body)) ≡ true → tableFine c ≡ true
 
@@ -96,7 +96,7 @@ fine c e =
       idFine = passed 31 c e;
       termsFine = passed 32 c e;
       repeated = for-type (onOrCc (typeOf (c .body))) (distinct (map fieldsOf (newPools (details (c .body))))) (passed 36 c e);
-      listedExact = for-type (ccOrDk (typeOf (c .body))) (listedFine c) (passed 37 c e);
+      listedExact = for-type (ccOrDk (typeOf (c .body))) (listedFine (c .body) (live c)) (passed 37 c e);
       parEnough = for-type (onOrCc (typeOf (c .body))) (parFine c) (passed 38 c e);
       tableFits = for-type (onOrCc (typeOf (c .body))) (tableFine c) (passed 40 c e);
     }

@@ -89,10 +89,10 @@ abbrev pub fillersFine : List ℕ → Bool
 fillersFine body = (blankIn body columns.fillerOne && (blankIn body columns.fillerTwo && blankIn body columns.fillerThree)) && posDupFine (bytesIn body columns.posDup)
 
 -- 16: par and price above 0, GDMM at most the ceiling
-abbrev pub amountsFail : Values → List ℕ → Bool
-amountsFail v body =
+abbrev pub amountsFail : ℕ → List ℕ → Bool
+amountsFail ceiling body =
     notNumber (leb 1) (numberIn body columns.par)
-    || (notNumber (leb 1) (numberIn body columns.price) || notNumber (λ (n : ℕ). leb n (v .limits .ceiling)) (numberIn body columns.gdmm))
+    || (notNumber (leb 1) (numberIn body columns.price) || notNumber (λ (n : ℕ). leb n ceiling) (numberIn body columns.gdmm))
 
 -- 17: the book's subscriber and connection, a submitter that is seller or buyer of some trade, and one of the two contras
 abbrev pub partiesFine : Values → List ℕ → Bool
@@ -167,22 +167,19 @@ isDk Cx = false
 isDk Other = false
 
 -- 31: the named trade is one whose terms agree and, on a CC or DK, the target's
-abbrev pub namedFine : Call → ℕ → Bool
-namedFine c i =
-    ltb i (length (trades c))
-    && (agrees (c .body) (tradeAt (trades c) i) && (isOn (typeOf (c .body)) || eqb i (targetTrade (c .body) (live c))))
+abbrev pub namedFine : List ℕ → List Trade → ℕ → ℕ → Bool
+namedFine body ts target i = ltb i (length ts) && (agrees body (tradeAt ts i) && (isOn (typeOf body) || eqb i target))
 
-abbrev pub idFails : Call → TradeId → Bool
-idFails c (Whole place n) = not (namedFine c (namedTrade (c .body) (trades c)))
-idFails c Broken = true
-idFails c Absent = isStipulated (c .body)
+abbrev pub idFails : List ℕ → List Trade → ℕ → TradeId → Bool
+idFails body ts target (Whole place n) = not (namedFine body ts target (namedTrade body ts))
+idFails body ts target Broken = true
+idFails body ts target Absent = isStipulated body
 
 -- 32: without a trade ID, some trade's terms agree with an ON's, and the target's with a CC's or DK's
-abbrev pub termsFail : Call → TradeId → Bool
-termsFail c (Whole place n) = false
-termsFail c Broken = false
-termsFail c Absent =
-    cond (isOn (typeOf (c .body))) (not (any (agrees (c .body)) (trades c))) (not (agrees (c .body) (tradeAt (trades c) (targetTrade (c .body) (live c)))))
+abbrev pub termsFail : List ℕ → List Trade → ℕ → TradeId → Bool
+termsFail body ts target (Whole place n) = false
+termsFail body ts target Broken = false
+termsFail body ts target Absent = cond (isOn (typeOf body)) (not (any (agrees body) ts)) (not (agrees body (tradeAt ts target)))
 
 -- a live record that a message takes off: under its target, with matched fields that it lists
 abbrev pub isTaken : Field → List Fields → Pool → Bool
@@ -219,10 +216,10 @@ oneLot tgt rs l =
 abbrev pub canceledLots : List Detail → List Lot
 canceledLots ds = keep lotCanceled (lots ds)
 
-abbrev pub listedFine : Call → Bool
-listedFine c =
-    exactLots (targetOf (c .body)) (listed (c .body)) (live c)
-    && (not (isCc (typeOf (c .body))) || all (oneLot (targetOf (c .body)) (live c)) (canceledLots (details (c .body))))
+abbrev pub listedFine : List ℕ → List Pool → Bool
+listedFine body rs =
+    exactLots (targetOf body) (listed body) rs
+    && (not (isCc (typeOf body)) || all (oneLot (targetOf body) rs) (canceledLots (details body)))
 
 -- 38: the trade's open par, with what the message takes off, holds what it brings
 abbrev pub parFine : Call → Bool
@@ -268,7 +265,7 @@ checks =
     ∷ check reason.MessageType every (λ (c : Call). isOther (typeOf (c .body)))
     ∷ check reason.Version every (λ (c : Call). not (same (bytesIn (c .body) columns.version) (48 ∷ 48 ∷ 50 ∷ [])))
     ∷ check reason.Filler every (λ (c : Call). not (fillersFine (c .body)))
-    ∷ check reason.Amounts every (λ (c : Call). amountsFail (c .book .values) (c .body))
+    ∷ check reason.Amounts every (λ (c : Call). amountsFail (c .book .values .limits .ceiling) (c .body))
     ∷ check reason.Parties every (λ (c : Call). not (partiesFine (c .book .values) (c .body)))
     ∷ check reason.Cancel isCx (λ (c : Call). true)
     ∷ check reason.LotForm onOrCc (λ (c : Call). not (formedFor (isCc (typeOf (c .body))) (details (c .body))))
@@ -279,13 +276,13 @@ checks =
     ∷ check reason.ReasonCode isDk (λ (c : Call). notNumber (leb 1) (numberIn (c .body) columns.reason))
     ∷ check reason.NoTradeId isDk (λ (c : Call). isStipulated (c .body) && not (isWhole (idIn (c .body))))
     ∷ check reason.Target ccOrDk (λ (c : Call). not (any (under (targetOf (c .body))) (live c)))
-    ∷ check reason.TradeId every (λ (c : Call). idFails c (idIn (c .body)))
-    ∷ check reason.Terms every (λ (c : Call). termsFail c (idIn (c .body)))
+    ∷ check reason.TradeId every (λ (c : Call). idFails (c .body) (trades c) (targetTrade (c .body) (live c)) (idIn (c .body)))
+    ∷ check reason.Terms every (λ (c : Call). termsFail (c .body) (trades c) (targetTrade (c .body) (live c)) (idIn (c .body)))
     ∷ check reason.Millions isOn (λ (c : Call). notNumber (eqb (goodMillions (details (c .body)))) (numberIn (c .body) columns.gdmm))
     ∷ check reason.Faces onOrCc (λ (c : Call). facesFail (c .book .values .limits .least) (details (c .body)))
     ∷ check reason.Variance onOrCc (λ (c : Call). lotsFail (c .book .values .limits .variance) (c .book .values .limits .pools) (details (c .body)))
     ∷ check reason.Repeated onOrCc (λ (c : Call). not (distinct (map fieldsOf (newPools (details (c .body))))))
-    ∷ check reason.Listed ccOrDk (λ (c : Call). not (listedFine c))
+    ∷ check reason.Listed ccOrDk (λ (c : Call). not (listedFine (c .body) (live c)))
     ∷ check reason.Par onOrCc (λ (c : Call). not (parFine c))
     ∷ check reason.TableFull onOrCc (λ (c : Call). not (tableFine c))
     ∷ []
