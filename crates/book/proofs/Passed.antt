@@ -1,6 +1,6 @@
 -- What an accepted call has passed: the first check that fails gives the answer, so where the answer is accepted none fails, whatever its number.
 use Prim.Native.Nat.{ℕ}
-use mathlib.Core.Path.{_≡_, refl, sym, _∙_}
+use mathlib.Core.Path.{_≡_, refl, sym, ap, _∙_}
 use mathlib.Core.List.{List, [], _∷_, map}
 use mathlib.Core.Bool.{Bool, true, false, cond, not, _&&_, _||_, false≢true}
 use lib.Dec.{eqb, leb}
@@ -13,13 +13,15 @@ use Rattle.faces.specs.Faces.{newPools}
 use Rattle.sequence.specs.Sequence.{arrivalOf, outboundSpent}
 use Rattle.tally.specs.declared.MessageType.{MessageType}
 use Rattle.book.specs.declared.Reason.{Reason}
+use Rattle.book.specs.declared.Verdict.{Verdict}
+use Rattle.book.specs.declared.Verdict.the-variants.{Passes, Fails}
 use Rattle.book.specs.declared.Answer.the-variants.{Rejected, Dked}
 use Rattle.book.specs.Reasons.{numberOf, isAccepted}
 use Rattle.book.specs.Records.{fieldsOf, distinct}
 use Rattle.book.specs.Messages.{typeOf, idIn, targetOf, under}
 use Rattle.book.specs.Opening.{elevenDigitsMax, between}
 use Rattle.book.specs.Soundness.{isSound}
-use Rattle.book.specs.Checks.{Call, live, trades, targetTrade, sequenceFails, arrived, isDuplicate, isOther, isCc, isDk, isCx, onOrCc, ccOrDk, idFails, termsFail, listedFine, parFine, tableFine, Check, checks, refusal, answerFrom, answerOf}
+use Rattle.book.specs.Checks.{Call, live, trades, targetTrade, sequenceFails, arrived, isDuplicate, isOther, isCc, isDk, isCx, onOrCc, ccOrDk, idFails, termsFail, listedFine, parFine, tableFine, Check, checks, refusal, firstFailing, answerTo, answerOf}
 
 -- whether the first check of a number is for the type and fails
 abbrev pub failsFor : ℕ → List Check → Call → Bool
@@ -29,20 +31,32 @@ failsFor n (k ∷ ks) c = cond (eqb n (numberOf (k .reason))) (k .types (typeOf 
 refused : (t : MessageType) (r : Reason) → isAccepted (refusal t r) ≡ false
 refused t r = elim (between 30 38 (numberOf r) && not (isDk t)) as (λ b. isAccepted (cond b (Dked r) (Rejected r)) ≡ false) [ true ↦ refl | false ↦ refl ]
 
-passes : (n : ℕ) (ks : List Check) (c : Call) → isAccepted (answerFrom ks c) ≡ true → failsFor n ks c ≡ false
+pass : (v : Verdict) (c : Call) → isAccepted (answerTo c v) ≡ true → v ≡ Passes
+pass Passes c e = refl
+pass (Fails r) c e = absurd (false≢true (sym (refused (typeOf (c .body)) r) ∙ e))
+
+abbrev isPass : Verdict → Bool
+isPass Passes = true
+isPass (Fails r) = false
+
+fails-passes : {r : Reason} → Fails r ≡ Passes → ⊥
+fails-passes e = false≢true (ap isPass e)
+
+-- where no check of a list fails, the first of any number does not
+pub passes : (n : ℕ) (ks : List Check) (c : Call) → firstFailing ks c ≡ Passes → failsFor n ks c ≡ false
 passes n [] c e = refl
 passes n (k ∷ ks) c e = go (k .types (typeOf (c .body)) && k .fails c) e (passes n ks c)
   where
-    go : (f : Bool) → isAccepted (cond f (refusal (typeOf (c .body)) (k .reason)) (answerFrom ks c)) ≡ true
-        → (isAccepted (answerFrom ks c) ≡ true → failsFor n ks c ≡ false)
+    go : (f : Bool) → cond f (Fails (k .reason)) (firstFailing ks c) ≡ Passes
+        → (firstFailing ks c ≡ Passes → failsFor n ks c ≡ false)
         → cond (eqb n (numberOf (k .reason))) f (failsFor n ks c) ≡ false
-    go true a below = absurd (false≢true (sym (refused (typeOf (c .body)) (k .reason)) ∙ a))
+    go true a below = absurd (fails-passes a)
     go false a below = elim (eqb n (numberOf (k .reason))) as (λ b. cond b false (failsFor n ks c) ≡ false) [ true ↦ refl | false ↦ below a ]
 
 -- a check that an accepted call passed, by its number
 pub passed : (n : ℕ) (c : Call) → isAccepted (answerOf c) ≡ true → failsFor n checks c ≡ false
 unfolding answerOf
-passed n c e = passes n checks c e
+passed n c e = passes n checks c (pass (firstFailing checks c) c e)
 
 -- a check of one type that was passed, for a message of that type
 pub for-type : (type fine : Bool) → (type && not fine) ≡ false → type ≡ true → fine ≡ true

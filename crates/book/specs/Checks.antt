@@ -31,6 +31,8 @@ use Rattle.book.specs.declared.Book.{Book}
 use Rattle.book.specs.declared.Pool.{Pool}
 use Rattle.book.specs.declared.Reason.{Reason}
 use Rattle.book.specs.declared.Reason.the-variants as reason
+use Rattle.book.specs.declared.Verdict.{Verdict}
+use Rattle.book.specs.declared.Verdict.the-variants.{Passes, Fails}
 use Rattle.book.specs.declared.Answer.{Answer}
 use Rattle.book.specs.declared.Answer.the-variants.{Accepted, Rejected, Dked}
 use Rattle.book.specs.Reasons.{numberOf}
@@ -291,11 +293,15 @@ checks =
 abbrev pub refusal : MessageType → Reason → Answer
 refusal t r = cond (between 30 38 (numberOf r) && not (isDk t)) (Dked r) (Rejected r)
 
--- the first failing check decides; where none fails, the message gets the next ID
-abbrev pub answerFrom : List Check → Call → Answer
-answerFrom [] c = Accepted (c .book .values .last + 1)
-answerFrom (k ∷ ks) c =
-    cond (k .types (typeOf (c .body)) && k .fails c) (refusal (typeOf (c .body)) (k .reason)) (answerFrom ks c)
+-- the first check that is for the message's type and fails
+abbrev pub firstFailing : List Check → Call → Verdict
+firstFailing [] c = Passes
+firstFailing (k ∷ ks) c = cond (k .types (typeOf (c .body)) && k .fails c) (Fails (k .reason)) (firstFailing ks c)
+
+-- it decides; where none fails, the message gets the next ID
+abbrev pub answerTo : Call → Verdict → Answer
+answerTo c Passes = Accepted (c .book .values .last + 1)
+answerTo c (Fails r) = refusal (typeOf (c .body)) r
 
 unfoldable pub answerOf : Call → Answer
-answerOf c = answerFrom checks c
+answerOf c = answerTo c (firstFailing checks c)

@@ -99,6 +99,12 @@ pub enum Reason {
     TableFull,
 }
 
+// What a list of checks says: all pass, or the first that fails.
+pub enum Verdict {
+    Passes,
+    Fails(Reason),
+}
+
 // What a frame gets.
 pub enum Answer {
     Accepted(u64),
