@@ -232,27 +232,27 @@ module _ (c : Call) (ok : isAccepted (answerOf c) ≡ true) where
       go (inr e) = ap (λ (ls : List Lot). all (recordFine w) (recordsOf (last + 1) (concerned c) 1 ls)) e
 
 -- ---- the counters of any call
-line-sound : (c : Call) (a : Answer) → soundLine (c .book .line) ≡ true → soundLine (lineOf c a) ≡ true
+line-sound : (c : Call) (a : Answer) → soundLine (c .book .line) ≡ true → soundLine (lineOf (c .book) (c .body) a) ≡ true
 line-sound c a e =
     elim (isSilent a) as (λ b. soundLine (cond b (c .book .line) (lineAfter (c .book .line) (arrived (c .body)))) ≡ true)
     [ true ↦ e | false ↦ stays-sound (c .book .line) (arrived (c .body)) e ]
 
-outbound-fits : (c : Call) (a : Answer) → leb (c .book .values .outbound .0) outboundMax ≡ true → leb (outboundOf c a .0) outboundMax ≡ true
+outbound-fits : (c : Call) (a : Answer) → leb (c .book .values .outbound .0) outboundMax ≡ true → leb (outboundOf (c .book) (c .body) a .0) outboundMax ≡ true
 outbound-fits c a e =
-    elim (isSilent a) as (λ b. leb ((cond b (c .book .values .outbound) (nextOutbound (beforeAa c))) .0) outboundMax ≡ true)
-    [ true ↦ e | false ↦ next-within (beforeAa c) before ]
+    elim (isSilent a) as (λ b. leb ((cond b (c .book .values .outbound) (nextOutbound (beforeAa (c .book) (c .body)))) .0) outboundMax ≡ true)
+    [ true ↦ e | false ↦ next-within (beforeAa (c .book) (c .body)) before ]
   where
-    before : leb (beforeAa c .0) outboundMax ≡ true
+    before : leb (beforeAa (c .book) (c .body) .0) outboundMax ≡ true
     before =
-        elim (gapAt c) as (λ b. leb ((cond b (nextOutbound (c .book .values .outbound)) (c .book .values .outbound)) .0) outboundMax ≡ true)
+        elim (gapAt (c .book) (c .body)) as (λ b. leb ((cond b (nextOutbound (c .book .values .outbound)) (c .book .values .outbound)) .0) outboundMax ≡ true)
         [ true ↦ next-within (c .book .values .outbound) e | false ↦ e ]
 
 -- ---- after a call
 abbrev bookIf : Call → Bool → Book
 bookIf c ok =
     record {
-      values = exchange (c .book .values) (cond ok (tradesMoved c) (c .book .values .trades)) (cond ok (c .book .values .last + 1) (c .book .values .last)) (outboundOf c (answerOf c));
-      line = lineOf c (answerOf c);
+      values = exchange (c .book .values) (cond ok (tradesMoved c) (c .book .values .trades)) (cond ok (c .book .values .last + 1) (c .book .values .last)) (outboundOf (c .book) (c .body) (answerOf c));
+      line = lineOf (c .book) (c .body) (answerOf c);
       live = cond ok (length (liveMoved c)) (c .book .live);
     }
 
@@ -262,7 +262,7 @@ tableIf c ok = cond ok (tableMoved c) (c .table)
 moved-values : (c : Call) → isAccepted (answerOf c) ≡ true → Sound (c .book) (c .table) → valuesFine (bookIf c true .values) ≡ true
 unfolding tradesMoved
 moved-values c ok s =
-    values-stay v (tradesMoved c) (v .last + 1) (outboundOf c (answerOf c)) (s .values) (le-leb (v .last + 1) elevenDigitsMax (omega (arith, spare)))
+    values-stay v (tradesMoved c) (v .last + 1) (outboundOf (c .book) (c .body) (answerOf c)) (s .values) (le-leb (v .last + 1) elevenDigitsMax (omega (arith, spare)))
     (outbound-fits c (answerOf c) (outbound-within v (s .values)))
     (trades-alike (holidaysOf v) (take (v .count) (tradesMoved c)) (tradesOf v)
     (moved-blind (tradeFine (holidaysOf v)) (λ (t : Trade) (cents : ℕ). refl) (v .count) (v .trades) (concerned c) left)
@@ -297,7 +297,7 @@ refused-sound : (c : Call) → Sound (c .book) (c .table) → Sound (bookIf c fa
 refused-sound c s =
     record {
       values =
-          values-stay (c .book .values) (c .book .values .trades) (c .book .values .last) (outboundOf c (answerOf c)) (s .values) (last-within (c .book .values) (s .values))
+          values-stay (c .book .values) (c .book .values .trades) (c .book .values .last) (outboundOf (c .book) (c .body) (answerOf c)) (s .values) (last-within (c .book .values) (s .values))
           (outbound-fits c (answerOf c) (outbound-within (c .book .values) (s .values))) refl;
       tableShort = s .tableShort;
       inbound = line-sound c (answerOf c) (s .inbound);

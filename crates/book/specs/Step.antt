@@ -75,19 +75,19 @@ isGap Duplicate = false
 isGap Expected = false
 isGap Gap = true
 
-abbrev pub gapAt : Call → Bool
-gapAt c = isGap (arrivalOf (c .book .line) (arrived (c .body)))
+abbrev pub gapAt : Book → List ℕ → Bool
+gapAt book body = isGap (arrivalOf (book .line) (arrived body))
 
 -- ---- the counters: after a duplicate the line stays as it is, and after every other number it moves
-abbrev pub lineOf : Call → Answer → Line
-lineOf c a = cond (isSilent a) (c .book .line) (lineAfter (c .book .line) (arrived (c .body)))
+abbrev pub lineOf : Book → List ℕ → Answer → Line
+lineOf book body a = cond (isSilent a) (book .line) (lineAfter (book .line) (arrived body))
 
 -- the outbound number of the AA: one more than the last, or than that of the TX before it
-abbrev pub beforeAa : Call → Outbound
-beforeAa c = cond (gapAt c) (nextOutbound (c .book .values .outbound)) (c .book .values .outbound)
+abbrev pub beforeAa : Book → List ℕ → Outbound
+beforeAa book body = cond (gapAt book body) (nextOutbound (book .values .outbound)) (book .values .outbound)
 
-abbrev pub outboundOf : Call → Answer → Outbound
-outboundOf c a = cond (isSilent a) (c .book .values .outbound) (nextOutbound (beforeAa c))
+abbrev pub outboundOf : Book → List ℕ → Answer → Outbound
+outboundOf book body a = cond (isSilent a) (book .values .outbound) (nextOutbound (beforeAa book body))
 
 -- ---- trades and pools: what an accepted message takes off and brings
 -- a trade with another open par
@@ -143,14 +143,14 @@ valuesAfter c =
       connection = c .book .values .connection;
       limits = c .book .values .limits;
       last = lastAfter c;
-      outbound = outboundOf c (answerOf c);
+      outbound = outboundOf (c .book) (c .body) (answerOf c);
     }
 
 unfoldable pub bookAfter : Call → Book
 bookAfter c =
     record {
       values = valuesAfter c;
-      line = lineOf c (answerOf c);
+      line = lineOf (c .book) (c .body) (answerOf c);
       live = cond (accepted c) (length (liveMoved c)) (c .book .live);
     }
 
@@ -158,29 +158,33 @@ unfoldable pub tableAfter : Call → List Pool
 tableAfter c = cond (accepted c) (tableMoved c) (c .table)
 
 -- ---- what goes out: on a gap a TX first, then the AA; the rest of the output stays
-abbrev pub acknowledged : Call → List ℕ → Acknowledged
-acknowledged c time =
+abbrev pub acknowledged : List ℕ → Answer → List ℕ → Acknowledged
+acknowledged body a time =
     record {
-      internal = bytesIn (c .body) columns.internalId;
-      message = idOf (answerOf c);
-      code = codeOf (answerOf c);
+      internal = bytesIn body columns.internalId;
+      message = idOf a;
+      code = codeOf a;
       time = time;
-      original = bytesIn (c .body) columns.sequence;
+      original = bytesIn body columns.sequence;
     }
 
-abbrev pub withTx : Call → List ℕ → List ℕ
-withTx c out =
-    cond (gapAt c)
-    (pasted out 0 (txBytes (nextOutbound (c .book .values .outbound)) (c .book .values .subscriber) (c .book .values .connection) (c .book .line .expected) (arrived (c .body))))
+abbrev pub withTx : Book → List ℕ → List ℕ → List ℕ
+withTx book body out =
+    cond (gapAt book body)
+    (pasted out 0 (txBytes (nextOutbound (book .values .outbound)) (book .values .subscriber) (book .values .connection) (book .line .expected) (arrived body)))
     out
 
-abbrev pub aaAt : Call → ℕ
-aaAt c = cond (gapAt c) txLength 0
+abbrev pub aaAt : Book → List ℕ → ℕ
+aaAt book body = cond (gapAt book body) txLength 0
+
+-- the output after an answer
+unfoldable pub outputFor : Book → List ℕ → Answer → List ℕ → List ℕ → List ℕ
+outputFor book body a time out =
+    cond (isSilent a) out
+    (pasted (withTx book body out) (aaAt book body) (aaBytes (nextOutbound (beforeAa book body)) (book .values .subscriber) (book .values .connection) (acknowledged body a time)))
 
 unfoldable pub outputAfter : Call → List ℕ → List ℕ → List ℕ
-outputAfter c time out =
-    cond (isSilent (answerOf c)) out
-    (pasted (withTx c out) (aaAt c) (aaBytes (nextOutbound (beforeAa c)) (c .book .values .subscriber) (c .book .values .connection) (acknowledged c time)))
+outputAfter c time out = outputFor (c .book) (c .body) (answerOf c) time out
 
 -- ---- the tally: silent refusals are not in it
 abbrev pub outcomeOf : Answer → Outcome
