@@ -1,0 +1,98 @@
+-- Numbers 38 and 40: what a trade's open par holds, and what a table holds.
+use Prim.Native.Nat.{ℕ, _+_, _-_, _≤_, _<_}
+use native.Mathlib.Omega.{arith}
+use mathlib.Core.Path.{_≡_, refl, sym, ap, _∙_}
+use mathlib.Core.List.{List}
+use mathlib.Core.Bool.{Bool, true, false, cond, not, _&&_}
+use lib.ListN.{length, take, getD, length-take}
+use lib.Dec.{eqb, leb, ltb}
+use native.Mathlib.Decide.{decLt}
+use lib.Seq.{getD-take, length-take-le}
+use borrow.Author.Tests.{eq-eqb, ne-eqb, le-leb, lt-leb, lt-ltb, le-ltb}
+use Rattle.lists.specs.Lists.{keep, tab}
+use Rattle.lists.proofs.Folds.{fold, fold-count}
+use Rattle.lists.proofs.Tables.{length-tab}
+use Rattle.layout.specs.declared.Detail.{Detail}
+use Rattle.layout.specs.Details.{poolsMax, details, poolCount, detailAt, placeOf}
+use Rattle.layout.proofs.Lengths.{count-max}
+use Rattle.terminator.specs.Terminators.{one, isCanceled, digitCanceled}
+use Rattle.faces.specs.Faces.{isNew, newPools}
+use Rattle.book.specs.declared.Trade.{Trade}
+use Rattle.book.specs.Checks.{noTrade, tradeAt}
+use Rattle.book.proofs.ListLaws.{length-keep}
+
+-- ---- new pools are counted one after another
+abbrev pub addNew : ℕ → Detail → ℕ
+addNew n d = cond (isNew d) (n + 1) n
+
+pub new-more : (n : ℕ) (d : Detail) → (one d ≡ digitCanceled → ⊥) → n + 1 ≡ addNew n d
+new-more n d h = rw (ne-eqb (one d) digitCanceled h)
+
+pub new-same : (n : ℕ) (d : Detail) → one d ≡ digitCanceled → n ≡ addNew n d
+new-same n d e = rw (eq-eqb (one d) digitCanceled e)
+
+pub new-pass : (ds : List Detail) → fold addNew 0 ds ≡ length (newPools ds)
+new-pass ds = omega (arith, fold-count isNew 0 ds)
+
+-- ---- 40
+pub pools-few : (body : List ℕ) (n : ℕ) → n ≡ poolCount body → n ≤ poolsMax
+pools-few body n e = omega (arith, count-max body)
+
+pub canceled-rest : (body : List ℕ) (n new : ℕ) → n ≡ poolCount body → new ≡ length (newPools (details body))
+    → (new ≤ n) × (n - new ≡ length (keep isCanceled (details body)))
+unfolding details
+canceled-rest body n new en ew =
+    let e : length (newPools (details body)) + length (keep isCanceled (details body)) ≡ length (details body) = length-keep isCanceled (details body) in
+    let f : length (details body) ≡ poolCount body = length-tab (λ (i : ℕ). detailAt body (placeOf i)) (poolCount body) 0 in
+    (omega arith, omega arith)
+
+pub fits-cc : (body : List ℕ) (cc : Bool) (live rows n new : ℕ) → n ≡ poolCount body → new ≡ length (newPools (details body)) → cc ≡ true
+    → leb (live + new) (rows + (n - new)) ≡ leb (live + length (newPools (details body))) (rows + cond cc (length (keep isCanceled (details body))) 0)
+fits-cc body cc live rows n new en ew e = rw (e, sym (canceled-rest body n new en ew .1), ew)
+
+pub fits-on : (body : List ℕ) (cc : Bool) (live rows new : ℕ) → new ≡ length (newPools (details body)) → cc ≡ false
+    → leb (live + new) rows ≡ leb (live + length (newPools (details body))) (rows + cond cc (length (keep isCanceled (details body))) 0)
+fits-on body cc live rows new ew e = rw (e, ew, add-nothing rows)
+  where
+    add-nothing : (n : ℕ) → n + 0 ≡ n
+    add-nothing n = omega arith
+
+-- ---- 38
+module _ (trades : List Trade) (count trade off brought : ℕ) where
+  abbrev Fits : Bool → Type 0
+  Fits b = b ≡ (ltb trade (length (take count trades)) && leb brought (tradeAt (take count trades) trade .left + off))
+
+  out : length (take count trades) ≤ trade → Fits false
+  out h = rw (le-ltb trade (length (take count trades)) h)
+
+  pub past-count : count ≤ trade → Fits false
+  past-count h =
+      let e : length (take count trades) ≤ trade = rw length-take (omega arith) in
+      out e
+
+  pub past-all : length trades ≤ trade → Fits false
+  past-all h =
+      let e : length (take count trades) ≤ trade = rw length-take (omega arith) in
+      out e
+
+  module _ (h : trade < count) (g : trade < length trades) where
+    inside : ltb trade (length (take count trades)) ≡ true
+    inside =
+        let e : trade < length (take count trades) = rw length-take (omega arith) in
+        lt-ltb trade (length (take count trades)) e
+
+    there : tradeAt (take count trades) trade ≡ getD trades trade noTrade
+    there = getD-take count trades trade noTrade h
+
+    pub covered : brought ≤ off → Fits true
+    covered k = rw (inside, le-leb brought (tradeAt (take count trades) trade .left + off) (omega arith))
+
+    pub weighed : (off < brought) → Fits (leb (brought - off) (getD trades trade noTrade .left))
+    weighed k = rw (inside, there) (shift (getD trades trade noTrade .left))
+      where
+        shift : (l : ℕ) → leb (brought - off) l ≡ leb brought (l + off)
+        shift l = go (decLt (l + off) brought)
+          where
+            go : Dec (l + off < brought) → leb (brought - off) l ≡ leb brought (l + off)
+            go (yes y) = rw (lt-leb brought (l + off) y, lt-leb (brought - off) l (omega arith))
+            go (no n) = rw (le-leb brought (l + off) (omega (arith, n)), le-leb (brought - off) l (omega (arith, n)))
