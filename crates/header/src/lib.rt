@@ -25,6 +25,7 @@ ghost use Rattle.header.specs.Sides.{isSide};
 // The highest sequence number that 11 lets through.
 const SEQUENCE_MAX: u64 = 999998;
 
+// The lesser of two numbers.
 pub fn lesser(a: usize, b: usize) -> usize
     ensures { λ r. ⌜ r ≡ min a b ⌝ }
 {
@@ -77,7 +78,8 @@ pub fn length_fits(body: &[u8]) -> bool
     1 <= layout::pool_count(body)
 }
 
-fn over(most: u64, f: Field) -> bool
+// Whether a field is not digits, or over the most.
+pub fn over(most: u64, f: Field) -> bool
     ensures { λ r. ⌜ r ≡ notNumber (λ n. leb n most) f ⌝ }
 {
     match f {
