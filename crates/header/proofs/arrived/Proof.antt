@@ -1,0 +1,24 @@
+-- Six digits fit 32 bits.
+use mathlib.Core.Path.{ap, _∙_}
+use native.Mathlib.Omega.{arith}
+use Rattle.terminator.specs.Lots.{valueOf}
+use Rattle.sequence.specs.Sequence.{inbound}
+use Rattle.header.proofs.Numbers.{six-digits}
+use borrow.Author.Needs.{needs}
+use Rattle.header.proofs.arrived.Statement.{statement}
+use Rattle.header.proofs.arrived.Tie as tie
+
+number-in-requires : tie.Need-number-in-requires
+number-in-requires c κs = search needs
+
+value-of-requires : tie.Need-value-of-requires
+value-of-requires c κs = search needs
+
+cast-t5 : tie.Need-cast-t5
+cast-t5 c = omega (arith, c .value-of .ensures ∙ ap valueOf (c .before .number-in .ensures), six-digits (c .before .before .before .args .body .now) 2)
+
+returns : tie.Need-returns
+returns c = ap inbound (c .value-of .ensures ∙ ap valueOf (c .before .number-in .ensures))
+
+pub arrived-spec : {M : Type 1} → statement M
+arrived-spec = tie.close (tie.spec number-in-requires value-of-requires cast-t5 returns)
