@@ -1,0 +1,82 @@
+-- Terms agree: the two that are numbers are looked at first, and a trade past the end agrees with no message.
+use mathlib.Core.Path.{_≡_, refl, sym, ap, _∙_}
+use mathlib.Core.List.{List, []}
+use mathlib.Core.Bool.{Bool, true, false, not, _&&_, and-false, and-true}
+use Prim.Native.Nat.{ℕ, _+_, _≤_, _<_}
+use native.Mathlib.Omega.{arith}
+use lib.ListN.{length}
+use lib.Dec.{leb}
+use borrow.Author.Tests.{leb-true, leb-false, not-true, not-false}
+use Rattle.lists.specs.Lists.{within, part, same}
+use Rattle.lists.proofs.Parts.{out-past, out-short, length-part}
+use Rattle.fields.specs.declared.Field.the-variants.{NotDigits}
+use Rattle.fields.specs.Fields.{readNumber}
+use Rattle.layout.specs.Columns as columns
+use Rattle.layout.specs.Columns.{bytesIn, numberIn}
+use Rattle.tally.specs.declared.MessageType.{MessageType}
+use Rattle.tally.specs.declared.MessageType.the-variants.{On, Cc, Dk, Cx, Other}
+use Rattle.book.specs.declared.Trade.{Trade}
+use Rattle.book.specs.Messages.{typeOf}
+use Rattle.book.specs.Trades.{sideOf, isNumber, priceIs, agrees}
+use Rattle.book.specs.Checks.{noTrade}
+use Rattle.opening.proofs.Names.{same-unlike}
+use Rattle.terms.specs.declared.Stated.{Stated}
+use Rattle.terms.specs.Reading.{statedOf}
+
+-- five tests, of which the last two are looked at first
+last-fail : (x y z a b : Bool) → (a && b) ≡ false → false ≡ (x && (y && (z && (a && b))))
+last-fail x y z a b e = rw (e, and-false z, and-false y, and-false x)
+
+last-pass : (x y z a b : Bool) → (a && b) ≡ true → (x && (y && z)) ≡ (x && (y && (z && (a && b))))
+last-pass x y z a b e = rw (e, and-true z)
+
+module _ (body : List ℕ) (s : Stated) (is : s ≡ statedOf body) (t : Trade) (a b : Bool)
+    (date : a ≡ isNumber (s .settlement) (t .settlement)) (price : b ≡ priceIs (s .price) (t .price)) where
+  date-is : a ≡ isNumber (numberIn body columns.settlement) (t .settlement)
+  date-is = date ∙ ap (λ (r : Stated). isNumber (r .settlement) (t .settlement)) is
+
+  price-is : b ≡ priceIs (numberIn body columns.price) (t .price)
+  price-is = price ∙ ap (λ (r : Stated). priceIs (r .price) (t .price)) is
+
+  pub numbers-unlike : not (a && b) ≡ true → false ≡ agrees body t
+  unfolding agrees
+  numbers-unlike n =
+      rw (← date-is, ← price-is)
+      (last-fail (same (bytesIn body columns.submitter) (sideOf (typeOf body) t)) (same (bytesIn body columns.contra) (t .contra)) (same (bytesIn body columns.cusip) (t .cusip)) a b (not-true (a && b) n))
+
+  pub numbers-alike : not (a && b) ≡ false → (x y z : Bool) → x ≡ same (bytesIn body columns.submitter) (sideOf (s .message) t)
+      → y ≡ same (bytesIn body columns.contra) (t .contra) → z ≡ same (bytesIn body columns.cusip) (t .cusip) → (x && (y && z)) ≡ agrees body t
+  unfolding agrees
+  numbers-alike n x y z p q r =
+      let p′ : x ≡ same (bytesIn body columns.submitter) (sideOf (typeOf body) t) = p ∙ ap (λ (u : Stated). same (bytesIn body columns.submitter) (sideOf (u .message) t)) is in
+      rw (← date-is, ← price-is, ← p′, ← q, ← r) (last-pass x y z a b (not-false (a && b) n))
+
+-- ---- a trade past the end has no bytes: a body that is long enough for a settlement has a submitter
+side-none : (m : MessageType) → sideOf m noTrade ≡ []
+side-none On = refl
+side-none Cc = refl
+side-none Dk = refl
+side-none Cx = refl
+side-none Other = refl
+
+no-date : (body : List ℕ) → length body < 90 → numberIn body columns.settlement ≡ NotDigits
+unfolding readNumber
+no-date body h = go (leb 82 (length body)) refl
+  where
+    go : (b : Bool) → leb 82 (length body) ≡ b → numberIn body columns.settlement ≡ NotDigits
+    go true p = rw (out-short body 82 8 (omega (arith, leb-true 82 (length body) p)))
+    go false p = rw (out-past body 82 8 (leb-false 82 (length body) p))
+
+pub agrees-none : (body : List ℕ) → agrees body noTrade ≡ false
+unfolding agrees
+agrees-none body = go (leb 90 (length body)) refl
+  where
+    go : (b : Bool) → leb 90 (length body) ≡ b → agrees body noTrade ≡ false
+    go true p =
+        let h = leb-true 90 (length body) p in
+        let l : length (part body 19 4) ≡ 4 = length-part body 19 4 (omega arith) in
+        let u : same (part body 19 4) [] ≡ false = sym (same-unlike (part body 19 4) [] (λ k. let z : 4 ≡ 0 = sym l ∙ k in omega arith)) in
+        rw (side-none (typeOf body), u)
+    go false p =
+        let d : numberIn body columns.settlement ≡ NotDigits = no-date body (leb-false 90 (length body) p) in
+        rw d (sym (last-fail (same (bytesIn body columns.submitter) (sideOf (typeOf body) noTrade)) (same (bytesIn body columns.contra) []) (same (bytesIn body columns.cusip) []) false (priceIs (numberIn body columns.price) 0) refl))

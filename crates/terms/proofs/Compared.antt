@@ -1,0 +1,54 @@
+-- Parts of a body against whole lists: a part that is cut short by the body's end is shorter than the list it is compared with, so unlike it.
+use mathlib.Core.Path.{_≡_, refl, sym, ap, _∙_}
+use mathlib.Core.List.{List, [], _∷_}
+use mathlib.Core.Bool.{Bool, true, false}
+use Prim.Native.Nat.{ℕ, zero, suc, _+_, _-_, _≤_, _<_}
+use native.Mathlib.Nat.{sub-zero, zero-sub, suc-sub-suc}
+use native.Mathlib.Omega.{arith}
+use lib.ListN.{length, take, drop, length-take, length-drop}
+use lib.Seq.{take-all, take-nil, take-take, drop-drop}
+use Rattle.lists.specs.Lists.{within, part, same}
+use Rattle.lists.proofs.Parts.{in-within}
+use Rattle.lists.proofs.Tests.{clash}
+use Rattle.fields.specs.Fields.{samePart}
+use Rattle.opening.proofs.Names.{same-unlike}
+
+-- how long a part is, also where the list ends before it does
+pub part-length : (s : List ℕ) (at n : ℕ) → n ≤ length (part s at n) → 1 ≤ n → at + n ≤ length s
+unfolding part
+part-length s at n h k = omega (arith, length-take n (drop at s), length-drop at s)
+
+pub part-most : (s : List ℕ) (at n : ℕ) → length (part s at n) ≤ n
+unfolding part
+part-most s at n = omega (arith, length-take n (drop at s))
+
+pub part-end : (s : List ℕ) (at n k : ℕ) → k < length (part s at n) → at + k < length s
+unfolding part
+part-end s at n k h = omega (arith, length-take n (drop at s), length-drop at s)
+
+part-whole : (s : List ℕ) (n : ℕ) → length s ≡ n → part s 0 n ≡ s
+unfolding part
+part-whole s n e = take-all n s (omega arith)
+
+pub same-column : (body : List ℕ) (at width : ℕ) (bytes : List ℕ) → 1 ≤ width → length bytes ≡ width → samePart body at bytes 0 width ≡ same (part body at width) bytes
+unfolding samePart
+same-column body at width bytes some e = go (within body at width) refl
+  where
+    go : (b : Bool) → within body at width ≡ b → samePart body at bytes 0 width ≡ same (part body at width) bytes
+    go true p = rw (p, in-within bytes 0 width (omega arith) (omega arith), part-whole bytes width e)
+    go false p =
+        rw p
+        (same-unlike (part body at width) bytes
+        (λ l. let h : at + width ≤ length body = part-length body at width (omega arith) some in clash (in-within body at width (omega arith) (omega arith)) p))
+
+drop-take : (p n : ℕ) (s : List ℕ) → drop p (take n s) ≡ take (n - p) (drop p s)
+drop-take zero n s = rw (sub-zero n)
+drop-take (suc p) zero s = rw (zero-sub (suc p))
+drop-take (suc p) (suc n) [] = sym (take-nil (suc n - suc p))
+drop-take (suc p) (suc n) (x ∷ xs) = drop-take p n xs ∙ ap (λ (k : ℕ). take k (drop p xs)) (sym (suc-sub-suc n p))
+
+-- a part of a part is a part
+pub part-part : (s : List ℕ) (at width place n : ℕ) → place + n ≤ width → part (part s at width) place n ≡ part s (at + place) n
+unfolding part
+part-part s at width place n h =
+    ap (take n) (drop-take place width (drop at s)) ∙ take-take n (width - place) (drop place (drop at s)) (omega arith) ∙ ap (take n) (drop-drop place at s)

@@ -1,0 +1,4 @@
+pub mod Compared
+pub mod Named
+pub mod Agreeing
+pub mod Searching

@@ -1,0 +1,70 @@
+use borrow.Author.Needs.{needs}
+use Rattle.terms.proofs.some_agrees.Statement.{statement}
+use Rattle.terms.proofs.some_agrees.Tie as tie
+use Rattle.terms.proofs.some_agrees.Reads as reads
+use Rattle.terms.proofs.some_agrees.Lts as lts
+use Rattle.terms.proofs.agrees_as.Reads as agrees-as-reads
+use Rattle.terms.proofs.lesser.Reads as lesser-reads
+
+abbrev Inv-loop : tie.InvT-loop
+Inv-loop body s v n i₀ i = ?
+
+abbrev μ-loop : tie.MeasureT-loop
+μ-loop body s v n i₀ i = ?
+
+-- src/lib.rt:171:9
+lesser-requires : tie.Need-lesser-requires Inv-loop μ-loop
+lesser-requires c κs = search needs
+
+-- src/lib.rt:173:5
+loop-holds : tie.Need-loop-holds Inv-loop μ-loop
+loop-holds c = search needs
+
+-- src/lib.rt:174:17
+mul-t : tie.Need-mul-t Inv-loop μ-loop
+mul-t c = search needs
+
+-- src/lib.rt:174:17
+element-copy-out-t : tie.Need-element-copy-out-t Inv-loop μ-loop
+element-copy-out-t c = search needs
+
+-- src/lib.rt:175:9
+add-i : tie.Need-add-i Inv-loop μ-loop
+add-i c = search needs
+
+-- src/lib.rt:176:12
+agrees-as-requires : tie.Need-agrees-as-requires Inv-loop μ-loop
+agrees-as-requires c κs = search needs
+
+-- src/lib.rt:177:13
+returns : tie.Need-returns Inv-loop μ-loop
+returns c = search needs
+
+-- src/lib.rt:173:5
+loop-less : tie.Need-loop-less Inv-loop μ-loop
+loop-less c = search needs
+
+-- src/lib.rt:173:5
+loop-again : tie.Need-loop-again Inv-loop μ-loop
+loop-again c = search needs
+
+-- src/lib.rt:167:1
+returns-2 : tie.Need-returns-2 Inv-loop μ-loop
+returns-2 c = search needs
+
+pub some-agrees-spec : {M : Type 1} → statement M
+some-agrees-spec =
+    tie.close
+    (tie.spec
+    Inv-loop
+    μ-loop
+    lesser-requires
+    loop-holds
+    mul-t
+    element-copy-out-t
+    add-i
+    agrees-as-requires
+    returns
+    loop-less
+    loop-again
+    returns-2)
