@@ -13,11 +13,7 @@ use Rattle.lists.proofs.Tests.{clash}
 use Rattle.fields.specs.Fields.{samePart}
 use Rattle.opening.proofs.Names.{same-unlike}
 
--- how long a part is, also where the list ends before it does
-pub part-length : (s : List ℕ) (at n : ℕ) → n ≤ length (part s at n) → 1 ≤ n → at + n ≤ length s
-unfolding part
-part-length s at n h k = omega (arith, length-take n (drop at s), length-drop at s)
-
+-- a part has no more than asked for, and ends where the list does
 pub part-most : (s : List ℕ) (at n : ℕ) → length (part s at n) ≤ n
 unfolding part
 part-most s at n = omega (arith, length-take n (drop at s))
@@ -25,21 +21,6 @@ part-most s at n = omega (arith, length-take n (drop at s))
 pub part-end : (s : List ℕ) (at n k : ℕ) → k < length (part s at n) → at + k < length s
 unfolding part
 part-end s at n k h = omega (arith, length-take n (drop at s), length-drop at s)
-
-part-whole : (s : List ℕ) (n : ℕ) → length s ≡ n → part s 0 n ≡ s
-unfolding part
-part-whole s n e = take-all n s (omega arith)
-
-pub same-column : (body : List ℕ) (at width : ℕ) (bytes : List ℕ) → 1 ≤ width → length bytes ≡ width → samePart body at bytes 0 width ≡ same (part body at width) bytes
-unfolding samePart
-same-column body at width bytes some e = go (within body at width) refl
-  where
-    go : (b : Bool) → within body at width ≡ b → samePart body at bytes 0 width ≡ same (part body at width) bytes
-    go true p = rw (p, in-within bytes 0 width (omega arith) (omega arith), part-whole bytes width e)
-    go false p =
-        rw p
-        (same-unlike (part body at width) bytes
-        (λ l. let h : at + width ≤ length body = part-length body at width (omega arith) some in clash (in-within body at width (omega arith) (omega arith)) p))
 
 drop-take : (p n : ℕ) (s : List ℕ) → drop p (take n s) ≡ take (n - p) (drop p s)
 drop-take zero n s = rw (sub-zero n)

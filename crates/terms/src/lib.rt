@@ -2,20 +2,28 @@
 use book::Trade;
 use book::Values;
 use fields::Field;
-use layout::Column;
 use tally::MessageType;
 use trade_id::TradeId;
 ghost use mathlib.Core.Path.{_≡_};
 ghost use mathlib.Core.Bool.{_&&_};
-ghost use Prim.Native.Nat.{ℕ, min, _≤_};
-ghost use lib.ListN.{length};
+ghost use Prim.Native.Nat.{ℕ};
 ghost use lib.Dec.{leb};
-ghost use Rattle.lists.specs.Lists.{any, same};
-ghost use Rattle.layout.specs.Columns.{bytesIn};
+ghost use Rattle.lists.specs.Lists.{any};
 ghost use Rattle.trade_id.specs.declared.TradeId.the-variants.{Whole};
-ghost use Rattle.book.specs.Messages.{idIn, isStipulated};
-ghost use Rattle.book.specs.Trades.{tradesOf, sideOf, isNumber, priceIs, agrees, isNamedBy, firstTrade, openPars};
-ghost use Rattle.book.specs.Checks.{isOn};
+ghost use Rattle.book.specs.Messages.{idIn};
+ghost use Rattle.book.specs.Trades.{
+  tradesOf,
+  sideOf,
+  isNumber,
+  priceIs,
+  agrees,
+  isNamedBy,
+  firstTrade,
+  broughtWeight,
+  tradeOfOn,
+  openPars,
+};
+ghost use Rattle.book.specs.Checks.{isOn, namedTrade, termsFail};
 ghost use Rattle.terms.specs.Reading.{statedOf, isBroken};
 
 // The most characters of a trade's ID.
@@ -26,15 +34,6 @@ struct Stated {
     message: MessageType,
     settlement: Field,
     price: Field,
-}
-
-fn lesser(a: usize, b: usize) -> usize
-    ensures { λ r. ⌜ r ≡ min a b ⌝ }
-{
-    if a < b {
-        return a;
-    }
-    b
 }
 
 fn is_on(message: MessageType) -> bool
@@ -90,12 +89,14 @@ fn side_of(message: MessageType, t: Trade) -> [u8; 4]
     }
 }
 
-// Whether a column holds just these bytes.
-fn column_is(body: &[u8], column: Column, bytes: &[u8]) -> bool
-    requires { ⌜ (1 ≤ column .width) × (length (now bytes) ≡ column .width) ⌝ }
-    ensures { λ r. ⌜ r ≡ same (bytesIn (now (body .entry)) column) (now (bytes .entry)) ⌝ }
+fn stated(body: &[u8]) -> Stated
+    ensures { λ r. ⌜ r ≡ statedOf (now (body .entry)) ⌝ }
 {
-    fields::same_part(body, column.at, bytes, 0, column.width)
+    Stated {
+        message: header::message_type(body),
+        settlement: layout::number_in(body, layout::SETTLEMENT),
+        price: layout::number_in(body, layout::PRICE),
+    }
 }
 
 // Whether a message's terms agree with a trade's, by what it states.
@@ -112,8 +113,16 @@ fn agrees_as(body: &[u8], s: Stated, t: Trade) -> bool
     let side = side_of(message, t);
     let contra = t.contra;
     let cusip = t.cusip;
-    column_is(body, layout::SUBMITTER, &side)
-        & (column_is(body, layout::CONTRA, &contra) & column_is(body, layout::CUSIP, &cusip))
+    let submitted = fields::same_part(
+        body,
+        layout::SUBMITTER.at,
+        &side,
+        0,
+        layout::SUBMITTER.width,
+    );
+    let addressed = fields::same_part(body, layout::CONTRA.at, &contra, 0, layout::CONTRA.width);
+    submitted
+        & (addressed & fields::same_part(body, layout::CUSIP.at, &cusip, 0, layout::CUSIP.width))
 }
 
 // Whether a whole ID in special instructions is a trade's.
@@ -122,7 +131,7 @@ fn is_named_by(body: &[u8], place: usize, length: usize, t: Trade) -> bool
     ensures { λ r. ⌜ r ≡ isNamedBy (now (body .entry)) (Whole place length) t ⌝ }
 {
     let id = t.id;
-    let n = lesser(t.length, ID_MAX);
+    let n = header::lesser(t.length, ID_MAX);
     if n != length {
         return false;
     }
@@ -134,7 +143,7 @@ fn find_named(body: &[u8], v: Values, place: usize, length: usize) -> usize
     requires { ⌜ idIn (now body) ≡ Whole place length ⌝ }
     ensures { λ r. ⌜ r ≡ firstTrade (λ (t : Trade) (left : ℕ). isNamedBy (now (body .entry)) (Whole place length) t) 0 (tradesOf v) (openPars (tradesOf v)) ⌝ }
 {
-    let n = lesser(v.count, book::TRADES_MAX);
+    let n = header::lesser(v.count, book::TRADES_MAX);
     let mut i: usize = 0;
     while i < n {
         let t = v.trades[i];
@@ -151,7 +160,7 @@ fn find_holding(body: &[u8], s: Stated, v: Values, weight: u64) -> usize
     requires { ⌜ s ≡ statedOf (now body) ⌝ }
     ensures { λ r. ⌜ r ≡ firstTrade (λ (t : Trade) (left : ℕ). agrees (now (body .entry)) t && leb weight left) 0 (tradesOf v) (openPars (tradesOf v)) ⌝ }
 {
-    let n = lesser(v.count, book::TRADES_MAX);
+    let n = header::lesser(v.count, book::TRADES_MAX);
     let mut i: usize = 0;
     while i < n {
         let t = v.trades[i];
@@ -168,7 +177,7 @@ fn some_agrees(body: &[u8], s: Stated, v: Values) -> bool
     requires { ⌜ s ≡ statedOf (now body) ⌝ }
     ensures { λ r. ⌜ r ≡ any (agrees (now (body .entry))) (tradesOf v) ⌝ }
 {
-    let n = lesser(v.count, book::TRADES_MAX);
+    let n = header::lesser(v.count, book::TRADES_MAX);
     let mut i: usize = 0;
     while i < n {
         let t = v.trades[i];
@@ -180,9 +189,68 @@ fn some_agrees(body: &[u8], s: Stated, v: Values) -> bool
     false
 }
 
-// Whether the contra is FSTI.
-fn is_stipulated(body: &[u8]) -> bool
-    ensures { λ r. ⌜ r ≡ isStipulated (now (body .entry)) ⌝ }
+// Whether a message's terms agree with a trade's.
+pub fn agrees(body: &[u8], t: Trade) -> bool
+    ensures { λ r. ⌜ r ≡ agrees (now (body .entry)) t ⌝ }
 {
-    column_is(body, layout::CONTRA, b"FSTI")
+    let s = stated(body);
+    agrees_as(body, s, t)
+}
+
+// The trade that a whole ID names, by index, or the number of trades.
+pub fn named_trade(body: &[u8], v: Values) -> usize
+    ensures { λ r. ⌜ r ≡ namedTrade (now (body .entry)) (tradesOf v) ⌝ }
+{
+    let id = header::trade_id_in(body);
+    let TradeId::Whole { place, length } = id else {
+        return header::lesser(v.count, book::TRADES_MAX);
+    };
+    find_named(body, v, place, length)
+}
+
+// What a message's new lots weigh: an ON's and a CC's.
+pub fn brought_weight(body: &[u8]) -> u64
+    ensures { λ r. ⌜ r ≡ broughtWeight (now (body .entry)) ⌝ }
+{
+    let message = header::message_type(body);
+    match message {
+        MessageType::On => faces::new_weight(body),
+        MessageType::Cc => faces::new_weight(body),
+        MessageType::Dk => 0,
+        MessageType::Cx => 0,
+        MessageType::Other => 0,
+    }
+}
+
+// The trade that an ON goes to, by index, or the number of trades.
+pub fn trade_of_on(body: &[u8], v: Values) -> usize
+    ensures { λ r. ⌜ r ≡ tradeOfOn (now (body .entry)) (tradesOf v) (openPars (tradesOf v)) ⌝ }
+{
+    let id = header::trade_id_in(body);
+    match id {
+        TradeId::Whole { place, length } => find_named(body, v, place, length),
+        TradeId::Broken => header::lesser(v.count, book::TRADES_MAX),
+        TradeId::Absent => find_holding(body, stated(body), v, brought_weight(body)),
+    }
+}
+
+// 32: without a trade ID, no trade's terms agree with an ON's, or the target's with a CC's or DK's.
+pub fn terms_fail(body: &[u8], v: Values, target: usize) -> bool
+    ensures { λ r. ⌜ r ≡ termsFail (now (body .entry)) (tradesOf v) target (idIn (now (body .entry))) ⌝ }
+{
+    let id = header::trade_id_in(body);
+    let TradeId::Absent = id else {
+        return false;
+    };
+    let s = stated(body);
+    let message = s.message;
+    if is_on(message) {
+        return !some_agrees(body, s, v);
+    }
+    let n = header::lesser(v.count, book::TRADES_MAX);
+    if n <= target {
+        return true;
+    }
+    let t = v.trades[target];
+    !agrees_as(body, s, t)
 }
