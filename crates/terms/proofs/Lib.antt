@@ -2,3 +2,5 @@ pub mod Compared
 pub mod Named
 pub mod Agreeing
 pub mod Searching
+pub mod Weights
+pub mod Deciding

@@ -89,7 +89,7 @@ fn side_of(message: MessageType, t: Trade) -> [u8; 4]
     }
 }
 
-fn stated(body: &[u8]) -> Stated
+fn read_terms(body: &[u8]) -> Stated
     ensures { λ r. ⌜ r ≡ statedOf (now (body .entry)) ⌝ }
 {
     Stated {
@@ -193,7 +193,7 @@ fn some_agrees(body: &[u8], s: Stated, v: Values) -> bool
 pub fn agrees(body: &[u8], t: Trade) -> bool
     ensures { λ r. ⌜ r ≡ agrees (now (body .entry)) t ⌝ }
 {
-    let s = stated(body);
+    let s = read_terms(body);
     agrees_as(body, s, t)
 }
 
@@ -230,7 +230,7 @@ pub fn trade_of_on(body: &[u8], v: Values) -> usize
     match id {
         TradeId::Whole { place, length } => find_named(body, v, place, length),
         TradeId::Broken => header::lesser(v.count, book::TRADES_MAX),
-        TradeId::Absent => find_holding(body, stated(body), v, brought_weight(body)),
+        TradeId::Absent => find_holding(body, read_terms(body), v, brought_weight(body)),
     }
 }
 
@@ -242,7 +242,7 @@ pub fn terms_fail(body: &[u8], v: Values, target: usize) -> bool
     let TradeId::Absent = id else {
         return false;
     };
-    let s = stated(body);
+    let s = read_terms(body);
     let message = s.message;
     if is_on(message) {
         return !some_agrees(body, s, v);

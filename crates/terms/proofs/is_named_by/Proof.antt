@@ -8,7 +8,7 @@ use Rattle.terms.proofs.is_named_by.Tie as tie
 use Rattle.terms.proofs.is_named_by.Reads as reads
 use Rattle.terms.proofs.is_named_by.Lts as lts
 use Rattle.fields.proofs.same_part.Reads as same-part-reads
-use Rattle.terms.proofs.lesser.Reads as lesser-reads
+
 
 -- src/lib.rt:125:9
 sixteen : (c : tie.Start) → length (c .args .t .id) ≡ 16
