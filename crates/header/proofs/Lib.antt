@@ -1,3 +1,4 @@
 pub mod Parts
 pub mod Types
 pub mod Numbers
+pub mod Joined

@@ -25,6 +25,7 @@ ghost use Rattle.header.specs.Sides.{isSide};
 // The highest sequence number that 11 lets through.
 const SEQUENCE_MAX: u64 = 999998;
 
+// The lesser of two numbers.
 pub fn lesser(a: usize, b: usize) -> usize
     ensures { λ r. ⌜ r ≡ min a b ⌝ }
 {
@@ -77,7 +78,8 @@ pub fn length_fits(body: &[u8]) -> bool
     1 <= layout::pool_count(body)
 }
 
-fn over(most: u64, f: Field) -> bool
+// Whether a field is not digits, or over the most.
+pub fn over(most: u64, f: Field) -> bool
     ensures { λ r. ⌜ r ≡ notNumber (λ n. leb n most) f ⌝ }
 {
     match f {
@@ -108,4 +110,72 @@ pub fn arrived(body: &[u8]) -> Inbound
 {
     let n = value_of(layout::number_in(body, layout::SEQUENCE));
     Inbound(n as u32)
+}
+
+// 14: version 002.
+pub fn version_fine(body: &[u8]) -> bool
+    ensures { λ r. ⌜ r ≡ same (bytesIn (now (body .entry)) columns.version) (48 ∷ 48 ∷ 50 ∷ []) ⌝ }
+{
+    column_is(body, layout::VERSION, b"002")
+}
+
+fn blank_in(body: &[u8], column: Column) -> bool
+    ensures { λ r. ⌜ r ≡ blankIn (now (body .entry)) column ⌝ }
+{
+    fields::all_blank(body, column.at, column.width)
+}
+
+// 15: blank fillers, and Pos Dup "X" or blank.
+pub fn fillers_fine(body: &[u8]) -> bool
+    ensures { λ r. ⌜ r ≡ fillersFine (now (body .entry)) ⌝ }
+{
+    let fillers = blank_in(body, layout::FILLER_ONE)
+        & (blank_in(body, layout::FILLER_TWO) & blank_in(body, layout::FILLER_THREE));
+    fillers & (column_is(body, layout::POS_DUP, b"X") | column_is(body, layout::POS_DUP, b" "))
+}
+
+// Whether the contra is FSTI.
+pub fn is_stipulated(body: &[u8]) -> bool
+    ensures { λ r. ⌜ r ≡ isStipulated (now (body .entry)) ⌝ }
+{
+    column_is(body, layout::CONTRA, b"FSTI")
+}
+
+// Whether the submitter is the seller or the buyer of a trade.
+fn is_side(t: Trade, body: &[u8]) -> bool
+    ensures { λ r. ⌜ r ≡ isSide (now (body .entry)) t ⌝ }
+{
+    let seller = t.seller;
+    let buyer = t.buyer;
+    column_is(body, layout::SUBMITTER, &seller) | column_is(body, layout::SUBMITTER, &buyer)
+}
+
+// Whether the submitter is the seller or the buyer of one of the first count trades.
+fn some_side(trades: [Trade; 64], count: usize, body: &[u8]) -> bool
+    requires { ⌜ count ≤ tradesMax ⌝ }
+    ensures { λ r. ⌜ r ≡ any (isSide (now (body .entry))) (take count trades) ⌝ }
+{
+    let mut i: usize = 0;
+    while i < count {
+        let t = trades[i];
+        i += 1;
+        if is_side(t, body) {
+            return true;
+        }
+    }
+    false
+}
+
+// 17: the book's subscriber and connection, a submitter that is a side of some trade, and contra FTBA or FSTI.
+pub fn parties_fine(v: Values, body: &[u8]) -> bool
+    ensures { λ r. ⌜ r ≡ partiesFine v (now (body .entry)) ⌝ }
+{
+    let subscriber = v.subscriber;
+    let connection = v.connection;
+    let trades = v.trades;
+    let count = lesser(v.count, book::TRADES_MAX);
+    let line = column_is(body, layout::SUBSCRIBER, &subscriber)
+        & column_is(body, layout::CONNECTION, &connection);
+    let contra = column_is(body, layout::CONTRA, b"FTBA") | is_stipulated(body);
+    line & (some_side(trades, count, body) & contra)
 }

@@ -2,11 +2,12 @@
 use mathlib.Core.Path.{_≡_, refl, sym, ap, _∙_}
 use mathlib.Core.List.{List, [], _∷_}
 use mathlib.Core.Logic.{_⊎_, inl, inr}
-use mathlib.Core.Bool.{Bool, true, false, not, _&&_}
-use Prim.Native.Nat.{ℕ, _≤_}
+use mathlib.Core.Bool.{Bool, true, false, not, _&&_, _||_}
+use Prim.Native.Nat.{ℕ, _≤_, _<_}
 use native.Mathlib.Omega.{arith}
 use lib.ListN.{length, List·getD-eq-default}
-use lib.Dec.{leb}
+use lib.Dec.{eqb, leb}
+use borrow.Author.Tests.{lt-ltb, le-ltb}
 use types.Run.{OneOf}
 use denote.Enum.Declared.{tagOf}
 use Rattle.lists.specs.Lists.{any}
@@ -14,9 +15,10 @@ use Rattle.trade_id.specs.declared.TradeId.{TradeId}
 use Rattle.trade_id.specs.declared.TradeId.the-variants.{Whole, Broken, Absent}
 use Rattle.trade_id.proofs.TradeId.{the-type}
 use Rattle.book.specs.declared.Trade.{Trade}
-use Rattle.book.specs.Messages.{typeOf, idIn}
+use Rattle.book.specs.Messages.{typeOf, isStipulated, idIn}
 use Rattle.book.specs.Trades.{agrees, isNamedBy, firstTrade, mayTake, broughtWeight, tradeOfOn, openPars}
-use Rattle.book.specs.Checks.{noTrade, tradeAt, isOn, isWhole, namedTrade, termsFail}
+use Rattle.book.specs.Checks.{noTrade, tradeAt, isOn, isWhole, namedTrade, namedFine, idFails, termsFail}
+use Rattle.terms.specs.Reading.{isBroken}
 use Rattle.terms.proofs.Agreeing.{agrees-none}
 use Rattle.terms.proofs.Searching.{none-passes}
 
@@ -56,6 +58,28 @@ module _ (body : List ℕ) (ts : List Trade) where
   on-absent e weight w =
       ap (λ (k : ℕ). firstTrade (λ (t : Trade) (left : ℕ). agrees body t && leb k left) 0 ts (openPars ts)) w
       ∙ ap (λ (id : TradeId). firstTrade (mayTake body id) 0 ts (openPars ts)) (sym e)
+
+  -- ---- 31
+  module _ (target : ℕ) where
+    pub id-open : (id : TradeId) → isWhole id ≡ false → (b s : Bool) → b ≡ isBroken id → s ≡ isStipulated body → (b || s) ≡ idFails body ts target id
+    id-open (Whole place n) w b s e f = absurd (let z : true ≡ false = w in let y : _≡_ {A = ℕ} 0 1 = cc in omega arith)
+    id-open Broken w b s e f = rw e
+    id-open Absent w b s e f = rw (e, f)
+
+    module _ (place n : ℕ) (id : idIn body ≡ Whole place n) (i : ℕ) (is : i ≡ firstTrade (λ (t : Trade) (left : ℕ). isNamedBy body (Whole place n) t) 0 ts (openPars ts)) where
+      decided : not (namedFine body ts target i) ≡ idFails body ts target (idIn body)
+      decided = ap (λ (k : ℕ). not (namedFine body ts target k)) (is ∙ named-whole place n id) ∙ ap (idFails body ts target) (sym id)
+
+      pub id-past : length ts ≤ i → true ≡ idFails body ts target (idIn body)
+      id-past h =
+          let l : not (namedFine body ts target i) ≡ true = rw (le-ltb i (length ts) h) in
+          sym l ∙ decided
+
+      pub id-at : i < length ts → (t : Trade) → tradeAt ts i ≡ t → (a o : Bool) → a ≡ agrees body t → o ≡ isOn (typeOf body)
+          → not (a && (o || eqb i target)) ≡ idFails body ts target (idIn body)
+      id-at h t d a o e f =
+          let l : not (namedFine body ts target i) ≡ not (a && (o || eqb i target)) = rw (lt-ltb i (length ts) h, d, e, f) in
+          sym l ∙ decided
 
   -- ---- 32
   module _ (target : ℕ) where

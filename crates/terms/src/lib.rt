@@ -23,7 +23,7 @@ ghost use Rattle.book.specs.Trades.{
   tradeOfOn,
   openPars,
 };
-ghost use Rattle.book.specs.Checks.{isOn, namedTrade, termsFail};
+ghost use Rattle.book.specs.Checks.{isOn, namedTrade, idFails, termsFail};
 ghost use Rattle.terms.specs.Reading.{statedOf, isBroken};
 
 // The most characters of a trade's ID.
@@ -232,6 +232,26 @@ pub fn trade_of_on(body: &[u8], v: Values) -> usize
         TradeId::Broken => header::lesser(v.count, book::TRADES_MAX),
         TradeId::Absent => find_holding(body, read_terms(body), v, brought_weight(body)),
     }
+}
+
+// 31: a trade ID that is begun but not whole, or names no trade with agreeing terms, or another than a CC's or DK's target; on FSTI, none.
+pub fn id_fails(body: &[u8], v: Values, target: usize) -> bool
+    ensures { λ r. ⌜ r ≡ idFails (now (body .entry)) (tradesOf v) target (idIn (now (body .entry))) ⌝ }
+{
+    let id = header::trade_id_in(body);
+    let TradeId::Whole { place, length } = id else {
+        return is_broken(id) | header::is_stipulated(body);
+    };
+    let i = find_named(body, v, place, length);
+    let n = header::lesser(v.count, book::TRADES_MAX);
+    if n <= i {
+        return true;
+    }
+    let s = read_terms(body);
+    let message = s.message;
+    let t = v.trades[i];
+    let concerned = is_on(message) | (i == target);
+    !(agrees_as(body, s, t) & concerned)
 }
 
 // 32: without a trade ID, no trade's terms agree with an ON's, or the target's with a CC's or DK's.

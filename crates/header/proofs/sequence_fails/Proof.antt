@@ -6,20 +6,13 @@ use Rattle.book.specs.Checks.{notNumber}
 use borrow.Author.Needs.{needs}
 use Rattle.header.proofs.sequence_fails.Statement.{statement}
 use Rattle.header.proofs.sequence_fails.Tie as tie
-use Rattle.header.proofs.sequence_fails.Reads as reads
-use Rattle.header.proofs.sequence_fails.Lts as lts
-use Rattle.header.proofs.over.Reads as over-reads
-use Rattle.layout.proofs.number_in.Reads as number-in-reads
 
--- src/lib.rt:104:9
 number-in-requires : tie.Need-number-in-requires
 number-in-requires c κs = search needs
 
--- src/lib.rt:102:5
 over-requires : tie.Need-over-requires
 over-requires c κs = search needs
 
--- src/lib.rt:99:1
 returns : tie.Need-returns
 returns c = c .over .ensures ∙ ap (notNumber (λ (n : ℕ). leb n 999998)) (c .before .number-in .ensures)
 
