@@ -1,3 +1,11 @@
+use mathlib.Core.Path.{_≡_, sym, ap, _∙_}
+use native.Mathlib.Omega.{arith}
+use lib.ListN.{length, length-map}
+use Rattle.book.specs.Trades.{tradesOf}
+use Rattle.book.specs.Checks.{isOn, idFails}
+use Rattle.terms.specs.declared.Stated.{Stated}
+use Rattle.terms.proofs.Searching.{trade-count, trade-there}
+use Rattle.terms.proofs.Deciding.{not-whole, id-open, id-past, id-at}
 use borrow.Author.Needs.{needs}
 use Rattle.terms.proofs.id_fails.Statement.{statement}
 use Rattle.terms.proofs.id_fails.Tie as tie
@@ -11,6 +19,9 @@ use Rattle.terms.proofs.find_named.Reads as find-named-reads
 use Rattle.terms.proofs.is_broken.Reads as is-broken-reads
 use Rattle.terms.proofs.is_on.Reads as is-on-reads
 use Rattle.terms.proofs.read_terms.Reads as read-terms-reads
+
+sixty-four : (c : tie.Start) → length (c .args .t2 .trades) ≡ 64
+sixty-four c = sym (length-map (c .args .t2 .trades) _) ∙ c .good .1 .0 .1 .1 .0 .1 .0 .1
 
 -- src/lib.rt:241:9
 trade-id-in-requires : tie.Need-trade-id-in-requires
@@ -30,11 +41,15 @@ is-stipulated-requires c κs = search needs
 
 -- src/lib.rt:243:9
 returns : tie.Need-returns
-returns c = search needs
+returns c =
+    let a = c .before .before .before .before .before .args in
+    let id = c .before .before .before .trade-id-in .result in
+    id-open (a .body .now) (tradesOf (a .t2)) (a .target) id (not-whole id (c .before .before .match .keys2)) _ _ (c .before .is-broken .ensures) (c .is-stipulated .ensures)
+    ∙ ap (idFails (a .body .now) (tradesOf (a .t2)) (a .target)) (c .before .before .before .trade-id-in .ensures)
 
 -- src/lib.rt:245:9
 find-named-requires : tie.Need-find-named-requires
-find-named-requires c κs = search needs
+find-named-requires c κs = sym (c .before .before .before .trade-id-in .ensures) ∙ c .before .id .given .1
 
 -- src/lib.rt:246:9
 lesser-requires : tie.Need-lesser-requires
@@ -42,7 +57,11 @@ lesser-requires c κs = search needs
 
 -- src/lib.rt:248:9
 returns-2 : tie.Need-returns-2
-returns-2 c = search needs
+returns-2 c =
+    let s = c .before .before .before .before .before .before .before .before in
+    let a = s .args in
+    id-past (a .body .now) (tradesOf (a .t2)) (a .target) _ _ (sym (c .before .before .before .before .before .before .trade-id-in .ensures) ∙ c .before .before .before .before .id .given .1) _ (c .before .before .find-named .ensures)
+    (omega (arith, trade-count (a .t2 .trades) (a .t2 .count) _ (sixty-four s) (c .before .lesser .ensures), c .if1 .taken))
 
 -- src/lib.rt:250:9
 read-terms-requires : tie.Need-read-terms-requires
@@ -50,11 +69,11 @@ read-terms-requires c κs = search needs
 
 -- src/lib.rt:252:13
 mul-t : tie.Need-mul-t
-mul-t c = search needs
+mul-t c = omega (arith, c .before .before .lesser .ensures)
 
 -- src/lib.rt:252:13
 element-copy-out-t : tie.Need-element-copy-out-t
-element-copy-out-t c = search needs
+element-copy-out-t c = omega (arith, c .before .before .lesser .ensures, sixty-four (c .before .before .before .before .before .before .before .before .before))
 
 -- src/lib.rt:253:21
 is-on-requires : tie.Need-is-on-requires
@@ -62,11 +81,17 @@ is-on-requires c κs = search needs
 
 -- src/lib.rt:254:7
 agrees-as-requires : tie.Need-agrees-as-requires
-agrees-as-requires c κs = search needs
+agrees-as-requires c κs = c .before .before .read-terms .ensures
 
 -- src/lib.rt:238:1
 returns-3 : tie.Need-returns-3
-returns-3 c = search needs
+returns-3 c =
+    let s = c .before .before .before .before .before .before .before .before .before .before .before .before in
+    let a = s .args in
+    id-at (a .body .now) (tradesOf (a .t2)) (a .target) _ _ (sym (c .before .before .before .before .before .before .before .before .before .before .trade-id-in .ensures) ∙ c .before .before .before .before .before .before .before .before .id .given .1) _ (c .before .before .before .before .before .before .find-named .ensures)
+    (omega (arith, trade-count (a .t2 .trades) (a .t2 .count) _ (sixty-four s) (c .before .before .before .before .before .lesser .ensures), c .before .before .before .before .if1 .left)) _
+    (trade-there (a .t2 .trades) (a .t2 .count) _ (sixty-four s) (c .before .before .before .before .before .lesser .ensures) (c .before .before .before .before .before .before .find-named .result) (c .before .before .before .before .if1 .left)) _ _ (c .agrees-as .ensures)
+    (c .before .is-on .ensures ∙ ap (λ (u : Stated). isOn (u .message)) (c .before .before .before .read-terms .ensures))
 
 pub id-fails-spec : {M : Type 1} → statement M
 id-fails-spec =
