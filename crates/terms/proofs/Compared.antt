@@ -1,17 +1,12 @@
 -- Parts of a body against whole lists: a part that is cut short by the body's end is shorter than the list it is compared with, so unlike it.
-use mathlib.Core.Path.{_≡_, refl, sym, ap, _∙_}
+use mathlib.Core.Path.{_≡_, sym, ap, _∙_}
 use mathlib.Core.List.{List, [], _∷_}
-use mathlib.Core.Bool.{Bool, true, false}
 use Prim.Native.Nat.{ℕ, zero, suc, _+_, _-_, _≤_, _<_}
 use native.Mathlib.Nat.{sub-zero, zero-sub, suc-sub-suc}
 use native.Mathlib.Omega.{arith}
 use lib.ListN.{length, take, drop, length-take, length-drop}
-use lib.Seq.{take-all, take-nil, take-take, drop-drop}
-use Rattle.lists.specs.Lists.{within, part, same}
-use Rattle.lists.proofs.Parts.{in-within}
-use Rattle.lists.proofs.Tests.{clash}
-use Rattle.fields.specs.Fields.{samePart}
-use Rattle.opening.proofs.Names.{same-unlike}
+use lib.Seq.{take-nil, take-take, drop-drop}
+use Rattle.lists.specs.Lists.{part}
 
 -- a part has no more than asked for, and ends where the list does
 pub part-most : (s : List ℕ) (at n : ℕ) → length (part s at n) ≤ n

@@ -1,5 +1,5 @@
 -- A whole ID in special instructions against a trade's: unlike where the lengths are, and else compared where it stands in the body.
-use mathlib.Core.Path.{_≡_, refl, sym, ap, ap₂, _∙_}
+use mathlib.Core.Path.{_≡_, refl, sym, ap, _∙_}
 use mathlib.Core.List.{List}
 use mathlib.Core.Bool.{Bool, true, false}
 use Prim.Native.Nat.{ℕ, min, _+_, _≤_, _<_}
@@ -8,7 +8,7 @@ use lib.ListN.{length, take, length-take}
 use lib.Seq.{take-all}
 use lib.Dec.{leb}
 use borrow.Author.Tests.{leb-true, leb-false}
-use Rattle.lists.specs.Lists.{within, part, same}
+use Rattle.lists.specs.Lists.{part}
 use Rattle.lists.proofs.Parts.{in-within, length-part}
 use Rattle.fields.specs.Fields.{samePart}
 use Rattle.layout.specs.Columns as columns

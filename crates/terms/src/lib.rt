@@ -52,7 +52,10 @@ fn is_broken(id: TradeId) -> bool
     ensures { λ r. ⌜ r ≡ isBroken id ⌝ }
 {
     match id {
-        TradeId::Whole { place: _, length: _ } => false,
+        TradeId::Whole {
+            place: _,
+            length: _,
+        } => false,
         TradeId::Broken => true,
         TradeId::Absent => false,
     }

@@ -1,17 +1,11 @@
-use mathlib.Core.Path.{_≡_, sym, _∙_}
+-- The two numbers are compared first; where they agree, the three columns decide.
+use mathlib.Core.Path.{sym, _∙_}
 use lib.ListN.{length-map}
-use Rattle.terms.proofs.Agreeing.{Lengths, numbers-unlike, numbers-alike}
 use borrow.Author.Needs.{needs}
+use Rattle.terms.proofs.Agreeing.{Lengths, numbers-unlike, numbers-alike}
 use Rattle.terms.proofs.agrees_as.Statement.{statement}
 use Rattle.terms.proofs.agrees_as.Tie as tie
-use Rattle.terms.proofs.agrees_as.Reads as reads
-use Rattle.terms.proofs.agrees_as.Lts as lts
-use Rattle.fields.proofs.same_part.Reads as same-part-reads
-use Rattle.terms.proofs.is_number.Reads as is-number-reads
-use Rattle.terms.proofs.price_is.Reads as price-is-reads
-use Rattle.terms.proofs.side_of.Reads as side-of-reads
 
--- src/lib.rt:109:10
 lengths : (c : tie.Start) → Lengths (c .args .t)
 lengths c =
     let t = c .args .t in
@@ -25,45 +19,35 @@ lengths c =
 is-number-requires : tie.Need-is-number-requires
 is-number-requires c κs = search needs
 
--- src/lib.rt:109:48
 price-is-requires : tie.Need-price-is-requires
 price-is-requires c κs = search needs
 
--- src/lib.rt:110:9
 returns : tie.Need-returns
 returns c =
     let s = c .before .before .before .before in
     numbers-unlike (s .args .body .now) (s .args .s) (s .pre) (s .args .t) _ _ (c .before .before .is-number .ensures) (c .before .price-is .ensures) (c .if1 .taken)
 
--- src/lib.rt:113:16
 side-of-requires : tie.Need-side-of-requires
 side-of-requires c κs = search needs
 
--- src/lib.rt:119:9
 slice-aggregate-same-part : tie.Need-slice-aggregate-same-part
 slice-aggregate-same-part c = search needs
 
--- src/lib.rt:116:9
 same-part-requires : tie.Need-same-part-requires
 same-part-requires c κs = search needs
 
--- src/lib.rt:123:64
 slice-aggregate-same-part-2 : tie.Need-slice-aggregate-same-part-2
 slice-aggregate-same-part-2 c = search needs
 
--- src/lib.rt:123:9
 same-part-requires-2 : tie.Need-same-part-requires-2
 same-part-requires-2 c κs = search needs
 
--- src/lib.rt:125:66
 slice-aggregate-same-part-3 : tie.Need-slice-aggregate-same-part-3
 slice-aggregate-same-part-3 c = search needs
 
--- src/lib.rt:125:24
 same-part-requires-3 : tie.Need-same-part-requires-3
 same-part-requires-3 c κs = search needs
 
--- src/lib.rt:103:1
 returns-2 : tie.Need-returns-2
 returns-2 c =
     let s = c .before .before .before .before .before .before .before .before .before .before .before .before .before in

@@ -1,18 +1,15 @@
-use mathlib.Core.Path.{_≡_, sym, ap, _∙_}
+-- The loop's invariant: the first trade from i on that has the ID is still the answer.
+use mathlib.Core.Path.{_≡_, sym, _∙_}
+use Prim.Native.Nat.{ℕ, _≤_, _-_}
 use native.Mathlib.Omega.{arith}
 use lib.ListN.{length, length-map}
-use Prim.Native.Nat.{ℕ, _≤_, _-_}
+use borrow.Author.Needs.{needs}
 use Rattle.trade_id.specs.declared.TradeId.the-variants.{Whole}
 use Rattle.book.specs.declared.Trade.{Trade}
 use Rattle.book.specs.Trades.{tradesOf, isNamedBy}
 use Rattle.terms.proofs.Searching.{trade-turn, trade-done, Left, left-none, left-found, left-more, left-done}
-use borrow.Author.Needs.{needs}
 use Rattle.terms.proofs.find_named.Statement.{statement}
 use Rattle.terms.proofs.find_named.Tie as tie
-use Rattle.terms.proofs.find_named.Reads as reads
-use Rattle.terms.proofs.find_named.Lts as lts
-use Rattle.header.proofs.lesser.Reads as lesser-reads
-use Rattle.terms.proofs.is_named_by.Reads as is-named-by-reads
 
 abbrev Inv-loop : tie.InvT-loop
 Inv-loop body place length v n i₀ i = (i ≤ n) × Left (λ (t : Trade) (left : ℕ). isNamedBy body (Whole place length) t) (tradesOf v) i
@@ -23,27 +20,21 @@ abbrev μ-loop : tie.MeasureT-loop
 sixty-four : (c : tie.Start Inv-loop μ-loop) → length (c .args .t2 .trades) ≡ 64
 sixty-four c = sym (length-map (c .args .t2 .trades) _) ∙ c .good .1 .0 .1 .1 .0 .1 .0 .1
 
--- src/lib.rt:146:9
 lesser-requires : tie.Need-lesser-requires Inv-loop μ-loop
 lesser-requires c κs = search needs
 
--- src/lib.rt:148:5
 loop-holds : tie.Need-loop-holds Inv-loop μ-loop
 loop-holds c = let a = c .before .before .args in (search needs, left-none (λ (t : Trade) (left : ℕ). isNamedBy (a .body .now) (Whole (a .place) (a .length)) t) (tradesOf (a .t2)))
 
--- src/lib.rt:149:17
 mul-t : tie.Need-mul-t Inv-loop μ-loop
 mul-t c = omega (arith, c .before .before .lesser .ensures)
 
--- src/lib.rt:149:17
 element-copy-out-t : tie.Need-element-copy-out-t Inv-loop μ-loop
 element-copy-out-t c = omega (arith, c .before .before .lesser .ensures, sixty-four (c .before .before .before .before))
 
--- src/lib.rt:150:12
 is-named-by-requires : tie.Need-is-named-by-requires Inv-loop μ-loop
 is-named-by-requires c κs = c .before .before .before .before .before .pre
 
--- src/lib.rt:151:13
 returns : tie.Need-returns Inv-loop μ-loop
 returns c =
     let a = c .before .before .before .before .before .before .before .args in
@@ -51,15 +42,12 @@ returns c =
     let turn = trade-turn (a .t2 .trades) (a .t2 .count) _ (sixty-four (c .before .before .before .before .before .before .before)) (c .before .before .before .before .before .lesser .ensures) (l .i) (c .before .before .before .loop-test .taken) in
     left-found (λ (t : Trade) (left : ℕ). isNamedBy (a .body .now) (Whole (a .place) (a .length)) t) (tradesOf (a .t2)) (l .i) (l .inv .1) _ turn (sym (c .before .is-named-by .ensures) ∙ c .if1 .taken)
 
--- src/lib.rt:153:9
 add-i : tie.Need-add-i Inv-loop μ-loop
 add-i c = omega arith
 
--- src/lib.rt:148:5
 loop-less : tie.Need-loop-less Inv-loop μ-loop
 loop-less c = omega arith
 
--- src/lib.rt:148:5
 loop-again : tie.Need-loop-again Inv-loop μ-loop
 loop-again c =
     let a = c .before .before .before .before .before .before .before .args in
@@ -67,7 +55,6 @@ loop-again c =
     let turn = trade-turn (a .t2 .trades) (a .t2 .count) _ (sixty-four (c .before .before .before .before .before .before .before)) (c .before .before .before .before .before .lesser .ensures) (l .i) (c .before .before .before .loop-test .taken) in
     (omega arith, left-more (λ (t : Trade) (left : ℕ). isNamedBy (a .body .now) (Whole (a .place) (a .length)) t) (tradesOf (a .t2)) (l .i) (l .inv .1) _ turn (sym (c .before .is-named-by .ensures) ∙ c .if1 .left))
 
--- src/lib.rt:142:1
 returns-2 : tie.Need-returns-2 Inv-loop μ-loop
 returns-2 c =
     let a = c .before .before .before .before .args in

@@ -1,25 +1,20 @@
+-- The field is taken apart as the definition takes it.
 use mathlib.Core.Path.{sym, ap}
+use borrow.Author.Needs.{needs}
 use Rattle.fields.specs.declared.Field.{Field}
 use Rattle.book.specs.Trades.{isNumber}
-use borrow.Author.Needs.{needs}
 use Rattle.terms.proofs.is_number.Statement.{statement}
 use Rattle.terms.proofs.is_number.Tie as tie
-use Rattle.terms.proofs.is_number.Reads as reads
-use Rattle.terms.proofs.is_number.Lts as lts
 
--- src/lib.rt:66:23
 enum-known-f : tie.Need-enum-known-f
 enum-known-f c = search needs
 
--- src/lib.rt:67:29
 enum-told : tie.Need-enum-told
 enum-told c = search needs
 
--- src/lib.rt:62:1
 returns : tie.Need-returns
 returns c = ap (λ (f : Field). isNumber f (c .before .before .before .args .k)) (sym (c .before .f .given .1))
 
--- src/lib.rt:62:1
 returns-2 : tie.Need-returns-2
 returns-2 c = search needs
 

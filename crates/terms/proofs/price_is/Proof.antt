@@ -1,30 +1,23 @@
+-- The field is taken apart as the definition takes it.
 use mathlib.Core.Path.{sym, ap, _∙_}
+use borrow.Author.Needs.{needs}
 use Rattle.fields.specs.declared.Field.{Field}
 use Rattle.book.specs.Trades.{priceIs}
-use borrow.Author.Needs.{needs}
 use Rattle.terms.proofs.price_is.Statement.{statement}
 use Rattle.terms.proofs.price_is.Tie as tie
-use Rattle.terms.proofs.price_is.Reads as reads
-use Rattle.terms.proofs.price_is.Lts as lts
-use Rattle.trade_id.proofs.prices_agree.Reads as prices-agree-reads
 
--- src/lib.rt:75:23
 enum-known-f : tie.Need-enum-known-f
 enum-known-f c = search needs
 
--- src/lib.rt:75:29
 prices-agree-requires : tie.Need-prices-agree-requires
 prices-agree-requires c κs = search needs
 
--- src/lib.rt:76:29
 enum-told : tie.Need-enum-told
 enum-told c = search needs
 
--- src/lib.rt:71:1
 returns : tie.Need-returns
 returns c = c .prices-agree .ensures ∙ ap (λ (f : Field). priceIs f (c .before .before .before .before .args .k)) (sym (c .before .before .f .given .1))
 
--- src/lib.rt:71:1
 returns-2 : tie.Need-returns-2
 returns-2 c = search needs
 

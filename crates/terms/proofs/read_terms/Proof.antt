@@ -1,25 +1,18 @@
-use Rattle.terms.proofs.Agreeing.{stated-is}
+-- Each call reads one of the three.
 use borrow.Author.Needs.{needs}
+use Rattle.terms.proofs.Agreeing.{stated-is}
 use Rattle.terms.proofs.read_terms.Statement.{statement}
 use Rattle.terms.proofs.read_terms.Tie as tie
-use Rattle.terms.proofs.read_terms.Reads as reads
-use Rattle.terms.proofs.read_terms.Lts as lts
-use Rattle.header.proofs.message_type.Reads as message-type-reads
-use Rattle.layout.proofs.number_in.Reads as number-in-reads
 
--- src/lib.rt:96:18
 message-type-requires : tie.Need-message-type-requires
 message-type-requires c κs = search needs
 
--- src/lib.rt:97:21
 number-in-requires : tie.Need-number-in-requires
 number-in-requires c κs = search needs
 
--- src/lib.rt:98:16
 number-in-requires-2 : tie.Need-number-in-requires-2
 number-in-requires-2 c κs = search needs
 
--- src/lib.rt:92:1
 returns : tie.Need-returns
 returns c = stated-is (c .before .before .before .before .args .body .now) _ _ _ (c .before .before .message-type .ensures) (c .before .number-in .ensures) (c .number-in2 .ensures)
 

@@ -1,20 +1,15 @@
-use mathlib.Core.Path.{_≡_, sym, ap, _∙_}
-use native.Mathlib.Omega.{arith}
-use lib.ListN.{length, length-map}
-use mathlib.Core.Path.{refl}
+-- The loop's invariant: whether a trade from i on agrees is still the answer.
+use mathlib.Core.Path.{_≡_, sym, ap, _∙_, refl}
 use Prim.Native.Nat.{_≤_, _-_}
-use lib.ListN.{drop}
+use native.Mathlib.Omega.{arith}
+use lib.ListN.{length, length-map, drop}
+use borrow.Author.Needs.{needs}
 use Rattle.lists.specs.Lists.{any}
 use Rattle.book.specs.Trades.{tradesOf, agrees}
 use Rattle.opening.proofs.Looking.{any-stop, any-more}
 use Rattle.terms.proofs.Searching.{trade-turn, trade-done}
-use borrow.Author.Needs.{needs}
 use Rattle.terms.proofs.some_agrees.Statement.{statement}
 use Rattle.terms.proofs.some_agrees.Tie as tie
-use Rattle.terms.proofs.some_agrees.Reads as reads
-use Rattle.terms.proofs.some_agrees.Lts as lts
-use Rattle.header.proofs.lesser.Reads as lesser-reads
-use Rattle.terms.proofs.agrees_as.Reads as agrees-as-reads
 
 abbrev Inv-loop : tie.InvT-loop
 Inv-loop body s v n i₀ i = (i ≤ n) × (any (agrees body) (drop i (tradesOf v)) ≡ any (agrees body) (tradesOf v))
@@ -25,31 +20,24 @@ abbrev μ-loop : tie.MeasureT-loop
 sixty-four : (c : tie.Start Inv-loop μ-loop) → length (c .args .t3 .trades) ≡ 64
 sixty-four c = sym (length-map (c .args .t3 .trades) _) ∙ c .good .1 .1 .0 .1 .1 .0 .1 .0 .1
 
--- src/lib.rt:180:9
 lesser-requires : tie.Need-lesser-requires Inv-loop μ-loop
 lesser-requires c κs = search needs
 
--- src/lib.rt:182:5
 loop-holds : tie.Need-loop-holds Inv-loop μ-loop
 loop-holds c = (search needs, refl)
 
--- src/lib.rt:183:17
 mul-t : tie.Need-mul-t Inv-loop μ-loop
 mul-t c = omega (arith, c .before .before .lesser .ensures)
 
--- src/lib.rt:183:17
 element-copy-out-t : tie.Need-element-copy-out-t Inv-loop μ-loop
 element-copy-out-t c = omega (arith, c .before .before .lesser .ensures, sixty-four (c .before .before .before .before))
 
--- src/lib.rt:184:9
 add-i : tie.Need-add-i Inv-loop μ-loop
 add-i c = omega arith
 
--- src/lib.rt:185:12
 agrees-as-requires : tie.Need-agrees-as-requires Inv-loop μ-loop
 agrees-as-requires c κs = c .before .before .before .before .before .pre
 
--- src/lib.rt:186:13
 returns : tie.Need-returns Inv-loop μ-loop
 returns c =
     let a = c .before .before .before .before .before .before .before .args in
@@ -57,11 +45,9 @@ returns c =
     let turn = trade-turn (a .t3 .trades) (a .t3 .count) _ (sixty-four (c .before .before .before .before .before .before .before)) (c .before .before .before .before .before .lesser .ensures) (l .i) (c .before .before .before .loop-test .taken) in
     sym (any-stop (agrees (a .body .now)) turn (sym (c .before .agrees-as .ensures) ∙ c .if1 .taken)) ∙ l .inv .1
 
--- src/lib.rt:182:5
 loop-less : tie.Need-loop-less Inv-loop μ-loop
 loop-less c = omega arith
 
--- src/lib.rt:182:5
 loop-again : tie.Need-loop-again Inv-loop μ-loop
 loop-again c =
     let a = c .before .before .before .before .before .before .before .args in
@@ -69,7 +55,6 @@ loop-again c =
     let turn = trade-turn (a .t3 .trades) (a .t3 .count) _ (sixty-four (c .before .before .before .before .before .before .before)) (c .before .before .before .before .before .lesser .ensures) (l .i) (c .before .before .before .loop-test .taken) in
     (omega arith, sym (any-more (agrees (a .body .now)) turn (sym (c .before .agrees-as .ensures) ∙ c .if1 .left)) ∙ l .inv .1)
 
--- src/lib.rt:176:1
 returns-2 : tie.Need-returns-2 Inv-loop μ-loop
 returns-2 c =
     let a = c .before .before .before .before .args in
