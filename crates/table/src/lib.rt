@@ -3,7 +3,7 @@ use book::Pool;
 ghost use mathlib.Core.Path.{_≡_};
 ghost use mathlib.Core.List.{_++_};
 ghost use Prim.Native.Nat.{_<_, _≤_};
-ghost use lib.ListN.{length, take, set};
+ghost use lib.ListN.{length, take, set, replicate};
 ghost use Rattle.table.specs.Rows.{recordAt, tableOf};
 ghost use Rattle.table.specs.Closed.{unmarked, zeroed, closedUp};
 
@@ -25,9 +25,28 @@ fn key_of(lot: [u8; 6], pool: [u8; 7], original: [u8; 9]) -> [u8; 22]
     ensures { λ r. ⌜ r ≡ lot ++ (pool ++ original) ⌝ }
 {
     [
-        lot[0], lot[1], lot[2], lot[3], lot[4], lot[5], pool[0], pool[1], pool[2], pool[3],
-        pool[4], pool[5], pool[6], original[0], original[1], original[2], original[3], original[4],
-        original[5], original[6], original[7], original[8],
+        lot[0],
+        lot[1],
+        lot[2],
+        lot[3],
+        lot[4],
+        lot[5],
+        pool[0],
+        pool[1],
+        pool[2],
+        pool[3],
+        pool[4],
+        pool[5],
+        pool[6],
+        original[0],
+        original[1],
+        original[2],
+        original[3],
+        original[4],
+        original[5],
+        original[6],
+        original[7],
+        original[8],
     ]
 }
 
@@ -73,12 +92,7 @@ fn zero_records(numbers: &mut [[u64; 6]], keys: &mut [[u8; 22]], a: usize, e: us
 }
 
 // Takes the marked records out of the live ones, and gives the number of those that are left.
-pub fn close_up(
-    numbers: &mut [[u64; 6]],
-    keys: &mut [[u8; 22]],
-    live: usize,
-    marks: &[u8],
-) -> usize
+pub fn close_up(numbers: &mut [[u64; 6]], keys: &mut [[u8; 22]], live: usize, marks: &[u8]) -> usize
     requires { ⌜ (length (now keys) ≡ length (now numbers)) × (live ≤ length (now numbers)) × (live ≤ length (now marks)) ⌝ }
     ensures { λ r. ⌜ (r ≡ length (unmarked (now (marks .entry)) (take live (tableOf (now (numbers .entry)) (now (keys .entry))))))
         × (tableOf (now (numbers .exit)) (now (keys .exit)) ≡ closedUp (now (marks .entry)) live (tableOf (now (numbers .entry)) (now (keys .entry)))) ⌝ }
@@ -95,4 +109,33 @@ pub fn close_up(
     }
     zero_records(&mut *numbers, &mut *keys, w, live);
     w
+}
+
+fn clear_numbers(numbers: &mut [[u64; 6]])
+    ensures { λ _. ⌜ now (numbers .exit) ≡ replicate (length (now (numbers .entry))) (replicate 6 0) ⌝ }
+{
+    let mut i: usize = 0;
+    while i < numbers.len() {
+        numbers[i] = [0; 6];
+        i += 1;
+    }
+}
+
+fn clear_keys(keys: &mut [[u8; 22]])
+    ensures { λ _. ⌜ now (keys .exit) ≡ replicate (length (now (keys .entry))) (replicate 22 0) ⌝ }
+{
+    let mut i: usize = 0;
+    while i < keys.len() {
+        keys[i] = [0; 22];
+        i += 1;
+    }
+}
+
+// Zeros in every row.
+pub fn clear(numbers: &mut [[u64; 6]], keys: &mut [[u8; 22]])
+    ensures { λ _. ⌜ (now (numbers .exit) ≡ replicate (length (now (numbers .entry))) (replicate 6 0))
+        × (now (keys .exit) ≡ replicate (length (now (keys .entry))) (replicate 22 0)) ⌝ }
+{
+    clear_numbers(numbers);
+    clear_keys(keys);
 }
