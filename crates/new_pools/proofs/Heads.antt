@@ -3,7 +3,7 @@ use mathlib.Core.Path.{_≡_, refl, sym, ap, _∙_}
 use mathlib.Core.Logic.{_⊎_, inl, inr}
 use mathlib.Core.List.{List, [], _∷_, _++_, append-assoc}
 use mathlib.Core.Bool.{Bool, true, false, cond, true≢false}
-use Prim.Native.Nat.{ℕ, suc, _+_, _-_, _≤_, _<_}
+use Prim.Native.Nat.{ℕ, _+_, _-_, _≤_, _<_}
 use native.Mathlib.Omega.{arith}
 use lib.ListN.{length, take, drop, length-append, length-drop}
 use lib.Seq.{take-at, drop-at, drop-drop}
@@ -13,7 +13,6 @@ use Rattle.layout.specs.declared.Detail.{Detail}
 use Rattle.layout.specs.Details.{details, poolCount}
 use Rattle.layout.proofs.Passes.{poolOf}
 use Rattle.layout.proofs.Reader.{details-left, length-details}
-use Rattle.terminator.specs.declared.Kind.{Kind}
 use Rattle.terminator.specs.declared.LotHead.{LotHead}
 use Rattle.terminator.specs.declared.LotRead.{LotRead}
 use Rattle.terminator.specs.declared.LotRead.the-variants.{Found, Nothing}
@@ -89,8 +88,8 @@ module _ (body : List ℕ) (first : ℕ) where
             lot = l;
             after = s .begins ∙ ap (λ (ds : List Detail). l ∷ lotsFrom [] ds) rest;
             pools =
-              sym (take-at (poolsOf l) (s .rest) (h .last + 1 - first) n) ∙ ap (take (h .last + 1 - first)) (s .whole ∙ details-left body first)
-              ∙ take-tab (poolOf body) (h .last + 1 - first) (poolCount body - first) first (omega (arith, n, all));
+                sym (take-at (poolsOf l) (s .rest) (h .last + 1 - first) n) ∙ ap (take (h .last + 1 - first)) (s .whole ∙ details-left body first)
+                ∙ take-tab (poolOf body) (h .last + 1 - first) (poolCount body - first) first (omega (arith, n, all));
             begins = omega (arith, last);
             ends = omega (arith, last, n, all);
             same-one = ap (λ (x : LotHead). x .one) is;

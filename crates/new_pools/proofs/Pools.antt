@@ -1,10 +1,10 @@
 -- The pools of one lot: their records stored one after another, with the faces that are staged.
 use mathlib.Core.Path.{_≡_, refl, sym, ap, _∙_}
-use mathlib.Core.List.{List, [], _∷_, _++_, map}
-use Prim.Native.Nat.{ℕ, zero, suc, _+_, _-_, _≤_, _<_}
+use mathlib.Core.List.{List, [], _∷_, map}
+use Prim.Native.Nat.{ℕ, zero, suc, _+_, _≤_, _<_}
 use native.Mathlib.Nat.{zero-add}
 use native.Mathlib.Omega.{arith}
-use lib.ListN.{length, getD, set, List·getD-append, List·getD-map, length-map}
+use lib.ListN.{length, getD, set, List·getD-append, length-map}
 use Rattle.lists.specs.Lists.{tab, pasted}
 use Rattle.lists.proofs.Tables.{length-tab, getD-tab}
 use Rattle.lists.proofs.Pasting.{Pasting, pasting-none, pasting-more, pasting-done}
@@ -12,11 +12,11 @@ use Rattle.layout.specs.declared.Detail.{Detail}
 use Rattle.layout.specs.Details.{details, poolCount, detailAt, placeOf, noDetail}
 use Rattle.layout.proofs.Passes as passes
 use Rattle.layout.proofs.Reader.{length-details}
-use Rattle.terminator.specs.Lots.{Lot, poolsOf, lotKind, lotMillions, currentCents}
+use Rattle.terminator.specs.Lots.{currentCents}
 use Rattle.faces.specs.declared.Staged.{Staged}
-use Rattle.faces.specs.Faces.{padded, staged}
+use Rattle.faces.specs.Faces.{staged}
 use Rattle.book.specs.declared.Pool.{Pool}
-use Rattle.book.specs.Records.{poolOf, noPool}
+use Rattle.book.specs.Records.{noPool}
 use Rattle.new_pools.specs.declared.Common.{Common}
 use Rattle.new_pools.specs.Stored.{recordWith, recordFrom, recordsFrom, AreFaces}
 
@@ -64,6 +64,6 @@ module _ (body : List ℕ) (s : Common) (first n at : ℕ) (t₀ : List Pool) wh
     putting-done h g l = pasting-done t₀ at (recordsFrom body s first n) n length-records t k inv h g (omega arith) (omega arith)
 
 -- ---- the records of a lot
-map-tab : {A B : Type 0} (f : A → B) (g : ℕ → A) (n i : ℕ) → map f (tab g n i) ≡ tab (λ (k : ℕ). f (g k)) n i
+pub map-tab : {A B : Type 0} (f : A → B) (g : ℕ → A) (n i : ℕ) → map f (tab g n i) ≡ tab (λ (k : ℕ). f (g k)) n i
 map-tab f g zero i = refl
 map-tab {A} {B} f g (suc n) i = ap (λ (l : List B). f (g i) ∷ l) (map-tab f g n (i + 1))

@@ -89,3 +89,41 @@ fn put_pools(
         k += 1;
     }
 }
+
+// Stores the records of the message's new lots from at on, with ordinals from 1, and gives the place after them.
+pub fn put_lots(
+    numbers: &mut [[u64; 6]],
+    keys: &mut [[u8; 22]],
+    at: usize,
+    body: &[u8],
+    message: u64,
+    trade: u64,
+) -> usize
+    requires { ⌜ (length (now keys) ≡ length (now numbers)) × (at + length (recordsOf message trade 1 (newLots (details (now body)))) ≤ length (now numbers)) ⌝ }
+    ensures { λ r. ⌜ (r ≡ at + length (recordsOf message trade 1 (newLots (details (now (body .entry))))))
+        × (tableOf (now (numbers .exit)) (now (keys .exit)) ≡ pasted (tableOf (now (numbers .entry)) (now (keys .entry))) at (recordsOf message trade 1 (newLots (details (now (body .entry)))))) ⌝ }
+{
+    let staged = faces::stage(body);
+    let faces = staged.faces;
+    let mut place = at;
+    let mut ordinal: u64 = 1;
+    let mut next: usize = 0;
+    while next < staged.count {
+        let first = next;
+        let found = terminator::lot_at(body, first);
+        match found {
+            LotRead::Found(l) => {
+                next = l.last + 1;
+                if l.one != terminator::CANCELED {
+                    let s = common_of(l, message, ordinal, trade);
+                    let n = next - first;
+                    put_pools(&mut *numbers, &mut *keys, place, body, &faces, first, n, s);
+                    place += n;
+                    ordinal += 1;
+                }
+            }
+            LotRead::Nothing => return place,
+        }
+    }
+    place
+}

@@ -1,18 +1,14 @@
-use mathlib.Core.Path.{_≡_, ap}
+-- The kind is the number that the call gives; the rest is handed on.
+use mathlib.Core.Path.{ap}
 use Prim.Native.Nat.{ℕ}
 use Rattle.new_pools.specs.declared.Common.{Common}
 use borrow.Author.Needs.{needs}
 use Rattle.new_pools.proofs.common_of.Statement.{statement}
 use Rattle.new_pools.proofs.common_of.Tie as tie
-use Rattle.new_pools.proofs.common_of.Reads as reads
-use Rattle.new_pools.proofs.common_of.Lts as lts
-use Rattle.new_pools.proofs.kind_number.Reads as kind-number-reads
 
--- src/lib.rt:45:15
 kind-number-requires : tie.Need-kind-number-requires
 kind-number-requires c κs = search needs
 
--- src/lib.rt:37:1
 returns : tie.Need-returns
 returns c =
     let a = c .before .args in

@@ -1,3 +1,4 @@
+-- The loop's invariant: the records written, those still to come and the rest of the table are the answer.
 use native.Mathlib.Omega.{arith}
 use Prim.Native.Nat.{_≤_, _-_, _+_}
 use mathlib.Core.Path.{_≡_, refl, _∙_}
@@ -9,11 +10,6 @@ use Rattle.new_pools.proofs.Pools.{Putting, putting-none, putting-more,
 use borrow.Author.Needs.{needs}
 use Rattle.new_pools.proofs.put_pools.Statement.{statement}
 use Rattle.new_pools.proofs.put_pools.Tie as tie
-use Rattle.new_pools.proofs.put_pools.Reads as reads
-use Rattle.new_pools.proofs.put_pools.Lts as lts
-use Rattle.layout.proofs.pool_at.Reads as pool-at-reads
-use Rattle.new_pools.proofs.record_with.Reads as record-with-reads
-use Rattle.table.proofs.put_record.Reads as put-record-reads
 
 abbrev Inv-loop : tie.InvT-loop
 Inv-loop numbers₀ keys₀ at body faces first n s k₀ numbers keys k = (k ≤ n) × (length numbers ≡ length numbers₀) × (length keys ≡ length keys₀) × Putting body s first n at (tableOf numbers₀ keys₀) (tableOf numbers keys) k
@@ -21,49 +17,38 @@ Inv-loop numbers₀ keys₀ at body faces first n s k₀ numbers keys k = (k ≤
 abbrev μ-loop : tie.MeasureT-loop
 μ-loop numbers₀ keys₀ at body faces first n s k₀ numbers keys k = n - k
 
--- src/lib.rt:84:5
 loop-holds : tie.Need-loop-holds Inv-loop μ-loop
 loop-holds c =
     let a = c .before .args in
     (omega arith, refl, refl, putting-none (a .body .now) (a .s) (a .first) (a .n) (a .at) (tableOf (a .numbers .now) (a .keys .now)))
 
--- src/lib.rt:85:17
 add-i : tie.Need-add-i Inv-loop μ-loop
 add-i c = omega (arith, count-max (c .before .before .before .args .body .now))
 
--- src/lib.rt:86:13
 pool-at-requires : tie.Need-pool-at-requires Inv-loop μ-loop
 pool-at-requires c κs = search needs
 
--- src/lib.rt:87:35
 mul-record-with : tie.Need-mul-record-with Inv-loop μ-loop
 mul-record-with c = omega (arith, count-max (c .before .before .before .before .args .body .now))
 
--- src/lib.rt:87:35
 element-copy-out-record-with : tie.Need-element-copy-out-record-with Inv-loop μ-loop
 element-copy-out-record-with c = omega (arith, count-max (c .before .before .before .before .args .body .now))
 
--- src/lib.rt:87:13
 record-with-requires : tie.Need-record-with-requires Inv-loop μ-loop
 record-with-requires c κs = search needs
 
--- src/lib.rt:88:54
 add-put-record : tie.Need-add-put-record Inv-loop μ-loop
 add-put-record c = search needs
 
--- src/lib.rt:88:9
 put-record-requires : tie.Need-put-record-requires Inv-loop μ-loop
 put-record-requires c κs = search needs
 
--- src/lib.rt:89:9
 add-k : tie.Need-add-k Inv-loop μ-loop
 add-k c = search needs
 
--- src/lib.rt:84:5
 loop-less : tie.Need-loop-less Inv-loop μ-loop
 loop-less c = search needs
 
--- src/lib.rt:84:5
 loop-again : tie.Need-loop-again Inv-loop μ-loop
 loop-again c =
     let s = c .before .before .before .before .before .before .before .before .before .before .before in
@@ -74,18 +59,15 @@ loop-again c =
       m .kept .0 ∙ l .inv .1,
       m .kept .1 .0 ∙ l .inv .2,
       putting-more (a .body .now) (a .s) (a .first) (a .n) (a .at) (tableOf (a .numbers .now) (a .keys .now)) (tableOf (l .numbers) (l .keys)) (l .k) (l .inv .3) _ _ _ _
-      (omega arith) (rw (length-table (l .numbers) (l .keys)) (omega arith)) (c .before .before .before .before .before .before .before .pool-at .ensures) (s .pre .3 (a .first + l .k) (omega arith)) (c .before .before .before .before .before .record-with .ensures) (m .ensures),
+          (omega arith) (rw (length-table (l .numbers) (l .keys)) (omega arith)) (c .before .before .before .before .before .before .before .pool-at .ensures) (s .pre .3 (a .first + l .k) (omega arith)) (c .before .before .before .before .before .record-with .ensures) (m .ensures),
     )
 
--- src/lib.rt:70:1
 same-length : tie.Need-same-length Inv-loop μ-loop
 same-length c = search needs
 
--- src/lib.rt:70:1
 same-length-2 : tie.Need-same-length-2 Inv-loop μ-loop
 same-length-2 c = search needs
 
--- src/lib.rt:70:1
 returns : tie.Need-returns Inv-loop μ-loop
 returns c =
     let a = c .before .before .before .args in
