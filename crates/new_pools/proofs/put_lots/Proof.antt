@@ -1,0 +1,172 @@
+-- The loop's invariant: the table with the records of the lots still to come pasted in is the answer; no more ordinals are used than pools are passed.
+use native.Mathlib.Omega.{arith}
+use Prim.Native.Nat.{_≤_, _-_, _+_}
+use mathlib.Core.Path.{_≡_, refl, sym, _∙_}
+use lib.ListN.{length}
+use Rattle.layout.specs.Details.{poolCount}
+use Rattle.layout.proofs.Lengths.{count-max}
+use Rattle.table.specs.Rows.{tableOf}
+use Rattle.table.proofs.Rows.{length-table}
+use Rattle.new_pools.proofs.Heads.{Heads, heads, no-lots}
+use Rattle.new_pools.proofs.Pools.{staged-faces, staged-count}
+use Rattle.new_pools.proofs.Turns.{Storing, storing-none, storing-canceled, storing-new, room, none-left, place-after, table-after}
+use borrow.Author.Needs.{needs}
+use Rattle.new_pools.proofs.put_lots.Statement.{statement}
+use Rattle.new_pools.proofs.put_lots.Tie as tie
+
+abbrev Inv-loop : tie.InvT-loop
+Inv-loop numbers₀ keys₀ at body message trade staged faces place₀ ordinal₀ next₀ numbers keys place ordinal next =
+    (length numbers ≡ length numbers₀) × (length keys ≡ length keys₀) × (next ≤ poolCount body) × (ordinal ≤ next + 1)
+    × Storing message trade at body (tableOf numbers₀ keys₀) (tableOf numbers keys) place ordinal next
+
+abbrev μ-loop : tie.MeasureT-loop
+μ-loop numbers₀ keys₀ at body message trade staged faces place₀ ordinal₀ next₀ numbers keys place ordinal next = poolCount body - next
+
+-- the lot that is found
+head : (c : tie.After-known-told Inv-loop μ-loop) → Heads (c .before .before .before .before .before .before .before .before .before .before .args .body .now) (c .before .before .before .before .before .before .loop .next) (c .before .found .given .0 .0)
+head c = heads (c .before .before .before .before .before .before .before .before .before .before .args .body .now) (c .before .before .before .before .before .before .loop .next) (c .before .found .given .0 .0) (sym (c .before .found .given .1) ∙ c .before .before .before .lot-at .ensures)
+
+count : (c : tie.After-stage Inv-loop μ-loop) → c .stage .result .count ≡ poolCount (c .before .before .args .body .now)
+count c = staged-count (c .before .before .args .body .now) (c .stage .result) (c .stage .ensures)
+
+stage-requires : tie.Need-stage-requires Inv-loop μ-loop
+stage-requires c κs = search needs
+
+loop-holds : tie.Need-loop-holds Inv-loop μ-loop
+loop-holds c =
+    let a = c .before .before .before .args in
+    (refl, refl, omega arith, omega arith, storing-none (a .message) (a .trade) (a .at) (a .body .now) (tableOf (a .numbers .now) (a .keys .now)))
+
+lot-at-requires : tie.Need-lot-at-requires Inv-loop μ-loop
+lot-at-requires c κs = search needs
+
+enum-known-found : tie.Need-enum-known-found Inv-loop μ-loop
+enum-known-found c = search needs
+
+add-next : tie.Need-add-next Inv-loop μ-loop
+add-next c = omega (arith, head (c .before) .ends, count-max (c .before .before .before .before .before .before .before .before .before .before .before .args .body .now))
+
+common-of-requires : tie.Need-common-of-requires Inv-loop μ-loop
+common-of-requires c κs = search needs
+
+sub-n : tie.Need-sub-n Inv-loop μ-loop
+sub-n c = omega (arith, head (c .before .before .before .before) .begins)
+
+put-pools-requires : tie.Need-put-pools-requires Inv-loop μ-loop
+put-pools-requires c κs =
+    let s = c .before .before .before .before .before .before .before .before .before .before .before .before .before .before .before .before .before in
+    let a = s .args in
+    let l = c .before .before .before .before .before .before .before .before .before .before .before .before .before .loop in
+    let h = head (c .before .before .before .before .before .before .before) in
+    let r = room (a .message) (a .trade) (a .at) (a .body .now) (tableOf (a .numbers .now) (a .keys .now)) (tableOf (l .numbers) (l .keys)) (l .place) (l .ordinal) (l .next) (l .inv .4) _ h (c .before .before .before .before .if2 .taken) _ (c .before .before .before .common-of .ensures) in
+    let n : l .place + (c .before .before .before .before .before .before .before .before .found .given .0 .0 .last + 1 - l .next) ≤ length (l .numbers) = omega (arith, r, s .pre .1, l .inv .0) in
+    (l .inv .1 ∙ s .pre .0 ∙ sym (l .inv .0), n, omega (arith, h .begins, h .ends), staged-faces (a .body .now) (c .before .before .before .before .before .before .before .before .before .before .before .before .before .before .before .stage .result) (c .before .before .before .before .before .before .before .before .before .before .before .before .before .before .before .stage .ensures))
+
+add-place : tie.Need-add-place Inv-loop μ-loop
+add-place c =
+    let s = c .before .before .before .before .before .before .before .before .before .before .before .before .before .before .before .before .before .before .before .before in
+    let a = s .args in
+    let l = c .before .before .before .before .before .before .before .before .before .before .before .before .before .before .before .before .loop in
+    let h = head (c .before .before .before .before .before .before .before .before .before .before) in
+    let r = room (a .message) (a .trade) (a .at) (a .body .now) (tableOf (a .numbers .now) (a .keys .now)) (tableOf (l .numbers) (l .keys)) (l .place) (l .ordinal) (l .next) (l .inv .4) _ h (c .before .before .before .before .before .before .before .if2 .taken) _ (c .before .before .before .before .before .before .common-of .ensures) in
+    omega (arith, r, s .pre .1, s .fits)
+
+add-ordinal : tie.Need-add-ordinal Inv-loop μ-loop
+add-ordinal c = omega (arith, c .before .before .before .before .before .before .before .before .before .before .before .before .before .before .before .before .loop .inv .2, c .before .before .before .before .before .before .before .before .before .before .before .before .before .before .before .before .loop .inv .3, count-max (c .before .before .before .before .before .before .before .before .before .before .before .before .before .before .before .before .before .before .before .before .args .body .now))
+
+loop-less : tie.Need-loop-less Inv-loop μ-loop
+loop-less c = omega (arith, head (c .before .before .before .before .before .before .before .before .before .before) .begins, head (c .before .before .before .before .before .before .before .before .before .before) .ends)
+
+loop-again : tie.Need-loop-again Inv-loop μ-loop
+loop-again c =
+    let a = c .before .before .before .before .before .before .before .before .before .before .before .before .before .before .before .before .before .before .before .before .args in
+    let l = c .before .before .before .before .before .before .before .before .before .before .before .before .before .before .before .before .loop in
+    let h = head (c .before .before .before .before .before .before .before .before .before .before) in
+    let m = c .before .before .put-pools in (
+      m .kept .0 ∙ l .inv .0,
+      m .kept .1 .0 ∙ l .inv .1,
+      omega (arith, h .ends),
+      omega (arith, l .inv .3, h .begins),
+      storing-new (a .message) (a .trade) (a .at) (a .body .now) (tableOf (a .numbers .now) (a .keys .now)) (tableOf (l .numbers) (l .keys)) (l .place) (l .ordinal) (l .next) (l .inv .4) _ h (c .before .before .before .before .before .before .before .if2 .taken) _ (c .before .before .before .before .before .before .common-of .ensures)
+          _ (m .ensures) (rw (length-table (l .numbers) (l .keys), l .inv .0) (c .before .before .before .before .before .before .before .before .before .before .before .before .before .before .before .before .before .before .before .before .pre .1)),
+    )
+
+loop-less-2 : tie.Need-loop-less-2 Inv-loop μ-loop
+loop-less-2 c = omega (arith, head (c .before .before .before) .begins, head (c .before .before .before) .ends)
+
+loop-again-2 : tie.Need-loop-again-2 Inv-loop μ-loop
+loop-again-2 c =
+    let a = c .before .before .before .before .before .before .before .before .before .before .before .before .before .args in
+    let l = c .before .before .before .before .before .before .before .before .before .loop in
+    let h = head (c .before .before .before) in (
+      l .inv .0,
+      l .inv .1,
+      omega (arith, h .ends),
+      omega (arith, l .inv .3, h .begins),
+      storing-canceled (a .message) (a .trade) (a .at) (a .body .now) (tableOf (a .numbers .now) (a .keys .now)) (tableOf (l .numbers) (l .keys)) (l .place) (l .ordinal) (l .next) (l .inv .4) _ h (c .if2 .left),
+    )
+
+enum-told : tie.Need-enum-told Inv-loop μ-loop
+enum-told c = search needs
+
+same-length : tie.Need-same-length Inv-loop μ-loop
+same-length c = search needs
+
+same-length-2 : tie.Need-same-length-2 Inv-loop μ-loop
+same-length-2 c = search needs
+
+returns : tie.Need-returns Inv-loop μ-loop
+returns c =
+    let a = c .before .before .before .before .before .before .before .before .before .args in
+    let l = c .before .before .before .before .before .loop in
+    let t₀ = tableOf (a .numbers .now) (a .keys .now) in
+    let t = tableOf (l .numbers) (l .keys) in
+    let e = no-lots (a .body .now) (l .next) (sym (c .enum-told .given .1) ∙ c .before .before .lot-at .ensures) in (
+      place-after (a .message) (a .trade) (a .at) (a .body .now) t₀ t (l .place) (l .ordinal) (l .next) (l .inv .4) e,
+      table-after (a .message) (a .trade) (a .at) (a .body .now) t₀ t (l .place) (l .ordinal) (l .next) (l .inv .4) e,
+    )
+
+same-length-3 : tie.Need-same-length-3 Inv-loop μ-loop
+same-length-3 c = search needs
+
+same-length-4 : tie.Need-same-length-4 Inv-loop μ-loop
+same-length-4 c = search needs
+
+returns-2 : tie.Need-returns-2 Inv-loop μ-loop
+returns-2 c =
+    let a = c .before .before .before .before .before .before .args in
+    let l = c .before .before .loop in
+    let t₀ = tableOf (a .numbers .now) (a .keys .now) in
+    let t = tableOf (l .numbers) (l .keys) in
+    let e = none-left (a .message) (a .trade) (a .at) (a .body .now) t₀ t (l .place) (l .ordinal) (l .next) (l .inv .4) (omega (arith, c .if1 .left, count (c .before .before .before .before))) in (
+      place-after (a .message) (a .trade) (a .at) (a .body .now) t₀ t (l .place) (l .ordinal) (l .next) (l .inv .4) e,
+      table-after (a .message) (a .trade) (a .at) (a .body .now) t₀ t (l .place) (l .ordinal) (l .next) (l .inv .4) e,
+    )
+
+pub put-lots-spec : {M : Type 1} → statement M
+put-lots-spec =
+    tie.close
+    (tie.spec
+    Inv-loop
+    μ-loop
+    stage-requires
+    loop-holds
+    lot-at-requires
+    enum-known-found
+    add-next
+    common-of-requires
+    sub-n
+    put-pools-requires
+    add-place
+    add-ordinal
+    loop-less
+    loop-again
+    loop-less-2
+    loop-again-2
+    enum-told
+    same-length
+    same-length-2
+    returns
+    same-length-3
+    same-length-4
+    returns-2)
