@@ -1,0 +1,53 @@
+// Moves the table for an accepted message: takes off what it lists, and brings its new lots.
+use tally::MessageType;
+ghost use mathlib.Core.Path.{_≡_};
+ghost use mathlib.Core.List.{_++_};
+ghost use Prim.Native.Nat.{_+_, _≤_};
+ghost use lib.ListN.{length, take};
+ghost use Rattle.lists.specs.Lists.{pasted};
+ghost use Rattle.book.specs.Checks.{onOrCc, ccOrDk};
+ghost use Rattle.table.specs.Rows.{tableOf};
+ghost use Rattle.moves.specs.Moves.{remaining, bringing, filled, Movable};
+
+fn brings_lots(kind: MessageType) -> bool
+    ensures { λ r. ⌜ r ≡ onOrCc kind ⌝ }
+{
+    match kind {
+        MessageType::On => true,
+        MessageType::Cc => true,
+        MessageType::Dk => false,
+        MessageType::Cx => false,
+        MessageType::Other => false,
+    }
+}
+
+fn lists_pools(kind: MessageType) -> bool
+    ensures { λ r. ⌜ r ≡ ccOrDk kind ⌝ }
+{
+    match kind {
+        MessageType::On => false,
+        MessageType::Cc => true,
+        MessageType::Dk => true,
+        MessageType::Cx => false,
+        MessageType::Other => false,
+    }
+}
+
+// Closes the table up over the records that a message takes off, and gives back how many are left.
+fn take_off(
+    numbers: &mut [[u64; 6]],
+    keys: &mut [[u8; 22]],
+    live: usize,
+    body: &[u8],
+    marks: &[u8],
+) -> usize
+    requires { ⌜ Movable (now body) (now numbers) (now keys) live (now marks) ⌝ }
+    ensures { λ r. ⌜ (r ≡ length (remaining (now (body .entry)) (take live (tableOf (now (numbers .entry)) (now (keys .entry))))))
+        × (tableOf (now (numbers .exit)) (now (keys .exit)) ≡ filled (length (now (numbers .entry))) (remaining (now (body .entry)) (take live (tableOf (now (numbers .entry)) (now (keys .entry)))))) ⌝ }
+{
+    let kind = header::message_type(body);
+    if lists_pools(kind) {
+        return table::close_up(&mut *numbers, &mut *keys, live, marks);
+    }
+    live
+}
