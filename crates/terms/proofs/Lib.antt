@@ -1,6 +1,3 @@
-pub mod Compared
-pub mod Named
 pub mod Agreeing
 pub mod Searching
 pub mod Weights
-pub mod Deciding

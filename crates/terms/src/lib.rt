@@ -1,64 +1,21 @@
-// Trades and their terms: whether a message's terms agree with a trade's, which trade its ID names, where an ON goes, and checks 31 and 32.
+// Trades' terms: whether a message's agree with them, with which trades they do, and what the message brings to one.
 use book::Trade;
 use book::Values;
 use fields::Field;
 use tally::MessageType;
-use trade_id::TradeId;
 ghost use mathlib.Core.Path.{_≡_};
 ghost use mathlib.Core.Bool.{_&&_};
 ghost use Prim.Native.Nat.{ℕ};
 ghost use lib.Dec.{leb};
 ghost use Rattle.lists.specs.Lists.{any};
-ghost use Rattle.trade_id.specs.declared.TradeId.the-variants.{Whole};
-ghost use Rattle.book.specs.Messages.{idIn};
-ghost use Rattle.book.specs.Trades.{
-  tradesOf,
-  sideOf,
-  isNumber,
-  priceIs,
-  agrees,
-  isNamedBy,
-  firstTrade,
-  broughtWeight,
-  tradeOfOn,
-  openPars,
-};
-ghost use Rattle.book.specs.Checks.{isOn, namedTrade, idFails, termsFail};
-ghost use Rattle.terms.specs.Reading.{statedOf, isBroken};
-
-// The most characters of a trade's ID.
-const ID_MAX: usize = 16;
+ghost use Rattle.book.specs.Trades.{tradesOf, sideOf, isNumber, priceIs, agrees, firstTrade, broughtWeight, openPars};
+ghost use Rattle.terms.specs.Reading.{statedOf};
 
 // What a message states of its terms: its type, and the two terms that are numbers.
 struct Stated {
     message: MessageType,
     settlement: Field,
     price: Field,
-}
-
-fn is_on(message: MessageType) -> bool
-    ensures { λ r. ⌜ r ≡ isOn message ⌝ }
-{
-    match message {
-        MessageType::On => true,
-        MessageType::Cc => false,
-        MessageType::Dk => false,
-        MessageType::Cx => false,
-        MessageType::Other => false,
-    }
-}
-
-fn is_broken(id: TradeId) -> bool
-    ensures { λ r. ⌜ r ≡ isBroken id ⌝ }
-{
-    match id {
-        TradeId::Whole {
-            place: _,
-            length: _,
-        } => false,
-        TradeId::Broken => true,
-        TradeId::Absent => false,
-    }
 }
 
 fn is_number(f: Field, k: u64) -> bool
@@ -128,41 +85,19 @@ fn agrees_as(body: &[u8], s: Stated, t: Trade) -> bool
         & (addressed & fields::same_part(body, layout::CUSIP.at, &cusip, 0, layout::CUSIP.width))
 }
 
-// Whether a whole ID in special instructions is a trade's.
-fn is_named_by(body: &[u8], place: usize, length: usize, t: Trade) -> bool
-    requires { ⌜ idIn (now body) ≡ Whole place length ⌝ }
-    ensures { λ r. ⌜ r ≡ isNamedBy (now (body .entry)) (Whole place length) t ⌝ }
+// Whether a message's terms agree with a trade's.
+pub fn agrees(body: &[u8], t: Trade) -> bool
+    ensures { λ r. ⌜ r ≡ agrees (now (body .entry)) t ⌝ }
 {
-    let id = t.id;
-    let n = header::lesser(t.length, ID_MAX);
-    if n != length {
-        return false;
-    }
-    fields::same_part(body, layout::SPECIAL.at + place, &id, 0, length)
-}
-
-// The first trade that has a whole ID, by index, or the number of trades.
-fn find_named(body: &[u8], v: Values, place: usize, length: usize) -> usize
-    requires { ⌜ idIn (now body) ≡ Whole place length ⌝ }
-    ensures { λ r. ⌜ r ≡ firstTrade (λ (t : Trade) (left : ℕ). isNamedBy (now (body .entry)) (Whole place length) t) 0 (tradesOf v) (openPars (tradesOf v)) ⌝ }
-{
-    let n = header::lesser(v.count, book::TRADES_MAX);
-    let mut i: usize = 0;
-    while i < n {
-        let t = v.trades[i];
-        if is_named_by(body, place, length, t) {
-            return i;
-        }
-        i += 1;
-    }
-    n
+    let s = read_terms(body);
+    agrees_as(body, s, t)
 }
 
 // The first trade whose terms agree and whose open par holds a weight, by index, or the number of trades.
-fn find_holding(body: &[u8], s: Stated, v: Values, weight: u64) -> usize
-    requires { ⌜ s ≡ statedOf (now body) ⌝ }
+pub fn find_holding(body: &[u8], v: Values, weight: u64) -> usize
     ensures { λ r. ⌜ r ≡ firstTrade (λ (t : Trade) (left : ℕ). agrees (now (body .entry)) t && leb weight left) 0 (tradesOf v) (openPars (tradesOf v)) ⌝ }
 {
+    let s = read_terms(body);
     let n = header::lesser(v.count, book::TRADES_MAX);
     let mut i: usize = 0;
     while i < n {
@@ -176,10 +111,10 @@ fn find_holding(body: &[u8], s: Stated, v: Values, weight: u64) -> usize
 }
 
 // Whether some trade's terms agree.
-fn some_agrees(body: &[u8], s: Stated, v: Values) -> bool
-    requires { ⌜ s ≡ statedOf (now body) ⌝ }
+pub fn some_agrees(body: &[u8], v: Values) -> bool
     ensures { λ r. ⌜ r ≡ any (agrees (now (body .entry))) (tradesOf v) ⌝ }
 {
+    let s = read_terms(body);
     let n = header::lesser(v.count, book::TRADES_MAX);
     let mut i: usize = 0;
     while i < n {
@@ -190,25 +125,6 @@ fn some_agrees(body: &[u8], s: Stated, v: Values) -> bool
         }
     }
     false
-}
-
-// Whether a message's terms agree with a trade's.
-pub fn agrees(body: &[u8], t: Trade) -> bool
-    ensures { λ r. ⌜ r ≡ agrees (now (body .entry)) t ⌝ }
-{
-    let s = read_terms(body);
-    agrees_as(body, s, t)
-}
-
-// The trade that a whole ID names, by index, or the number of trades.
-pub fn named_trade(body: &[u8], v: Values) -> usize
-    ensures { λ r. ⌜ r ≡ namedTrade (now (body .entry)) (tradesOf v) ⌝ }
-{
-    let id = header::trade_id_in(body);
-    let TradeId::Whole { place, length } = id else {
-        return header::lesser(v.count, book::TRADES_MAX);
-    };
-    find_named(body, v, place, length)
 }
 
 // What a message's new lots weigh: an ON's and a CC's.
@@ -223,57 +139,4 @@ pub fn brought_weight(body: &[u8]) -> u64
         MessageType::Cx => 0,
         MessageType::Other => 0,
     }
-}
-
-// The trade that an ON goes to, by index, or the number of trades.
-pub fn trade_of_on(body: &[u8], v: Values) -> usize
-    ensures { λ r. ⌜ r ≡ tradeOfOn (now (body .entry)) (tradesOf v) (openPars (tradesOf v)) ⌝ }
-{
-    let id = header::trade_id_in(body);
-    match id {
-        TradeId::Whole { place, length } => find_named(body, v, place, length),
-        TradeId::Broken => header::lesser(v.count, book::TRADES_MAX),
-        TradeId::Absent => find_holding(body, read_terms(body), v, brought_weight(body)),
-    }
-}
-
-// 31: a trade ID that is begun but not whole, or names no trade with agreeing terms, or another than a CC's or DK's target; on FSTI, none.
-pub fn id_fails(body: &[u8], v: Values, target: usize) -> bool
-    ensures { λ r. ⌜ r ≡ idFails (now (body .entry)) (tradesOf v) target (idIn (now (body .entry))) ⌝ }
-{
-    let id = header::trade_id_in(body);
-    let TradeId::Whole { place, length } = id else {
-        return is_broken(id) | header::is_stipulated(body);
-    };
-    let i = find_named(body, v, place, length);
-    let n = header::lesser(v.count, book::TRADES_MAX);
-    if n <= i {
-        return true;
-    }
-    let s = read_terms(body);
-    let message = s.message;
-    let t = v.trades[i];
-    let concerned = is_on(message) | (i == target);
-    !(agrees_as(body, s, t) & concerned)
-}
-
-// 32: without a trade ID, no trade's terms agree with an ON's, or the target's with a CC's or DK's.
-pub fn terms_fail(body: &[u8], v: Values, target: usize) -> bool
-    ensures { λ r. ⌜ r ≡ termsFail (now (body .entry)) (tradesOf v) target (idIn (now (body .entry))) ⌝ }
-{
-    let id = header::trade_id_in(body);
-    let TradeId::Absent = id else {
-        return false;
-    };
-    let s = read_terms(body);
-    let message = s.message;
-    if is_on(message) {
-        return !some_agrees(body, s, v);
-    }
-    let n = header::lesser(v.count, book::TRADES_MAX);
-    if n <= target {
-        return true;
-    }
-    let t = v.trades[target];
-    !agrees_as(body, s, t)
 }

@@ -3,10 +3,10 @@ use mathlib.Core.Path.{_≡_, sym, _∙_}
 use lib.ListN.{length, length-map}
 use borrow.Author.Needs.{needs}
 use Rattle.book.specs.Trades.{tradesOf}
 use Rattle.terms.proofs.Searching.{trade-count}
-use Rattle.terms.proofs.Deciding.{on-whole, on-broken, on-absent}
-use Rattle.terms.proofs.trade_of_on.Statement.{statement}
-use Rattle.terms.proofs.trade_of_on.Tie as tie
+use Rattle.trades.proofs.Deciding.{on-whole, on-broken, on-absent}
+use Rattle.trades.proofs.trade_of_on.Statement.{statement}
+use Rattle.trades.proofs.trade_of_on.Tie as tie
 
 sixty-four : (c : tie.Start) → length (c .args .v .trades) ≡ 64
 sixty-four c = sym (length-map (c .args .v .trades) _) ∙ c .good .1 .0 .1 .1 .0 .1 .0 .1
@@ -29,14 +29,11 @@ lesser-requires c κs = search needs
 enum-told-2 : tie.Need-enum-told-2
 enum-told-2 c = search needs
 
-read-terms-requires : tie.Need-read-terms-requires
-read-terms-requires c κs = search needs
-
 brought-weight-requires : tie.Need-brought-weight-requires
 brought-weight-requires c κs = search needs
 
 find-holding-requires : tie.Need-find-holding-requires
-find-holding-requires c κs = c .before .read-terms .ensures
+find-holding-requires c κs = search needs
 
 returns : tie.Need-returns
 returns c =
@@ -50,8 +47,8 @@ returns-2 c =
 
 returns-3 : tie.Need-returns-3
 returns-3 c =
-    let s = c .before .before .before .before .before .before .before in
-    c .find-holding .ensures ∙ on-absent (s .args .body .now) (tradesOf (s .args .v)) (sym (c .before .before .before .before .before .trade-id-in .ensures) ∙ c .before .before .before .enum-told2 .given .1) _ (c .before .brought-weight .ensures)
+    let s = c .before .before .before .before .before .before in
+    c .find-holding .ensures ∙ on-absent (s .args .body .now) (tradesOf (s .args .v)) (sym (c .before .before .before .before .trade-id-in .ensures) ∙ c .before .before .enum-told2 .given .1) _ (c .before .brought-weight .ensures)
 
 pub trade-of-on-spec : {M : Type 1} → statement M
 trade-of-on-spec =
@@ -63,7 +60,6 @@ trade-of-on-spec =
     enum-told
     lesser-requires
     enum-told-2
-    read-terms-requires
     brought-weight-requires
     find-holding-requires
     returns

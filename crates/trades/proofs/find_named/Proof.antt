@@ -7,9 +7,9 @@ use borrow.Author.Needs.{needs}
 use Rattle.trade_id.specs.declared.TradeId.the-variants.{Whole}
 use Rattle.book.specs.declared.Trade.{Trade}
 use Rattle.book.specs.Trades.{tradesOf, isNamedBy}
 use Rattle.terms.proofs.Searching.{trade-turn, trade-done, Left, left-none, left-found, left-more, left-done}
-use Rattle.terms.proofs.find_named.Statement.{statement}
-use Rattle.terms.proofs.find_named.Tie as tie
+use Rattle.trades.proofs.find_named.Statement.{statement}
+use Rattle.trades.proofs.find_named.Tie as tie
 
 abbrev Inv-loop : tie.InvT-loop
 Inv-loop body place length v n i₀ i = (i ≤ n) × Left (λ (t : Trade) (left : ℕ). isNamedBy body (Whole place length) t) (tradesOf v) i

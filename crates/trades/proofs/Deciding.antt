@@ -18,9 +18,9 @@ use Rattle.book.specs.declared.Trade.{Trade}
 use Rattle.book.specs.Messages.{typeOf, isStipulated, idIn}
 use Rattle.book.specs.Trades.{agrees, isNamedBy, firstTrade, mayTake, broughtWeight, tradeOfOn, openPars}
 use Rattle.book.specs.Checks.{noTrade, tradeAt, isOn, isWhole, namedTrade, namedFine, idFails, termsFail}
-use Rattle.terms.specs.Reading.{isBroken}
 use Rattle.terms.proofs.Agreeing.{agrees-none}
 use Rattle.terms.proofs.Searching.{none-passes}
+use Rattle.trades.specs.Broken.{isBroken}
 
 -- ---- an ID that is not whole, by its variant
 pub not-whole : (id : TradeId) → OneOf (1 ∷ 2 ∷ []) (tagOf the-type id) → isWhole id ≡ false

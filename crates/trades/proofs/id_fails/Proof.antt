@@ -5,11 +5,10 @@ use lib.ListN.{length, length-map}
 use borrow.Author.Needs.{needs}
 use Rattle.book.specs.Trades.{tradesOf}
 use Rattle.book.specs.Checks.{isOn, idFails}
-use Rattle.terms.specs.declared.Stated.{Stated}
 use Rattle.terms.proofs.Searching.{trade-count, trade-there}
-use Rattle.terms.proofs.Deciding.{not-whole, id-open, id-past, id-at}
-use Rattle.terms.proofs.id_fails.Statement.{statement}
-use Rattle.terms.proofs.id_fails.Tie as tie
+use Rattle.trades.proofs.Deciding.{not-whole, id-open, id-past, id-at}
+use Rattle.trades.proofs.id_fails.Statement.{statement}
+use Rattle.trades.proofs.id_fails.Tie as tie
 
 sixty-four : (c : tie.Start) → length (c .args .t2 .trades) ≡ 64
 sixty-four c = sym (length-map (c .args .t2 .trades) _) ∙ c .good .1 .0 .1 .1 .0 .1 .0 .1
@@ -46,8 +45,8 @@ returns-2 c =
     id-past (a .body .now) (tradesOf (a .t2)) (a .target) _ _ (sym (c .before .before .before .before .before .before .trade-id-in .ensures) ∙ c .before .before .before .before .id .given .1) _ (c .before .before .find-named .ensures)
     (omega (arith, trade-count (a .t2 .trades) (a .t2 .count) _ (sixty-four s) (c .before .lesser .ensures), c .if1 .taken))
 
-read-terms-requires : tie.Need-read-terms-requires
-read-terms-requires c κs = search needs
+message-type-requires : tie.Need-message-type-requires
+message-type-requires c κs = search needs
 
 mul-t : tie.Need-mul-t
 mul-t c = omega (arith, c .before .before .lesser .ensures)
@@ -58,8 +57,8 @@ element-copy-out-t c = omega (arith, c .before .before .lesser .ensures, sixty-f
 is-on-requires : tie.Need-is-on-requires
 is-on-requires c κs = search needs
 
-agrees-as-requires : tie.Need-agrees-as-requires
-agrees-as-requires c κs = c .before .before .read-terms .ensures
+agrees-requires : tie.Need-agrees-requires
+agrees-requires c κs = search needs
 
 returns-3 : tie.Need-returns-3
 returns-3 c =
@@ -67,8 +66,8 @@ returns-3 c =
     let a = s .args in
     id-at (a .body .now) (tradesOf (a .t2)) (a .target) _ _ (sym (c .before .before .before .before .before .before .before .before .before .before .trade-id-in .ensures) ∙ c .before .before .before .before .before .before .before .before .id .given .1) _ (c .before .before .before .before .before .before .find-named .ensures)
     (omega (arith, trade-count (a .t2 .trades) (a .t2 .count) _ (sixty-four s) (c .before .before .before .before .before .lesser .ensures), c .before .before .before .before .if1 .left)) _
-    (trade-there (a .t2 .trades) (a .t2 .count) _ (sixty-four s) (c .before .before .before .before .before .lesser .ensures) (c .before .before .before .before .before .before .find-named .result) (c .before .before .before .before .if1 .left)) _ _ (c .agrees-as .ensures)
-    (c .before .is-on .ensures ∙ ap (λ (u : Stated). isOn (u .message)) (c .before .before .before .read-terms .ensures))
+    (trade-there (a .t2 .trades) (a .t2 .count) _ (sixty-four s) (c .before .before .before .before .before .lesser .ensures) (c .before .before .before .before .before .before .find-named .result) (c .before .before .before .before .if1 .left)) _ _ (c .agrees .ensures)
+    (c .before .is-on .ensures ∙ ap isOn (c .before .before .before .message-type .ensures))
 
 pub id-fails-spec : {M : Type 1} → statement M
 id-fails-spec =
@@ -82,9 +81,9 @@ id-fails-spec =
     find-named-requires
     lesser-requires
     returns-2
-    read-terms-requires
+    message-type-requires
     mul-t
     element-copy-out-t
     is-on-requires
-    agrees-as-requires
+    agrees-requires
     returns-3)

@@ -19,7 +19,7 @@ use Rattle.book.specs.declared.Trade.{Trade}
 use Rattle.book.specs.Messages.{idIn}
 use Rattle.book.specs.Trades.{tradeName, isNamedBy}
 use Rattle.opening.proofs.Names.{same-unlike}
-use Rattle.terms.proofs.Compared.{part-most, part-end, part-part}
+use Rattle.trades.proofs.Compared.{part-most, part-end, part-part}
 
 -- the first n of a list, where n is the lesser of a length asked for and the list's own
 take-lesser : (xs : List ℕ) (k n : ℕ) → n ≡ min k (length xs) → take n xs ≡ take k xs

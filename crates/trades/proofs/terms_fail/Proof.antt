@@ -7,11 +7,10 @@ use borrow.Author.Needs.{needs}
 use Rattle.book.specs.Messages.{typeOf}
 use Rattle.book.specs.Trades.{tradesOf}
 use Rattle.book.specs.Checks.{isOn, termsFail}
-use Rattle.terms.specs.declared.Stated.{Stated}
 use Rattle.terms.proofs.Searching.{trade-count, trade-there}
-use Rattle.terms.proofs.Deciding.{terms-named, terms-on, terms-past, terms-at}
-use Rattle.terms.proofs.terms_fail.Statement.{statement}
-use Rattle.terms.proofs.terms_fail.Tie as tie
+use Rattle.trades.proofs.Deciding.{terms-named, terms-on, terms-past, terms-at}
+use Rattle.trades.proofs.terms_fail.Statement.{statement}
+use Rattle.trades.proofs.terms_fail.Tie as tie
 
 sixty-four : (c : tie.Start) → length (c .args .t2 .trades) ≡ 64
 sixty-four c = sym (length-map (c .args .t2 .trades) _) ∙ c .good .1 .0 .1 .1 .0 .1 .0 .1
@@ -27,19 +26,19 @@ returns c =
     let a = c .before .before .before .args in
     terms-named (a .body .now) (tradesOf (a .t2)) (a .target) (c .before .trade-id-in .result) (c .match .keys2) ∙ ap (termsFail (a .body .now) (tradesOf (a .t2)) (a .target)) (c .before .trade-id-in .ensures)
 
-read-terms-requires : tie.Need-read-terms-requires
-read-terms-requires c κs = search needs
+message-type-requires : tie.Need-message-type-requires
+message-type-requires c κs = search needs
 
 is-on-requires : tie.Need-is-on-requires
 is-on-requires c κs = search needs
 
 some-agrees-requires : tie.Need-some-agrees-requires
-some-agrees-requires c κs = c .before .before .read-terms .ensures
+some-agrees-requires c κs = search needs
 
 returns-2 : tie.Need-returns-2
 returns-2 c =
     let a = c .before .before .before .before .before .before .before .before .args in
-    let on : isOn (typeOf (a .body .now)) ≡ true = sym (c .before .before .is-on .ensures ∙ ap (λ (s : Stated). isOn (s .message)) (c .before .before .before .read-terms .ensures)) ∙ c .before .if1 .taken in
+    let on : isOn (typeOf (a .body .now)) ≡ true = sym (c .before .before .is-on .ensures ∙ ap isOn (c .before .before .before .message-type .ensures)) ∙ c .before .if1 .taken in
     terms-on (a .body .now) (tradesOf (a .t2)) (a .target) (sym (c .before .before .before .before .before .before .trade-id-in .ensures) ∙ c .before .before .before .before .enum-told .given .1) on _ (c .some-agrees .ensures)
 
 lesser-requires : tie.Need-lesser-requires
@@ -49,7 +48,7 @@ returns-3 : tie.Need-returns-3
 returns-3 c =
     let s = c .before .before .before .before .before .before .before .before .before in
     let a = s .args in
-    let on : isOn (typeOf (a .body .now)) ≡ false = sym (c .before .before .before .is-on .ensures ∙ ap (λ (s : Stated). isOn (s .message)) (c .before .before .before .before .read-terms .ensures)) ∙ c .before .before .if1 .left in
+    let on : isOn (typeOf (a .body .now)) ≡ false = sym (c .before .before .before .is-on .ensures ∙ ap isOn (c .before .before .before .before .message-type .ensures)) ∙ c .before .before .if1 .left in
     terms-past (a .body .now) (tradesOf (a .t2)) (a .target) (sym (c .before .before .before .before .before .before .before .trade-id-in .ensures) ∙ c .before .before .before .before .before .enum-told .given .1) on
     (omega (arith, trade-count (a .t2 .trades) (a .t2 .count) _ (sixty-four s) (c .before .lesser .ensures), c .if2 .taken))
 
@@ -59,16 +58,16 @@ mul-t c = omega (arith, c .before .lesser .ensures)
 element-copy-out-t : tie.Need-element-copy-out-t
 element-copy-out-t c = omega (arith, c .before .lesser .ensures, sixty-four (c .before .before .before .before .before .before .before .before .before))
 
-agrees-as-requires : tie.Need-agrees-as-requires
-agrees-as-requires c κs = c .before .before .before .before .before .read-terms .ensures
+agrees-requires : tie.Need-agrees-requires
+agrees-requires c κs = search needs
 
 returns-4 : tie.Need-returns-4
 returns-4 c =
     let s = c .before .before .before .before .before .before .before .before .before .before .before in
     let a = s .args in
-    let on : isOn (typeOf (a .body .now)) ≡ false = sym (c .before .before .before .before .before .is-on .ensures ∙ ap (λ (s : Stated). isOn (s .message)) (c .before .before .before .before .before .before .read-terms .ensures)) ∙ c .before .before .before .before .if1 .left in
+    let on : isOn (typeOf (a .body .now)) ≡ false = sym (c .before .before .before .before .before .is-on .ensures ∙ ap isOn (c .before .before .before .before .before .before .message-type .ensures)) ∙ c .before .before .before .before .if1 .left in
     terms-at (a .body .now) (tradesOf (a .t2)) (a .target) (sym (c .before .before .before .before .before .before .before .before .before .trade-id-in .ensures) ∙ c .before .before .before .before .before .before .before .enum-told .given .1) on _
-    (trade-there (a .t2 .trades) (a .t2 .count) _ (sixty-four s) (c .before .before .before .lesser .ensures) (a .target) (c .before .before .if2 .left)) _ (c .agrees-as .ensures)
+    (trade-there (a .t2 .trades) (a .t2 .count) _ (sixty-four s) (c .before .before .before .lesser .ensures) (a .target) (c .before .before .if2 .left)) _ (c .agrees .ensures)
 
 pub terms-fail-spec : {M : Type 1} → statement M
 terms-fail-spec =
@@ -77,7 +76,7 @@ terms-fail-spec =
     trade-id-in-requires
     enum-told
     returns
-    read-terms-requires
+    message-type-requires
     is-on-requires
     some-agrees-requires
     returns-2
@@ -85,5 +84,5 @@ terms-fail-spec =
     returns-3
     mul-t
     element-copy-out-t
-    agrees-as-requires
+    agrees-requires
     returns-4)

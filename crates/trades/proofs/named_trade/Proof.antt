@@ -3,10 +3,10 @@ use mathlib.Core.Path.{_≡_, sym, _∙_}
 use lib.ListN.{length, length-map}
 use borrow.Author.Needs.{needs}
 use Rattle.book.specs.Trades.{tradesOf}
 use Rattle.terms.proofs.Searching.{trade-count}
-use Rattle.terms.proofs.Deciding.{not-whole, named-none, named-whole}
-use Rattle.terms.proofs.named_trade.Statement.{statement}
-use Rattle.terms.proofs.named_trade.Tie as tie
+use Rattle.trades.proofs.Deciding.{not-whole, named-none, named-whole}
+use Rattle.trades.proofs.named_trade.Statement.{statement}
+use Rattle.trades.proofs.named_trade.Tie as tie
 
 sixty-four : (c : tie.Start) → length (c .args .v .trades) ≡ 64
 sixty-four c = sym (length-map (c .args .v .trades) _) ∙ c .good .1 .0 .1 .1 .0 .1 .0 .1

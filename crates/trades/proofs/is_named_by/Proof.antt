@@ -3,9 +3,9 @@ use mathlib.Core.Path.{_≡_, sym, _∙_}
 use native.Mathlib.Omega.{arith}
 use lib.ListN.{length, length-map}
 use borrow.Author.Needs.{needs}
-use Rattle.terms.proofs.Named.{id-inside, named-unlike, named-is}
-use Rattle.terms.proofs.is_named_by.Statement.{statement}
-use Rattle.terms.proofs.is_named_by.Tie as tie
+use Rattle.trades.proofs.Named.{id-inside, named-unlike, named-is}
+use Rattle.trades.proofs.is_named_by.Statement.{statement}
+use Rattle.trades.proofs.is_named_by.Tie as tie
 
 sixteen : (c : tie.Start) → length (c .args .t .id) ≡ 16
 sixteen c = sym (length-map (c .args .t .id) _) ∙ c .good .1 .1 .1 .0 .1 .1 .0 .1 .0 .1

@@ -1,0 +1,3 @@
+pub mod Compared
+pub mod Named
+pub mod Deciding
