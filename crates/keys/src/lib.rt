@@ -92,8 +92,8 @@ fn pair(a: u8, b: u8) -> u64
 }
 
 // The eight bytes from at as one number.
-fn word(key: &[u8; 22], at: usize) -> u64
-    requires { ⌜ at + 8 ≤ keyWidth ⌝ }
+fn word(key: &[u8], at: usize) -> u64
+    requires { ⌜ (length (now key) ≡ keyWidth) × (at + 8 ≤ keyWidth) ⌝ }
     ensures { λ r. ⌜ r ≡ wordAt (now (key .entry)) at ⌝ }
 {
     let a = pair(key[at], key[at + 1]);
@@ -103,9 +103,9 @@ fn word(key: &[u8; 22], at: usize) -> u64
     a + b * 65536 + c * 4294967296 + d * 281474976710656
 }
 
-// The bucket of a row: rows that differ in a few digits seldom share one.
+// The bucket of a row: rows that differ in a few digits seldom share one. That a row has its width is told to callers who find it in a slice of rows.
 pub fn bucket(key: &[u8; 22]) -> usize
-    ensures { λ r. ⌜ (r ≡ bucketOf (now (key .entry))) × (r < bucketCount) ⌝ }
+    ensures { λ r. ⌜ (r ≡ bucketOf (now (key .entry))) × (r < bucketCount) × (length (now (key .entry)) ≡ keyWidth) ⌝ }
 {
     let n = (word(key, 0) % 4093 + word(key, 8) % 4091 + word(key, 14) % 4079) % 4096;
     n as usize

@@ -20,7 +20,7 @@ add-n-2 : tie.Need-add-n-2
 add-n-2 c = search needs
 
 returns : tie.Need-returns
-returns c = bucket-words (c .before .before .before .args .key .now) _ _ _ (c .before .before .word .ensures) (c .before .word2 .ensures) (c .word3 .ensures)
+returns c = bucket-words (c .before .before .before .before .before .before .args .key .now) _ _ _ (c .before .before .before .before .word .ensures) (c .before .before .word2 .ensures) (c .word3 .ensures) (search needs)
 
 pub bucket-spec : {M : Type 1} → statement M
 bucket-spec =
