@@ -1,5 +1,5 @@
 -- Tests over a table by its places: whether some element passes, and whether a test fails for each element with each later one.
-use mathlib.Core.Path.{_≡_, refl, sym, ap, _∙_}
+use mathlib.Core.Path.{_≡_, refl, ap, _∙_}
 use mathlib.Core.List.{List, [], _∷_}
 use mathlib.Core.Bool.{Bool, true, false, not, _&&_, _||_, false≢true, and-false}
 use Prim.Native.Nat.{ℕ, zero, suc, _+_, _≤_, _<_}

@@ -20,10 +20,10 @@ use Rattle.once.proofs.Pairs.{some-of, place-of, apart, apart-all, apar
 use Rattle.once.proofs.Runs.{Rising, rises, Run, run-none, runOf, run-more, run-same, run-lower}
 
 -- whether two records have one message ID and the same matched fields
-abbrev twins : Pool → Pool → Bool
+abbrev pub twins : Pool → Pool → Bool
 twins r s = eqb (r .message) (s .message) && sameFields (liveFields r) (liveFields s)
 
-once-apart : (rs : List Pool) → fieldsOnce rs ≡ apart twins rs
+pub once-apart : (rs : List Pool) → fieldsOnce rs ≡ apart twins rs
 once-apart [] = refl
 once-apart (r ∷ rs) = ap (λ (b : Bool). not (any (twins r) rs) && b) (once-apart rs)
 

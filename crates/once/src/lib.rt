@@ -1,14 +1,19 @@
 // Whether matched fields stand once: the live records' under each message ID (a part of 42), and those of a message's new pools (36).
+use layout::Detail;
 ghost use mathlib.Core.Path.{_≡_};
-ghost use mathlib.Core.Bool.{true, cond};
+ghost use mathlib.Core.List.{map};
+ghost use mathlib.Core.Bool.{true, not, cond};
 ghost use Prim.Native.Nat.{_-_, _≤_, _<_};
 ghost use lib.ListN.{length, take};
 ghost use lib.Dec.{eqb};
 ghost use Rattle.lists.specs.Lists.{same, any, tab};
+ghost use Rattle.layout.specs.Details.{details, poolsMax};
+ghost use Rattle.faces.specs.Faces.{isNew, newPools};
+ghost use Rattle.book.specs.Records.{fieldsOf, distinct};
 ghost use Rattle.book.specs.Opening.{recordsMax};
 ghost use Rattle.book.specs.Soundness.{inOrder, fieldsOnce};
 ghost use Rattle.table.specs.Rows.{numberAt, keyAt, tableOf};
-ghost use Rattle.keys.specs.Keys.{bucketOf};
+ghost use Rattle.keys.specs.Keys.{keyOf, bucketOf};
 ghost use Rattle.once.specs.Seen.{LastIn, Linked};
 
 fn wide(x: u32) -> usize
@@ -73,4 +78,40 @@ pub fn fields_once(numbers: &[[u64; 6]], keys: &[[u8; 22]], live: usize) -> bool
         seen[b] = narrow(i);
     }
     true
+}
+
+fn is_new(d: Detail) -> bool
+    ensures { λ r. ⌜ r ≡ isNew d ⌝ }
+{
+    let bytes = d.terminator;
+    bytes[0] != terminator::CANCELED
+}
+
+// Writes the rows of a message's new pools from the front, and gives their number.
+fn put_rows(body: &[u8], rows: &mut [[u8; 22]]) -> usize
+    requires { ⌜ length (now rows) ≡ poolsMax ⌝ }
+    ensures { λ r. ⌜ (length (now (rows .exit)) ≡ poolsMax) × (r ≡ length (newPools (details (now (body .entry))))) × (take r (now (rows .exit)) ≡ map keyOf (newPools (details (now (body .entry))))) × (r ≤ poolsMax) ⌝ }
+{
+    let n = layout::pool_count(body);
+    let mut w: usize = 0;
+    let mut i: usize = 0;
+    while i < n {
+        let d = layout::pool_at(body, i);
+        i += 1;
+        if is_new(d) {
+            rows[w] = keys::key_of(d);
+            w += 1;
+        }
+    }
+    w
+}
+
+// 36: whether a message's new pools have matched fields twice. Their rows are a table whose records are all of one message.
+pub fn repeated(body: &[u8]) -> bool
+    ensures { λ r. ⌜ r ≡ not (distinct (map fieldsOf (newPools (details (now (body .entry)))))) ⌝ }
+{
+    let numbers = [[0u64; 6]; layout::POOLS_MAX];
+    let mut rows = [[0u8; 22]; layout::POOLS_MAX];
+    let n = put_rows(body, &mut rows);
+    !fields_once(&numbers, &rows, n)
 }
