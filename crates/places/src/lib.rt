@@ -1,0 +1,73 @@
+// Where the target's records stand in the table, where each listed pool stands among them, and what marked records weigh.
+use fields::Field;
+ghost use mathlib.Core.Path.{_≡_};
+ghost use mathlib.Core.List.{List};
+ghost use Prim.Native.Nat.{ℕ, _+_, _-_, _≤_, _<_};
+ghost use lib.ListN.{length, take, getD};
+ghost use Rattle.lists.specs.Lists.{tab};
+ghost use Rattle.fields.specs.declared.Field.the-variants.{Number};
+ghost use Rattle.book.specs.Records.{weightOfRecords};
+ghost use Rattle.book.specs.Messages.{targetOf, under};
+ghost use Rattle.table.specs.Rows.{numberAt, recordAt, tableOf};
+ghost use Rattle.places.specs.Runs.{ahead, leading, runOf};
+ghost use Rattle.places.specs.Marks.{marked, rowShare};
+
+// The rows from start up to stop.
+pub struct Run {
+    pub start: usize,
+    pub stop: usize,
+}
+
+// The first live row under a message ID, or the number of live rows.
+fn first_under(numbers: &[[u64; 6]], live: usize, id: u64) -> usize
+    requires { ⌜ live ≤ length (now numbers) ⌝ }
+    ensures { λ r. ⌜ ((ks : List (List ℕ)) → r ≡ ahead (under (Number id)) (tab (recordAt (now (numbers .entry)) ks) live 0)) ⌝ }
+{
+    let mut i: usize = 0;
+    while i < live {
+        let row = numbers[i];
+        if row[table::MESSAGE] == id {
+            return i;
+        }
+        i += 1;
+    }
+    live
+}
+
+// From a row on, the first live row that is not under a message ID, or the number of live rows.
+fn first_other(numbers: &[[u64; 6]], from: usize, live: usize, id: u64) -> usize
+    requires { ⌜ (from ≤ live) × (live ≤ length (now numbers)) ⌝ }
+    ensures { λ r. ⌜ ((ks : List (List ℕ)) → r ≡ from + leading (under (Number id)) (tab (recordAt (now (numbers .entry)) ks) (live - from) from)) ⌝ }
+{
+    let mut i = from;
+    while i < live {
+        let row = numbers[i];
+        if row[table::MESSAGE] != id {
+            return i;
+        }
+        i += 1;
+    }
+    live
+}
+
+// Where the target's records stand among the live ones.
+pub fn target_run(numbers: &[[u64; 6]], live: usize, body: &[u8]) -> Run
+    requires { ⌜ live ≤ length (now numbers) ⌝ }
+    ensures { λ r. ⌜ ((ks : List (List ℕ)) → r ≡ runOf (targetOf (now (body .entry))) (take live (tableOf (now (numbers .entry)) ks))) ⌝ }
+{
+    let f = layout::number_in(body, layout::TARGET);
+    match f {
+        Field::Number(id) => {
+            let start = first_under(numbers, live, id);
+            let stop = first_other(numbers, start, live, id);
+            Run {
+                start: start,
+                stop: stop,
+            }
+        }
+        Field::NotDigits => Run {
+            start: live,
+            stop: live,
+        },
+    }
+}
