@@ -1,2 +1,3 @@
 pub mod Running
 pub mod Ascending
+pub mod Weighing

@@ -10,7 +10,10 @@ ghost use Rattle.book.specs.Records.{weightOfRecords};
 ghost use Rattle.book.specs.Messages.{targetOf, under};
 ghost use Rattle.table.specs.Rows.{numberAt, recordAt, tableOf};
 ghost use Rattle.places.specs.Runs.{ahead, leading, runOf};
-ghost use Rattle.places.specs.Marks.{marked, rowShare};
+ghost use Rattle.places.specs.Marks.{marked, rowShare, Weighable};
+
+// A good lot, as a record has it.
+const GOOD: u64 = 1;
 
 // The rows from start up to stop.
 pub struct Run {
@@ -70,4 +73,41 @@ pub fn target_run(numbers: &[[u64; 6]], live: usize, body: &[u8]) -> Run
             stop: live,
         },
     }
+}
+
+// What a record adds to the weight of its lot, given whether it begins the lot.
+fn row_share(row: [u64; 6], begins: bool) -> u64
+    requires { ⌜ getD row 5 0 ≤ 99 ⌝ }
+    ensures { λ r. ⌜ r ≡ rowShare begins row ⌝ }
+{
+    if row[table::KIND] != GOOD {
+        return row[table::CURRENT];
+    }
+    if begins {
+        return row[table::MILLIONS] * terminator::MILLION_CENTS;
+    }
+    0
+}
+
+// What the lots of the marked live records weigh, in cents.
+pub fn weight_of_marked(numbers: &[[u64; 6]], marks: &[u8], live: usize) -> u64
+    requires { ⌜ Weighable (now numbers) (now marks) live ⌝ }
+    ensures { λ r. ⌜ ((ks : List (List ℕ)) → r ≡ weightOfRecords (marked (now (marks .entry)) (take live (tableOf (now (numbers .entry)) ks)))) ⌝ }
+{
+    let mut sum: u64 = 0;
+    let mut message: u64 = 0;
+    let mut ordinal: u64 = 0;
+    let mut i: usize = 0;
+    while i < live {
+        let row = numbers[i];
+        let mark = marks[i];
+        i += 1;
+        if mark != 0 {
+            let begins = !((row[table::MESSAGE] == message) & (row[table::ORDINAL] == ordinal));
+            sum += row_share(row, begins);
+            message = row[table::MESSAGE];
+            ordinal = row[table::ORDINAL];
+        }
+    }
+    sum
 }
