@@ -67,7 +67,7 @@ module _ {A : Type 0} (p : A → Bool) where
       go false e below j l = absurd (omega arith)
 
   -- no element before it does
-  ahead-fail : (d : A) (xs : List A) (i : ℕ) → i < ahead p xs → p (getD xs i d) ≡ false
+  pub ahead-fail : (d : A) (xs : List A) (i : ℕ) → i < ahead p xs → p (getD xs i d) ≡ false
   ahead-fail d [] i h = absurd (omega arith)
   ahead-fail d (x ∷ xs) i h = go (p x) refl (ahead-fail d xs) i h
     where
