@@ -1,0 +1,4 @@
+pub mod Rows
+pub mod Chained
+pub mod Zeros
+pub mod Weighed
