@@ -1,11 +1,11 @@
 -- The live records in one pass: each by itself and after the one before it, where zeros stand before the first.
 use mathlib.Core.Path.{_≡_, refl, sym, ap, _∙_}
 use mathlib.Core.List.{List, [], _∷_}
-use mathlib.Core.Bool.{Bool, true, false, not, _&&_, _||_}
+use mathlib.Core.Bool.{Bool, true, false, not, _&&_}
 use Prim.Native.Nat.{ℕ, _+_, _-_, _≤_, _<_}
 use native.Mathlib.Omega.{arith}
 use lib.ListN.{length, getD, take, replicate}
-use lib.Dec.{eqb, leb, ltb}
+use lib.Dec.{leb, ltb}
 use borrow.Author.Tests.{not-true, not-false, leb-true, lt-ltb}
 use Rattle.lists.specs.Lists.{tab, all}
 use Rattle.lists.proofs.Tables.{tab-turn, tab-end, tab-all}
@@ -59,9 +59,6 @@ module _ (v : Values) where
       go false e = refl
 
 module _ (count last : ℕ) (ns : List (List ℕ)) (live : ℕ) where
-  v : Values
-  v = against count last
-
   abbrev pub Chained : List ℕ → ℕ → Type 0
   Chained row i = (ks : List (List ℕ)) → chained (against count last) (recordOf row []) (tab (recordAt ns ks) (live - i) i) ≡ chained (against count last) (recordOf (replicate 6 0) []) (tab (recordAt ns ks) live 0)
 

@@ -1,6 +1,6 @@
 -- Each trade's open par against its weight, one trade after another.
-use mathlib.Core.Path.{_≡_, refl, sym, ap, _∙_}
-use mathlib.Core.List.{List, [], _∷_}
+use mathlib.Core.Path.{_≡_, sym, ap, _∙_}
+use mathlib.Core.List.{List}
 use mathlib.Core.Bool.{Bool, true, false, _&&_}
 use Prim.Native.Nat.{ℕ, _+_, _-_, _≤_, _<_}
 use native.Mathlib.Omega.{arith}
@@ -9,7 +9,6 @@ use lib.Dec.{eqb}
 use borrow.Author.Tests.{eq-eqb, ne-eqb}
 use Rattle.opening.proofs.Looking.{first-turn, first-done}
 use Rattle.book.specs.declared.Trade.{Trade}
-use Rattle.book.specs.declared.Pool.{Pool}
 use Rattle.book.specs.Opening.{tradesMax}
 use Rattle.book.specs.Checks.{noTrade}
 use Rattle.book.specs.Records.{tradeWeight}

@@ -1,6 +1,6 @@
 -- The live records of a table and what stands after them, as lists made by a function of the index; a test of every element, one after another.
-use mathlib.Core.Path.{_≡_, refl, sym, ap, _∙_}
-use mathlib.Core.List.{List, [], _∷_}
+use mathlib.Core.Path.{_≡_, sym, ap, _∙_}
+use mathlib.Core.List.{List}
 use mathlib.Core.Bool.{Bool, true, false}
 use Prim.Native.Nat.{ℕ, zero, suc, _+_, _-_, _≤_, _<_}
 use native.Mathlib.Omega.{arith}
@@ -8,7 +8,6 @@ use lib.ListN.{length, take, drop}
 use Rattle.lists.specs.Lists.{tab, all}
 use Rattle.lists.proofs.Tables.{length-tab, take-tab, drop-tab, tab-turn, tab-end}
 use Rattle.lists.proofs.Tests.{and-left, and-right}
-use Rattle.book.specs.declared.Pool.{Pool}
 use Rattle.table.specs.Rows.{recordAt, tableOf}
 
 module _ (ns ks : List (List ℕ)) where

@@ -1,6 +1,6 @@
 -- The trades' weights in one pass: each record's share goes to its trade's cell, and no cell grows past what 4,096 faces can sum to.
 use mathlib.Core.Path.{_≡_, refl, sym, ap, _∙_}
-use mathlib.Core.List.{List, [], _∷_}
+use mathlib.Core.List.{List, []}
 use mathlib.Core.Bool.{Bool, true, false, cond, not, _&&_}
 use Prim.Native.Nat.{ℕ, zero, suc, _+_, _-_, _*_, _≤_, _<_}
 use native.Mathlib.Omega.{arith}
@@ -66,9 +66,6 @@ module _ (ns : List (List ℕ)) (live : ℕ) where
 
   module _ (light : Light ns live) (few : live ≤ recordsMax) (sums : List ℕ) (message ordinal i : ℕ) (inv : Weighed sums message ordinal i) (h : i < live) (added : ℕ)
       (e : (key : List ℕ) → added ≡ weightShare (not (eqb (numberAt ns i 0) message && eqb (numberAt ns i 1) ordinal)) (recordOf (getD ns i []) key)) where
-    rest : (ks : List (List ℕ)) (t : ℕ) → ℕ
-    rest ks t = runSum (shareOf t weightShare) (numberAt ns i 0) (numberAt ns i 1) (tab (recordAt ns ks) (live - (i + 1)) (i + 1))
-
     turn : (ks : List (List ℕ)) (t : ℕ) → t < tradesMax
         → getD sums t 0 + (cond (eqb (numberAt ns i 2) t) added 0 + runSum (shareOf t weightShare) (numberAt ns i 0) (numberAt ns i 1) (tab (recordAt ns ks) (live - (i + 1)) (i + 1)))
         ≡ runSum (shareOf t weightShare) 0 0 (tab (recordAt ns ks) live 0)
@@ -85,9 +82,6 @@ module _ (ns : List (List ℕ)) (live : ℕ) where
     pub weighed-more : length sums ≡ tradesMax → Weighed (set sums (numberAt ns i 2) (getD sums (numberAt ns i 2) 0 + added)) (numberAt ns i 0) (numberAt ns i 1) (i + 1)
     weighed-more l ks t k = go (eqb (numberAt ns i 2) t) refl
       where
-        cell : ℕ
-        cell = getD sums (numberAt ns i 2) 0 + added
-
         go : (b : Bool) → eqb (numberAt ns i 2) t ≡ b
             → getD (set sums (numberAt ns i 2) (getD sums (numberAt ns i 2) 0 + added)) t 0 + runSum (shareOf t weightShare) (numberAt ns i 0) (numberAt ns i 1) (tab (recordAt ns ks) (live - (i + 1)) (i + 1))
             ≡ runSum (shareOf t weightShare) 0 0 (tab (recordAt ns ks) live 0)

@@ -1,13 +1,13 @@
 -- The facts of number 42 in their order: the first that fails decides, and where all before it hold, the rest does.
 use mathlib.Core.Path.{_≡_, refl, sym, ap, _∙_}
 use mathlib.Core.List.{List}
-use mathlib.Core.Bool.{Bool, true, false, not, _&&_, _||_, and-false}
+use mathlib.Core.Bool.{Bool, true, false, not, _&&_, _||_}
 use Prim.Native.Nat.{ℕ, _+_, _≤_, _<_}
 use native.Mathlib.Omega.{arith}
 use lib.ListN.{length, take, drop}
 use lib.Dec.{eqb, leb, ltb}
 use borrow.Author.Tests.{eq-eqb, ne-eqb, eqb-true, le-leb, lt-leb, leb-true, ltb-true, not-true, not-false}
-use Rattle.lists.specs.Lists.{tab, all}
+use Rattle.lists.specs.Lists.{all}
 use Rattle.lists.proofs.Tests.{and-left, and-right}
 use Rattle.sequence.specs.Sequence.{soundLine}
 use Rattle.book.specs.declared.Pool.{Pool}

@@ -1,13 +1,13 @@
 -- A row that is zeros: its bytes one by one against the parts that a record has of them.
-use mathlib.Core.Path.{_≡_, refl, sym, ap, _∙_}
-use mathlib.Core.List.{List, [], _∷_}
+use mathlib.Core.Path.{_≡_, refl, ap, _∙_}
+use mathlib.Core.List.{List, _∷_}
 use mathlib.Core.Bool.{Bool, true, false, _&&_}
 use Prim.Native.Nat.{ℕ, zero, suc, _+_, _≤_}
 use native.Mathlib.Numerals.{add-one}
 use native.Mathlib.Omega.{arith}
-use lib.ListN.{length, getD, replicate}
+use lib.ListN.{length, getD}
 use lib.Dec.{eqb}
-use Rattle.lists.specs.Lists.{part, tab, same}
+use Rattle.lists.specs.Lists.{part, tab}
 use Rattle.lists.proofs.Parts.{part-zero, part-cons}
 use Rattle.book.specs.Soundness.{isNone}
 use Rattle.soundness.specs.Parts.{recordOf}
@@ -23,9 +23,6 @@ and-true true = refl
 and-true false = refl
 
 module _ (row key : List ℕ) (h : length key ≡ 22) where
-  zero-at : ℕ → Bool
-  zero-at i = eqb (getD key i 0) 0
-
   pub none-is :
       (eqb (getD row 0 0) 0
       && (eqb (getD row 1 0) 0

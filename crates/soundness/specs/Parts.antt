@@ -4,7 +4,6 @@ use mathlib.Core.List.{List, []}
 use lib.ListN.{getD}
 use Rattle.lists.specs.Lists.{part}
 use Rattle.sequence.specs.Sequence.{outbound}
-use Rattle.book.specs.declared.Limits.{Limits}
 use Rattle.book.specs.declared.Values.{Values}
 use Rattle.book.specs.declared.Pool.{Pool}
 use Rattle.book.specs.Opening.{tradesMax, elevenDigitsMax}

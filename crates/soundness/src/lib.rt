@@ -1,6 +1,5 @@
 // Decides number 42: whether a lent book and its table can have come about by the engine's own calls.
 use book::Book;
-use book::Trade;
 use book::Values;
 ghost use mathlib.Core.Path.{_≡_};
 ghost use mathlib.Core.List.{List};

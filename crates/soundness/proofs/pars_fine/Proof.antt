@@ -1,15 +1,12 @@
+-- The loop's invariant: whether the trades from i on have their open par is still the answer.
 use mathlib.Core.Path.{_≡_, refl, sym, _∙_}
 use Prim.Native.Nat.{_≤_, _-_}
 use native.Mathlib.Omega.{arith}
 use lib.ListN.{length, length-map}
 use Rattle.book.specs.Opening.{tradesMax}
 use Rattle.soundness.proofs.Pars.{Pars, pars-done, pars-heavy, pars-other, pars-more}
-use borrow.Author.Needs.{needs}
-use Rattle.soundness.proofs.pars_fine.Statement.{statement}
 use Rattle.soundness.proofs.pars_fine.Tie as tie
-use Rattle.soundness.proofs.pars_fine.Reads as reads
-use Rattle.soundness.proofs.pars_fine.Lts as lts
-use Rattle.soundness.proofs.weights.Reads as weights-reads
+use Rattle.soundness.proofs.pars_fine.Statement.{statement}
 
 abbrev Inv-loop : tie.InvT-loop
 Inv-loop numbers live count trades sums i₀ i = (i ≤ count) × Pars trades count numbers live i
@@ -20,60 +17,48 @@ abbrev μ-loop : tie.MeasureT-loop
 sixty-four : (c : tie.Start Inv-loop μ-loop) → length (c .args .v .trades) ≡ tradesMax
 sixty-four c = sym (length-map (c .args .v .trades) _) ∙ c .good .0 .1 .1 .0 .1 .0 .1
 
--- src/lib.rt:168:16
 weights-requires : tie.Need-weights-requires Inv-loop μ-loop
 weights-requires c κs = (omega arith, omega arith, c .before .pre .3)
 
--- src/lib.rt:170:5
 loop-holds : tie.Need-loop-holds Inv-loop μ-loop
 loop-holds c = (omega arith, λ ks. refl)
 
--- src/lib.rt:171:17
 mul-t : tie.Need-mul-t Inv-loop μ-loop
 mul-t c = omega arith
 
--- src/lib.rt:171:17
 array-copy-out-t : tie.Need-array-copy-out-t Inv-loop μ-loop
 array-copy-out-t c = omega (arith, sixty-four (c .before .before .before .before))
 
--- src/lib.rt:172:19
 mul-sum : tie.Need-mul-sum Inv-loop μ-loop
-mul-sum c = search needs
+mul-sum c = omega arith
 
--- src/lib.rt:172:19
 array-read-sum : tie.Need-array-read-sum Inv-loop μ-loop
-array-read-sum c = search needs
+array-read-sum c = omega arith
 
--- src/lib.rt:173:9
 add-i : tie.Need-add-i Inv-loop μ-loop
-add-i c = search needs
+add-i c = omega arith
 
--- src/lib.rt:175:13
 returns : tie.Need-returns Inv-loop μ-loop
 returns c =
     let a = c .before .before .before .before .before .before .before .args in
     let l = c .before .before .before .before .loop in
     pars-heavy (a .v .trades) (a .v .count) (a .numbers .now) (a .live) (l .i) (l .inv .1) (c .before .before .before .before .before .weights .result) (c .before .before .before .before .before .weights .ensures) (omega arith) (sixty-four (c .before .before .before .before .before .before .before)) (omega arith) (c .if1 .taken)
 
--- src/lib.rt:178:13
 returns-2 : tie.Need-returns-2 Inv-loop μ-loop
 returns-2 c =
     let a = c .before .before .before .before .before .before .before .before .before .before .args in
     let l = c .before .before .before .before .before .before .before .loop in
     pars-other (a .v .trades) (a .v .count) (a .numbers .now) (a .live) (l .i) (l .inv .1) (c .before .before .before .before .before .before .before .before .weights .result) (c .before .before .before .before .before .before .before .before .weights .ensures) (omega arith) (sixty-four (c .before .before .before .before .before .before .before .before .before .before)) (omega arith) (c .before .before .before .if1 .left) (c .if2 .taken)
 
--- src/lib.rt:170:5
 loop-less : tie.Need-loop-less Inv-loop μ-loop
-loop-less c = search needs
+loop-less c = omega arith
 
--- src/lib.rt:170:5
 loop-again : tie.Need-loop-again Inv-loop μ-loop
 loop-again c =
     let a = c .before .before .before .before .before .before .before .before .before .before .args in
     let l = c .before .before .before .before .before .before .before .loop in
     (omega arith, pars-more (a .v .trades) (a .v .count) (a .numbers .now) (a .live) (l .i) (l .inv .1) (c .before .before .before .before .before .before .before .before .weights .result) (c .before .before .before .before .before .before .before .before .weights .ensures) (omega arith) (sixty-four (c .before .before .before .before .before .before .before .before .before .before)) (omega arith) (c .before .before .before .if1 .left) (c .if2 .left))
 
--- src/lib.rt:162:1
 returns-3 : tie.Need-returns-3 Inv-loop μ-loop
 returns-3 c =
     let a = c .before .before .before .before .args in

@@ -1,15 +1,14 @@
-use Prim.Native.Nat.{_≤_, _-_}
+-- The loop's invariant: for every trade, its cell and what is left to add make up its weight.
+-- So no cell grows past the weight of all the records, which 64 bits hold.
 use mathlib.Core.Path.{_≡_}
+use Prim.Native.Nat.{_≤_, _-_}
 use native.Mathlib.Omega.{arith}
 use lib.ListN.{length, length-set}
+use borrow.Author.Needs.{needs}
 use Rattle.book.specs.Opening.{tradesMax}
 use Rattle.soundness.proofs.Weighed.{Weighed, weighed-none, weighed-done, weighed-more, cell-small}
-use borrow.Author.Needs.{needs}
-use Rattle.soundness.proofs.weights.Statement.{statement}
 use Rattle.soundness.proofs.weights.Tie as tie
-use Rattle.soundness.proofs.weights.Reads as reads
-use Rattle.soundness.proofs.weights.Lts as lts
-use Rattle.soundness.proofs.share.Reads as share-reads
+use Rattle.soundness.proofs.weights.Statement.{statement}
 
 abbrev Inv-loop : tie.InvT-loop
 Inv-loop numbers live sums₀ message₀ ordinal₀ i₀ sums message ordinal i = (i ≤ live) × (length sums ≡ tradesMax) × Weighed numbers live sums message ordinal i
@@ -17,81 +16,63 @@ Inv-loop numbers live sums₀ message₀ ordinal₀ i₀ sums message ordinal i 
 abbrev μ-loop : tie.MeasureT-loop
 μ-loop numbers live sums₀ message₀ ordinal₀ i₀ sums message ordinal i = live - i
 
--- src/lib.rt:149:5
 loop-holds : tie.Need-loop-holds Inv-loop μ-loop
 loop-holds c = (omega arith, search needs, weighed-none (c .args .numbers .now) (c .args .live))
 
--- src/lib.rt:150:19
 mul-row : tie.Need-mul-row Inv-loop μ-loop
-mul-row c = search needs
+mul-row c = omega arith
 
--- src/lib.rt:150:19
 shared-slice-copy-out-row : tie.Need-shared-slice-copy-out-row Inv-loop μ-loop
-shared-slice-copy-out-row c = search needs
+shared-slice-copy-out-row c = omega arith
 
--- src/lib.rt:151:9
 add-i : tie.Need-add-i Inv-loop μ-loop
-add-i c = search needs
+add-i c = omega arith
 
--- src/lib.rt:152:25
 array-read-begins : tie.Need-array-read-begins Inv-loop μ-loop
-array-read-begins c = search needs
+array-read-begins c = omega arith
 
--- src/lib.rt:152:60
 array-read-begins-2 : tie.Need-array-read-begins-2 Inv-loop μ-loop
-array-read-begins-2 c = search needs
+array-read-begins-2 c = omega arith
 
--- src/lib.rt:153:21
 array-read-trade : tie.Need-array-read-trade Inv-loop μ-loop
-array-read-trade c = search needs
+array-read-trade c = omega arith
 
--- src/lib.rt:154:13
 share-requires : tie.Need-share-requires Inv-loop μ-loop
 share-requires c κs = c .before .before .before .pre .2 (c .before .before .loop .i) (omega arith) .2
 
--- src/lib.rt:155:23
 mul-sums : tie.Need-mul-sums Inv-loop μ-loop
 mul-sums c = omega (arith, c .before .before .before .before .pre .2 (c .before .before .before .loop .i) (omega arith) .0)
 
--- src/lib.rt:155:23
 array-read-sums : tie.Need-array-read-sums Inv-loop μ-loop
 array-read-sums c = c .before .before .before .before .pre .2 (c .before .before .before .loop .i) (omega arith) .0
 
--- src/lib.rt:155:23
 add-sums : tie.Need-add-sums Inv-loop μ-loop
 add-sums c =
     let a = c .before .before .before .before .args in
     let l = c .before .before .before .loop in
     omega (arith, cell-small (a .numbers .now) (a .live) (c .before .before .before .before .pre .2) (omega arith) (l .sums) (l .message) (l .ordinal) (l .i) (l .inv .2) (omega arith) _ (c .share .ensures))
 
--- src/lib.rt:155:9
 mul-sums-2 : tie.Need-mul-sums-2 Inv-loop μ-loop
 mul-sums-2 c = omega (arith, c .before .before .before .before .pre .2 (c .before .before .before .loop .i) (omega arith) .0)
 
--- src/lib.rt:155:9
 array-write-sums : tie.Need-array-write-sums Inv-loop μ-loop
 array-write-sums c = c .before .before .before .before .pre .2 (c .before .before .before .loop .i) (omega arith) .0
 
--- src/lib.rt:156:19
 array-read-message : tie.Need-array-read-message Inv-loop μ-loop
-array-read-message c = search needs
+array-read-message c = omega arith
 
--- src/lib.rt:157:19
 array-read-ordinal : tie.Need-array-read-ordinal Inv-loop μ-loop
-array-read-ordinal c = search needs
+array-read-ordinal c = omega arith
 
--- src/lib.rt:149:5
 loop-less : tie.Need-loop-less Inv-loop μ-loop
-loop-less c = search needs
+loop-less c = omega arith
 
--- src/lib.rt:149:5
 loop-again : tie.Need-loop-again Inv-loop μ-loop
 loop-again c =
     let a = c .before .before .before .before .args in
     let l = c .before .before .before .loop in
     (omega arith, simp length-set (l .inv .1), weighed-more (a .numbers .now) (a .live) (c .before .before .before .before .pre .2) (omega arith) (l .sums) (l .message) (l .ordinal) (l .i) (l .inv .2) (omega arith) _ (c .share .ensures) (l .inv .1))
 
--- src/lib.rt:141:1
 returns : tie.Need-returns Inv-loop μ-loop
 returns c =
     let a = c .before .before .args in
