@@ -3,7 +3,7 @@ use book::Book;
 use book::Values;
 ghost use mathlib.Core.Path.{_≡_};
 ghost use mathlib.Core.List.{List};
-ghost use mathlib.Core.Bool.{true, _&&_};
+ghost use mathlib.Core.Bool.{_&&_};
 ghost use Prim.Native.Nat.{ℕ, _≤_, _<_};
 ghost use lib.ListN.{length, take, drop, getD};
 ghost use lib.Dec.{eqb};
@@ -11,7 +11,7 @@ ghost use Rattle.lists.specs.Lists.{all};
 ghost use Rattle.book.specs.Records.{weightShare, tradeWeight};
 ghost use Rattle.book.specs.Trades.{tradesOf};
 ghost use Rattle.book.specs.Opening.{tradesMax, recordsMax};
-ghost use Rattle.book.specs.Soundness.{recordFine, follows, inOrder, isNone, parsFrom, fieldsOnce, isSound};
+ghost use Rattle.book.specs.Soundness.{recordFine, follows, inOrder, isNone, parsFrom, isSound};
 ghost use Rattle.table.specs.Rows.{tableOf};
 ghost use Rattle.soundness.specs.Parts.{recordOf, against, Light};
 
@@ -180,14 +180,6 @@ fn pars_fine(v: Values, numbers: &[[u64; 6]], live: usize) -> bool
     true
 }
 
-// 42: no matched fields twice under one message ID.
-fn fields_once(numbers: &[[u64; 6]], keys: &[[u8; 22]], live: usize) -> bool
-    requires { ⌜ (length (now keys) ≡ length (now numbers)) × (live ≤ length (now numbers)) × (length (now numbers) ≤ 4096) × (inOrder (take live (tableOf (now numbers) (now keys))) ≡ true) ⌝ }
-    ensures { λ r. ⌜ r ≡ fieldsOnce (take live (tableOf (now (numbers .entry)) (now (keys .entry)))) ⌝ }
-{
-    true
-}
-
 // 42: whether the book and its table, rows of numbers beside as many rows of bytes, are sound.
 pub fn is_sound(book: Book, numbers: &[[u64; 6]], keys: &[[u8; 22]]) -> bool
     ensures { λ r. ⌜ r ≡ (eqb (length (now (keys .entry))) (length (now (numbers .entry))) && isSound book (tableOf (now (numbers .entry)) (now (keys .entry)))) ⌝ }
@@ -213,7 +205,7 @@ pub fn is_sound(book: Book, numbers: &[[u64; 6]], keys: &[[u8; 22]]) -> bool
     if !rows_fine(numbers, live, v.count as u64, v.last) {
         return false;
     }
-    if !fields_once(numbers, keys, live) {
+    if !once::fields_once(numbers, keys, live) {
         return false;
     }
     if !zeros_after(numbers, keys, live) {
