@@ -1,0 +1,215 @@
+// Decides number 42: whether a lent book and its table can have come about by the engine's own calls.
+use book::Book;
+use book::Values;
+ghost use mathlib.Core.Path.{_≡_};
+ghost use mathlib.Core.List.{List};
+ghost use mathlib.Core.Bool.{_&&_};
+ghost use Prim.Native.Nat.{ℕ, _≤_, _<_};
+ghost use lib.ListN.{length, take, drop, getD};
+ghost use lib.Dec.{eqb};
+ghost use Rattle.lists.specs.Lists.{all};
+ghost use Rattle.book.specs.Records.{weightShare, tradeWeight};
+ghost use Rattle.book.specs.Trades.{tradesOf};
+ghost use Rattle.book.specs.Opening.{tradesMax, recordsMax};
+ghost use Rattle.book.specs.Soundness.{recordFine, follows, inOrder, isNone, parsFrom, isSound};
+ghost use Rattle.table.specs.Rows.{tableOf};
+ghost use Rattle.soundness.specs.Parts.{recordOf, against, Light};
+
+// Eleven digits: a current face in cents.
+const ELEVEN_DIGITS_MAX: u64 = 99999999999;
+
+// A lot's millions.
+const MILLIONS_MAX: u64 = 99;
+
+const MILLION_CENTS: u64 = 100000000;
+
+// The kinds as a row has them.
+const GOOD: u64 = 1;
+
+const ODD: u64 = 2;
+
+const BAD: u64 = 3;
+
+// 42: a live record by itself.
+fn row_fine(row: [u64; 6], count: u64, last: u64) -> bool
+    ensures { λ r. ⌜ ((key : List ℕ) → r ≡ recordFine (against count last) (recordOf row key)) ⌝ }
+{
+    let message = row[table::MESSAGE];
+    let kind = row[table::KIND];
+    let millions = row[table::MILLIONS];
+    let good = (kind == GOOD) & ((1 <= millions) & (millions <= MILLIONS_MAX));
+    let other = ((kind == ODD) | (kind == BAD)) & (millions == 0);
+    (row[table::TRADE] < count)
+        & (((1 <= message) & (message <= last))
+            & ((1 <= row[table::ORDINAL])
+                & ((row[table::CURRENT] <= ELEVEN_DIGITS_MAX) & (good | other))))
+}
+
+// 42: a live record after the one before it.
+fn row_follows(before: [u64; 6], row: [u64; 6]) -> bool
+    ensures { λ r. ⌜ ((key next : List ℕ) → r ≡ follows (recordOf before key) (recordOf row next)) ⌝ }
+{
+    let lot = (before[table::KIND] == row[table::KIND])
+        & (before[table::MILLIONS] == row[table::MILLIONS]);
+    let ordinal = before[table::ORDINAL];
+    let next = row[table::ORDINAL];
+    let message = (before[table::TRADE] == row[table::TRADE])
+        & ((ordinal < next) | ((ordinal == next) & lot));
+    (before[table::MESSAGE] < row[table::MESSAGE])
+        | ((before[table::MESSAGE] == row[table::MESSAGE]) & message)
+}
+
+// 42: the live records, each by itself and after the one before it.
+fn rows_fine(numbers: &[[u64; 6]], live: usize, count: u64, last: u64) -> bool
+    requires { ⌜ live ≤ length (now numbers) ⌝ }
+    ensures { λ r. ⌜ ((ks : List (List ℕ)) → r ≡ (all (recordFine (against count last)) (take live (tableOf (now (numbers .entry)) ks)) && inOrder (take live (tableOf (now (numbers .entry)) ks)))) ⌝ }
+{
+    let mut before = [0u64; 6];
+    let mut i: usize = 0;
+    while i < live {
+        let row = numbers[i];
+        i += 1;
+        if !(row_fine(row, count, last) & row_follows(before, row)) {
+            return false;
+        }
+        before = row;
+    }
+    true
+}
+
+// 42: a row that is zeros.
+fn row_none(row: [u64; 6], key: [u8; 22]) -> bool
+    ensures { λ r. ⌜ r ≡ isNone (recordOf row key) ⌝ }
+{
+    let lot = (key[0] == 0)
+        & ((key[1] == 0) & ((key[2] == 0) & ((key[3] == 0) & ((key[4] == 0) & (key[5] == 0)))));
+    let pool = (key[6] == 0)
+        & ((key[7] == 0)
+            & ((key[8] == 0)
+                & ((key[9] == 0) & ((key[10] == 0) & ((key[11] == 0) & (key[12] == 0))))));
+    let original = (key[13] == 0)
+        & ((key[14] == 0)
+            & ((key[15] == 0)
+                & ((key[16] == 0)
+                    & ((key[17] == 0)
+                        & ((key[18] == 0)
+                            & ((key[19] == 0) & ((key[20] == 0) & (key[21] == 0))))))));
+    (row[table::MESSAGE] == 0)
+        & ((row[table::ORDINAL] == 0)
+            & ((row[table::TRADE] == 0)
+                & (lot
+                    & (pool
+                        & (original
+                            & ((row[table::CURRENT] == 0)
+                                & ((row[table::KIND] == 0) & (row[table::MILLIONS] == 0))))))))
+}
+
+// 42: zeros after the live records.
+fn zeros_after(numbers: &[[u64; 6]], keys: &[[u8; 22]], live: usize) -> bool
+    requires { ⌜ (length (now keys) ≡ length (now numbers)) × (live ≤ length (now numbers)) ⌝ }
+    ensures { λ r. ⌜ r ≡ all isNone (drop live (tableOf (now (numbers .entry)) (now (keys .entry)))) ⌝ }
+{
+    let mut i = live;
+    while i < numbers.len() {
+        let row = numbers[i];
+        let key = keys[i];
+        i += 1;
+        if !row_none(row, key) {
+            return false;
+        }
+    }
+    true
+}
+
+// What a record adds to its trade's weight.
+fn share(row: [u64; 6], begins: bool) -> u64
+    requires { ⌜ getD row 5 0 ≤ 99 ⌝ }
+    ensures { λ r. ⌜ ((key : List ℕ) → r ≡ weightShare begins (recordOf row key)) ⌝ }
+{
+    if row[table::KIND] != GOOD {
+        return row[table::CURRENT];
+    }
+    if begins {
+        return row[table::MILLIONS] * MILLION_CENTS;
+    }
+    0
+}
+
+// What the lots of each trade weigh.
+fn weights(numbers: &[[u64; 6]], live: usize) -> [u64; 64]
+    requires { ⌜ (live ≤ length (now numbers)) × (live ≤ recordsMax) × Light (now numbers) live ⌝ }
+    ensures { λ r. ⌜ ((ks : List (List ℕ)) (t : ℕ) → t < tradesMax → getD r t 0 ≡ tradeWeight t (take live (tableOf (now (numbers .entry)) ks))) ⌝ }
+{
+    let mut sums = [0u64; 64];
+    let mut message: u64 = 0;
+    let mut ordinal: u64 = 0;
+    let mut i: usize = 0;
+    while i < live {
+        let row = numbers[i];
+        i += 1;
+        let begins = !((row[table::MESSAGE] == message) & (row[table::ORDINAL] == ordinal));
+        let trade = row[table::TRADE] as usize;
+        let added = share(row, begins);
+        sums[trade] = sums[trade] + added;
+        message = row[table::MESSAGE];
+        ordinal = row[table::ORDINAL];
+    }
+    sums
+}
+
+// 42: every trade's open par is its par less what its lots weigh.
+fn pars_fine(v: Values, numbers: &[[u64; 6]], live: usize) -> bool
+    requires { ⌜ (v .count ≤ tradesMax) × (live ≤ length (now numbers)) × (live ≤ recordsMax) × Light (now numbers) live ⌝ }
+    ensures { λ r. ⌜ ((ks : List (List ℕ)) → r ≡ parsFrom 0 (tradesOf v) (take live (tableOf (now (numbers .entry)) ks))) ⌝ }
+{
+    let count = v.count;
+    let trades = v.trades;
+    let sums = weights(numbers, live);
+    let mut i: usize = 0;
+    while i < count {
+        let t = trades[i];
+        let sum = sums[i];
+        i += 1;
+        if t.par < sum {
+            return false;
+        }
+        if t.left != t.par - sum {
+            return false;
+        }
+    }
+    true
+}
+
+// 42: whether the book and its table, rows of numbers beside as many rows of bytes, are sound.
+pub fn is_sound(book: Book, numbers: &[[u64; 6]], keys: &[[u8; 22]]) -> bool
+    ensures { λ r. ⌜ r ≡ (eqb (length (now (keys .entry))) (length (now (numbers .entry))) && isSound book (tableOf (now (numbers .entry)) (now (keys .entry)))) ⌝ }
+{
+    let v = book.values;
+    let line = book.line;
+    let live = book.live;
+    if keys.len() != numbers.len() {
+        return false;
+    }
+    if !opening::values_fine(v) {
+        return false;
+    }
+    if book::RECORDS_MAX < numbers.len() {
+        return false;
+    }
+    if !sequence::sound(line) {
+        return false;
+    }
+    if numbers.len() < live {
+        return false;
+    }
+    if !rows_fine(numbers, live, v.count as u64, v.last) {
+        return false;
+    }
+    if !once::fields_once(numbers, keys, live) {
+        return false;
+    }
+    if !zeros_after(numbers, keys, live) {
+        return false;
+    }
+    pars_fine(v, numbers, live)
+}
