@@ -1,7 +1,7 @@
 -- Records taken off and brought: the unmarked ones stay, zeros follow, and new records stand in the place of the first zeros.
 use Prim.Native.Nat.{ℕ, zero, suc, _+_, _-_, _≤_, _<_}
 use native.Mathlib.Omega.{arith}
-use native.Mathlib.Numerals.{add-one}
+use native.Mathlib.Nat.{sub-zero, suc-sub-suc}
 use mathlib.Core.Path.{_≡_, refl, sym, ap, _∙_}
 use mathlib.Core.List.{List, [], _∷_, _++_, map, append-assoc}
 use mathlib.Core.Bool.{Bool, true, false, cond, not, _&&_, true≢false}
@@ -17,12 +17,13 @@ use Rattle.layout.specs.Details.{details}
 use Rattle.tally.specs.declared.MessageType.{MessageType}
 use Rattle.tally.specs.declared.MessageType.the-variants.{On, Cc, Dk, Cx, Other}
 use Rattle.book.specs.declared.Pool.{Pool}
-use Rattle.book.specs.Records.{fieldsOf, noPool}
-use Rattle.book.specs.Messages.{typeOf, targetOf, under, listed, listedOf}
-use Rattle.book.specs.Checks.{isTaken, ccOrDk}
+use Rattle.book.specs.Records.{fieldsOf, noPool, recordsOf}
+use Rattle.faces.specs.Faces.{newLots}
+use Rattle.book.specs.Messages.{typeOf, targetOf, under, listed, listedOf, brought, broughtBy}
+use Rattle.book.specs.Checks.{isTaken, onOrCc, ccOrDk}
 use Rattle.table.specs.Rows.{recordAt, tableOf}
 use Rattle.table.specs.Closed.{unmarked}
-use Rattle.moves.specs.Moves.{remaining, filled, Movable}
+use Rattle.moves.specs.Moves.{remaining, bringing, filled, Movable}
 
 -- marks that tell a test leave what does not pass it
 pub unmarked-keep : (p : Pool → Bool) (ms : List ℕ) (rs : List Pool) → length rs ≤ length ms
@@ -100,3 +101,77 @@ module _ (body : List ℕ) (ns ks : List (List ℕ)) (live : ℕ) (ms : List ℕ
       let n = nothing-taken body (take live (tableOf ns ks)) (lists-nothing k body ek (sym eb ∙ e)) in
       let split : take live (tableOf ns ks) ++ drop live (tableOf ns ks) ≡ tableOf ns ks = take-append-drop live (tableOf ns ks) in
       (rw n (sym size), sym split ∙ rw (n, size, m .zeros))
+
+-- ---- bringing
+lots-brought : (k : MessageType) (body : List ℕ) → k ≡ typeOf body → onOrCc k ≡ true → brought body ≡ newLots (details body)
+unfolding brought
+lots-brought k body e f = rw (sym e) (go k f)
+  where
+    go : (t : MessageType) → onOrCc t ≡ true → broughtBy t (details body) ≡ newLots (details body)
+    go On g = refl
+    go Cc g = refl
+    go Dk g = absurd (true≢false (sym g))
+    go Cx g = absurd (true≢false (sym g))
+    go Other g = absurd (true≢false (sym g))
+
+none-brought : (k : MessageType) (body : List ℕ) → k ≡ typeOf body → onOrCc k ≡ false → brought body ≡ []
+unfolding brought
+none-brought k body e f = rw (sym e) (go k f)
+  where
+    go : (t : MessageType) → onOrCc t ≡ false → broughtBy t (details body) ≡ []
+    go On g = absurd (true≢false g)
+    go Cc g = absurd (true≢false g)
+    go Dk g = refl
+    go Cx g = refl
+    go Other g = refl
+
+module _ (body : List ℕ) (message trade : ℕ) (k : MessageType) (b : Bool) (ek : k ≡ typeOf body) (eb : b ≡ onOrCc k) where
+  -- what an ON or a CC brings is its new lots
+  pub brings : b ≡ true → bringing body message trade ≡ recordsOf message trade 1 (newLots (details body))
+  brings e = ap (recordsOf message trade 1) (lots-brought k body ek (sym eb ∙ e))
+
+  pub brings-room : (at n : ℕ) → b ≡ true → at + length (bringing body message trade) ≤ n → at + length (recordsOf message trade 1 (newLots (details body))) ≤ n
+  brings-room at n e h = rw (sym (brings e)) h
+
+  pub brings-all : (at r : ℕ) (t u : List Pool) → b ≡ true → r ≡ at + length (recordsOf message trade 1 (newLots (details body)))
+      → u ≡ pasted t at (recordsOf message trade 1 (newLots (details body)))
+      → (r ≡ at + length (bringing body message trade)) × (u ≡ pasted t at (bringing body message trade))
+  brings-all at r t u e er eu = rw (brings e) (er, eu)
+
+  -- another brings nothing
+  pub brings-none : (t : List Pool) (at : ℕ) → b ≡ false → at ≤ length t
+      → (at ≡ at + length (bringing body message trade)) × (t ≡ pasted t at (bringing body message trade))
+  brings-none t at e h =
+      let n : bringing body message trade ≡ [] = ap (recordsOf message trade 1) (none-brought k body ek (sym eb ∙ e)) in
+      (rw n (omega arith), rw n (nothing t at h))
+    where
+      nothing : (t : List Pool) (at : ℕ) → at ≤ length t → t ≡ pasted t at []
+      nothing t at h =
+          let w : within t at 0 ≡ true = in-within t at 0 h (omega arith) in
+          let e : at + 0 ≡ at = omega arith in
+          sym (paste-in t at [] w ∙ ap (λ (n : ℕ). take at t ++ drop n t) e ∙ take-append-drop at t)
+
+-- new records in the place of the first zeros
+pub filled-more : (n : ℕ) (rs new : List Pool) → length (rs ++ new) ≤ n → pasted (filled n rs) (length rs) new ≡ filled n (rs ++ new)
+filled-more n rs new h =
+    let z = replicate (n - length rs) noPool in
+    let s : length (rs ++ new) ≡ length rs + length new = length-append rs new in
+    let a : length (filled n rs) ≡ length rs + length z = length-append rs z in
+    let b : length z ≡ n - length rs = length-replicate (n - length rs) noPool in
+    let w : within (filled n rs) (length rs) (length new) ≡ true = in-within (filled n rs) (length rs) (length new) (omega (arith, s, a, b)) (omega (arith, s, a, b)) in
+    let q : (n - length rs) - length new ≡ n - length (rs ++ new) = omega (arith, s) in
+    let c : drop (length new) z ≡ replicate (n - length (rs ++ new)) noPool = zeros-less (n - length rs) (length new) ∙ ap (λ (m : ℕ). replicate m noPool) q in
+    paste-in (filled n rs) (length rs) new w
+    ∙ rw (take-append-seam rs z, drop-append-add rs z (length new), c) (sym (append-assoc rs new (replicate (n - length (rs ++ new)) noPool)))
+  where
+    zeros-less : (m k : ℕ) → drop k (replicate m noPool) ≡ replicate (m - k) noPool
+    zeros-less m zero = ap (λ (i : ℕ). replicate i noPool) (sym (sub-zero m))
+    zeros-less zero (suc k) =
+        let e : 0 ≡ 0 - suc k = omega arith in
+        ap (λ (i : ℕ). replicate i noPool) e
+    zeros-less (suc m) (suc k) = zeros-less m k ∙ ap (λ (i : ℕ). replicate i noPool) (sym (suc-sub-suc m k))
+
+-- a move: taken off, then brought
+pub moved : (n left after : ℕ) (rs new t u : List Pool) → length (rs ++ new) ≤ n → left ≡ length rs → t ≡ filled n rs → after ≡ left + length new → u ≡ pasted t left new
+    → (after ≡ length (rs ++ new)) × (u ≡ filled n (rs ++ new))
+moved n left after rs new t u h el et ea eu = (ea ∙ rw el (sym (length-append rs new)), eu ∙ rw (et, el) (filled-more n rs new h))

@@ -51,3 +51,42 @@ fn take_off(
     }
     live
 }
+
+// Stores the new lots of a message from a row on, and gives back the row after them.
+fn bring(
+    numbers: &mut [[u64; 6]],
+    keys: &mut [[u8; 22]],
+    at: usize,
+    body: &[u8],
+    message: u64,
+    trade: u64,
+) -> usize
+    requires { ⌜ (length (now keys) ≡ length (now numbers)) × (at + length (bringing (now body) message trade) ≤ length (now numbers)) ⌝ }
+    ensures { λ r. ⌜ (r ≡ at + length (bringing (now (body .entry)) message trade))
+        × (tableOf (now (numbers .exit)) (now (keys .exit)) ≡ pasted (tableOf (now (numbers .entry)) (now (keys .entry))) at (bringing (now (body .entry)) message trade)) ⌝ }
+{
+    let kind = header::message_type(body);
+    if brings_lots(kind) {
+        return new_pools::put_lots(&mut *numbers, &mut *keys, at, body, message, trade);
+    }
+    at
+}
+
+// Moves the table for an accepted message, and gives back how many records are live after it.
+pub fn move_table(
+    numbers: &mut [[u64; 6]],
+    keys: &mut [[u8; 22]],
+    live: usize,
+    body: &[u8],
+    marks: &[u8],
+    message: u64,
+    trade: u64,
+) -> usize
+    requires { ⌜ Movable (now body) (now numbers) (now keys) live (now marks) ⌝ }
+    requires { ⌜ length (remaining (now body) (take live (tableOf (now numbers) (now keys))) ++ bringing (now body) message trade) ≤ length (now numbers) ⌝ }
+    ensures { λ r. ⌜ (r ≡ length (remaining (now (body .entry)) (take live (tableOf (now (numbers .entry)) (now (keys .entry)))) ++ bringing (now (body .entry)) message trade))
+        × (tableOf (now (numbers .exit)) (now (keys .exit)) ≡ filled (length (now (numbers .entry))) (remaining (now (body .entry)) (take live (tableOf (now (numbers .entry)) (now (keys .entry)))) ++ bringing (now (body .entry)) message trade)) ⌝ }
+{
+    let left = take_off(&mut *numbers, &mut *keys, live, body, marks);
+    bring(&mut *numbers, &mut *keys, left, body, message, trade)
+}
