@@ -1,4 +1,4 @@
--- Parts of a body against whole lists: a part that is cut short by the body's end is shorter than the list it is compared with, so unlike it.
+-- Parts of a list: how many elements they have, where they end, and a part of a part.
 use mathlib.Core.Path.{_≡_, sym, ap, _∙_}
 use mathlib.Core.List.{List, [], _∷_}
 use Prim.Native.Nat.{ℕ, zero, suc, _+_, _-_, _≤_, _<_}
