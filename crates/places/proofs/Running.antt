@@ -7,7 +7,7 @@ use native.Mathlib.Nat.{add-zero}
 use native.Mathlib.Omega.{arith}
 use lib.ListN.{length, take, drop}
 use Rattle.lists.specs.Lists.{tab}
-use Rattle.lists.proofs.Tables.{take-tab, drop-tab, length-tab, tab-turn, tab-end, tab-all}
+use Rattle.lists.proofs.Tables.{take-tab, drop-tab, length-tab, tab-turn, tab-end}
 use Rattle.fields.specs.declared.Field.{Field}
 use Rattle.fields.specs.declared.Field.the-variants.{Number, NotDigits}
 use Rattle.book.specs.declared.Pool.{Pool}
