@@ -1,1 +1,3 @@
 pub mod Indexed
+pub mod Taken
+pub mod Marking
