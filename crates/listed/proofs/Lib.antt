@@ -1,3 +1,5 @@
 pub mod Indexed
 pub mod Taken
 pub mod Marking
+pub mod Numbered
+pub mod Evenness
