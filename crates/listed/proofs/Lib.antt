@@ -3,3 +3,4 @@ pub mod Taken
 pub mod Marking
 pub mod Numbered
 pub mod Evenness
+pub mod Grouped
