@@ -4,3 +4,5 @@ pub mod Marking
 pub mod Numbered
 pub mod Evenness
 pub mod Grouped
+pub mod Likeness
+pub mod OneLot

@@ -4,3 +4,10 @@ pub struct Listed {
     pub fine: bool,
     pub marks: [u8; book::RECORDS_MAX],
 }
+
+// A pass over a CC's pools: whether its 6 lots are like the live lots so far, whether a lot is begun, and its record's ordinal.
+struct Alike {
+    fine: bool,
+    begun: bool,
+    ordinal: u64,
+}
