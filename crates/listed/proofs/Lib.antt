@@ -6,3 +6,4 @@ pub mod Evenness
 pub mod Grouped
 pub mod Likeness
 pub mod OneLot
+pub mod Exact
