@@ -84,23 +84,23 @@ even-from first ms (d ∷ ds) w h f =
     go false e k j = j e
 
 -- a lot's pools are canceled all or none
-pub canceled-pools : (cc : Bool) (ds : List Detail) → formedFor cc ds ≡ true → (l : Lot) → l ∈ lots ds → keep isCanceled (poolsOf l) ≡ cond (lotCanceled l) (poolsOf l) []
+pub canceled-alike : (cc : Bool) (ds : List Detail) → formedFor cc ds ≡ true → (l : Lot) → l ∈ lots ds → (d : Detail) → d ∈ poolsOf l → isCanceled d ≡ lotCanceled l
 unfolding formedFor lots
-canceled-pools cc ds f l m = keep-const isCanceled (lotCanceled l) (poolsOf l) each
+canceled-alike cc ds f l m d k = ap (λ (n : ℕ). eqb n digitCanceled) (by (List·Memᴰ·append-cases (l .middles) k))
   where
     even : evenLot l ≡ true
     even = all-out evenLot m (even-from (cond cc firstCc firstOn) [] ds (λ p. refl) refl f)
 
-    each : (d : Detail) → d ∈ poolsOf l → isCanceled d ≡ lotCanceled l
-    each d k = ap (λ (n : ℕ). eqb n digitCanceled) (by (List·Memᴰ·append-cases (l .middles) k))
+    by : (d ∈ l .middles) ⊎ (d ∈ (l .last ∷ [])) → one d ≡ one (l .last)
+    by (inl a) = eqb-true (one d) (one (l .last)) (all-out (λ (x : Detail). eqb (one x) (one (l .last))) a even)
+    by (inr a) = of (List·Memᴰ·cases-cons a)
       where
-        by : (d ∈ l .middles) ⊎ (d ∈ (l .last ∷ [])) → one d ≡ one (l .last)
-        by (inl a) = eqb-true (one d) (one (l .last)) (all-out (λ (x : Detail). eqb (one x) (one (l .last))) a even)
-        by (inr a) = of (List·Memᴰ·cases-cons a)
-          where
-            of : (d ≡ l .last) ⊎ (d ∈ []) → one d ≡ one (l .last)
-            of (inl p) = ap one p
-            of (inr p) = absurd (List·Memᴰ·not-nil p)
+        of : (d ≡ l .last) ⊎ (d ∈ []) → one d ≡ one (l .last)
+        of (inl p) = ap one p
+        of (inr p) = absurd (List·Memᴰ·not-nil p)
+
+pub canceled-pools : (cc : Bool) (ds : List Detail) → formedFor cc ds ≡ true → (l : Lot) → l ∈ lots ds → keep isCanceled (poolsOf l) ≡ cond (lotCanceled l) (poolsOf l) []
+canceled-pools cc ds f l m = keep-const isCanceled (lotCanceled l) (poolsOf l) (canceled-alike cc ds f l m)
 
 -- ---- entries
 module _ (row : Detail → ℕ) where

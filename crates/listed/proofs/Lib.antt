@@ -7,3 +7,5 @@ pub mod Grouped
 pub mod Likeness
 pub mod OneLot
 pub mod Exact
+pub mod Whole
+pub mod Canceled
