@@ -114,8 +114,7 @@ module _ (tgt : Field) (f : ℕ → Pool) (n : ℕ) (order : inOrder (tab f n 0)
         let last-in : l .last ∈ poolsOf l = Memᴰ·append-right (l .middles) (List·Memᴰ·head refl) in
         let o = and-left (oneOrdinal numbers (poolsOf l)) (lastFits (l .last) (numbers (l .last))) e in
         let t = and-right (oneOrdinal numbers (poolsOf l)) (lastFits (l .last) (numbers (l .last))) e in
-        let u : (eqb (getD (numbers (l .last)) 4 0) (kindNumber (lotKind l)) && eqb (getD (numbers (l .last)) 5 0) (lotMillions l)) ≡ true = implied (lotCanceled l) (eqb (getD (numbers (l .last)) 4 0) (kindNumber (lotKind l)) && eqb (getD (numbers (l .last)) 5 0) (lotMillions l)) t c in
-        (
+        let u : (eqb (getD (numbers (l .last)) 4 0) (kindNumber (lotKind l)) && eqb (getD (numbers (l .last)) 5 0) (lotMillions l)) ≡ true = implied (lotCanceled l) (eqb (getD (numbers (l .last)) 4 0) (kindNumber (lotKind l)) && eqb (getD (numbers (l .last)) 5 0) (lotMillions l)) t c in (
           λ d a. sym (are .ordinal d (canceled-alike true ds formed l m d a ∙ c)) ∙ ordinal-out numbers (poolsOf l) o d (l .last) a last-in ∙ are .ordinal (l .last) c,
           sym (are .kind (l .last) c) ∙ eqb-true (getD (numbers (l .last)) 4 0) (kindNumber (lotKind l)) (and-left (eqb (getD (numbers (l .last)) 4 0) (kindNumber (lotKind l))) (eqb (getD (numbers (l .last)) 5 0) (lotMillions l)) u),
           sym (are .millions (l .last) c) ∙ eqb-true (getD (numbers (l .last)) 5 0) (lotMillions l) (and-right (eqb (getD (numbers (l .last)) 4 0) (kindNumber (lotKind l))) (eqb (getD (numbers (l .last)) 5 0) (lotMillions l)) u),

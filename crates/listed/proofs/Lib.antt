@@ -9,3 +9,4 @@ pub mod OneLot
 pub mod Exact
 pub mod Whole
 pub mod Canceled
+pub mod Passes

@@ -62,8 +62,7 @@ module _ (tgt : Field) (f : ℕ → Pool) (n : ℕ) (order : inOrder (tab f n 0)
             let i : f (row d) ∈ tab f n 0 = tab-in f n 0 (row d) (omega arith) (omega (arith, w (row d) k .0)) in
             let t = all-out agrees (keep-member isIts i (taken-in tgt f n order once lotPlaces w (row d) k)) e in
             let r : Pool = f (row d) in
-            let u = and-right (eqb (r .ordinal) (firstOrdinal its)) (eqb (r .kind) (kindNumber (lotKind l)) && eqb (r .millions) (lotMillions l)) t in
-            (
+            let u = and-right (eqb (r .ordinal) (firstOrdinal its)) (eqb (r .kind) (kindNumber (lotKind l)) && eqb (r .millions) (lotMillions l)) t in (
               eqb-true (r .ordinal) (firstOrdinal its) (and-left (eqb (r .ordinal) (firstOrdinal its)) (eqb (r .kind) (kindNumber (lotKind l)) && eqb (r .millions) (lotMillions l)) t),
               eqb-true (r .kind) (kindNumber (lotKind l)) (and-left (eqb (r .kind) (kindNumber (lotKind l))) (eqb (r .millions) (lotMillions l)) u),
               eqb-true (r .millions) (lotMillions l) (and-right (eqb (r .kind) (kindNumber (lotKind l))) (eqb (r .millions) (lotMillions l)) u),

@@ -1,6 +1,6 @@
 -- The 6 lots of a CC against the live ones (01, number 37): all pools of a lot stand in records of one ordinal, whose kind and millions are the lot's.
 use Prim.Native.Nat.{ℕ}
-use mathlib.Core.List.{List, []}
+use mathlib.Core.List.{List, [], _∷_}
 use mathlib.Core.Bool.{Bool, true, false, cond, not, _&&_, _||_}
 use lib.ListN.{getD, replicate}
 use lib.Dec.{eqb}
@@ -35,3 +35,8 @@ alikePool s d row =
 -- before the first pool
 abbrev pub noneAlike : Alike
 noneAlike = record { fine = true; begun = false; ordinal = 0 }
+
+-- all pools, by the numbers of each one's record
+abbrev pub alikeAll : (Detail → List ℕ) → Alike → List Detail → Alike
+alikeAll numbers s [] = s
+alikeAll numbers s (d ∷ ds) = alikeAll numbers (alikePool s d (numbers d)) ds

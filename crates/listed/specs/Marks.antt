@@ -1,12 +1,16 @@
 -- Marks (01, number 37): each listed pool marks the row of its live record with the number of its lot in the message.
-use Prim.Native.Nat.{ℕ, _+_}
+use Prim.Native.Nat.{ℕ, _+_, _-_, _<_}
+use mathlib.Core.Path.{_≡_}
 use mathlib.Core.List.{List, [], _∷_}
 use mathlib.Core.Bool.{Bool, true, cond, not, _&&_, _||_}
 use lib.ListN.{getD, set, replicate}
 use lib.Dec.{eqb}
+use Rattle.lists.specs.Lists.{tab, all}
 use Rattle.layout.specs.declared.Detail.{Detail}
+use Rattle.layout.specs.Details.{poolCount, detailAt, placeOf}
 use Rattle.terminator.specs.Terminators.{isEnd, term, isCanceled}
 use Rattle.book.specs.Opening.{recordsMax}
+use Rattle.table.specs.Rows.{numberAt}
 use Rattle.listed.specs.declared.Listed.{Listed}
 
 -- a listed pool by the number of its lot and the row of its record
@@ -41,3 +45,16 @@ markAll s (e ∷ es) = markAll (markRow s e) es
 -- no marks
 unfoldable pub unmarked : Listed
 unmarked = record { fine = true; marks = replicate recordsMax 0 }
+
+-- the row of each pool of a body stands in the cell of its index
+abbrev pub Rows : (Detail → ℕ) → List ℕ → List ℕ → Type 0
+Rows row body at = (i : ℕ) → i < poolCount body → getD at i 0 ≡ row (detailAt body (placeOf i))
+
+-- whether a row and the next one, where they are of one lot, have equal marks
+abbrev pub evenAt : List (List ℕ) → List ℕ → ℕ → Bool
+evenAt ns ms i =
+    not (eqb (numberAt ns i 0) (numberAt ns (i + 1) 0) && eqb (numberAt ns i 1) (numberAt ns (i + 1) 1)) || eqb (getD ms i 0) (getD ms (i + 1) 0)
+
+-- the same of all neighbors from start up to stop
+unfoldable pub marksEven : List (List ℕ) → List ℕ → ℕ → ℕ → Bool
+marksEven ns ms start stop = all (evenAt ns ms) (tab (λ (i : ℕ). i) (stop - 1 - start) start)
