@@ -1,0 +1,111 @@
+// What the header of a body says: type, sequence number, trade ID, version, fillers and parties (checks 10, 11, 13 to 15 and 17).
+use book::Trade;
+use book::Values;
+use fields::Field;
+use layout::Column;
+use sequence::Inbound;
+use tally::MessageType;
+use trade_id::TradeId;
+ghost use mathlib.Core.Path.{_≡_};
+ghost use mathlib.Core.List.{[], _∷_};
+ghost use mathlib.Core.Bool.{_||_};
+ghost use Prim.Native.Nat.{_≤_, min};
+ghost use lib.ListN.{length, take};
+ghost use lib.Dec.{leb};
+ghost use Rattle.lists.specs.Lists.{same, any};
+ghost use Rattle.layout.specs.Columns as columns;
+ghost use Rattle.layout.specs.Columns.{bytesIn};
+ghost use Rattle.layout.specs.Details.{lengthFits};
+ghost use Rattle.terminator.specs.Lots.{valueOf};
+ghost use Rattle.book.specs.Messages.{typeOf, idIn, isStipulated};
+ghost use Rattle.book.specs.Opening.{tradesMax};
+ghost use Rattle.book.specs.Checks.{notNumber, sequenceFails, arrived, blankIn, fillersFine, partiesFine};
+ghost use Rattle.header.specs.Sides.{isSide};
+
+// The highest sequence number that 11 lets through.
+const SEQUENCE_MAX: u64 = 999998;
+
+pub fn lesser(a: usize, b: usize) -> usize
+    ensures { λ r. ⌜ r ≡ min a b ⌝ }
+{
+    if a < b {
+        return a;
+    }
+    b
+}
+
+// Whether a column holds these bytes, of which there are as many as it is wide.
+fn column_is(body: &[u8], column: Column, bytes: &[u8]) -> bool
+    requires { ⌜ (length (now bytes) ≡ column .width) × (1 ≤ column .width) ⌝ }
+    ensures { λ r. ⌜ r ≡ same (bytesIn (now (body .entry)) column) (now (bytes .entry)) ⌝ }
+{
+    fields::same_part(body, column.at, bytes, 0, column.width)
+}
+
+// The type of a message.
+pub fn message_type(body: &[u8]) -> MessageType
+    ensures { λ r. ⌜ r ≡ typeOf (now (body .entry)) ⌝ }
+{
+    if column_is(body, layout::MESSAGE_TYPE, b"ON") {
+        return MessageType::On;
+    }
+    if column_is(body, layout::MESSAGE_TYPE, b"CC") {
+        return MessageType::Cc;
+    }
+    if column_is(body, layout::MESSAGE_TYPE, b"DK") {
+        return MessageType::Dk;
+    }
+    if column_is(body, layout::MESSAGE_TYPE, b"CX") {
+        return MessageType::Cx;
+    }
+    MessageType::Other
+}
+
+// The trade ID in special instructions. A short body has only a part of that column, or nothing of it.
+pub fn trade_id_in(body: &[u8]) -> TradeId
+    ensures { λ r. ⌜ r ≡ idIn (now (body .entry)) ⌝ }
+{
+    let start = lesser(layout::SPECIAL.at, body.len());
+    let end = lesser(layout::SPECIAL.at + layout::SPECIAL.width, body.len());
+    trade_id::find_trade_id(&body[start..end])
+}
+
+// 10: whether the length is that of a header and 1 to 250 details.
+pub fn length_fits(body: &[u8]) -> bool
+    ensures { λ r. ⌜ r ≡ lengthFits (now (body .entry)) ⌝ }
+{
+    1 <= layout::pool_count(body)
+}
+
+fn over(most: u64, f: Field) -> bool
+    ensures { λ r. ⌜ r ≡ notNumber (λ n. leb n most) f ⌝ }
+{
+    match f {
+        Field::Number(n) => !(n <= most),
+        Field::NotDigits => true,
+    }
+}
+
+fn value_of(f: Field) -> u64
+    ensures { λ r. ⌜ r ≡ valueOf f ⌝ }
+{
+    match f {
+        Field::Number(n) => n,
+        Field::NotDigits => 0,
+    }
+}
+
+// 11: the sequence number is not digits, or 999999.
+pub fn sequence_fails(body: &[u8]) -> bool
+    ensures { λ r. ⌜ r ≡ sequenceFails (now (body .entry)) ⌝ }
+{
+    over(SEQUENCE_MAX, layout::number_in(body, layout::SEQUENCE))
+}
+
+// The sequence number of a body, 0 where it is not digits.
+pub fn arrived(body: &[u8]) -> Inbound
+    ensures { λ r. ⌜ r ≡ arrived (now (body .entry)) ⌝ }
+{
+    let n = value_of(layout::number_in(body, layout::SEQUENCE));
+    Inbound(n as u32)
+}

@@ -1,0 +1,33 @@
+-- Arrays named byte by byte: a row from three arrays, and two rows compared.
+use mathlib.Core.Path.{_≡_, refl, sym, ap, ap₂, _∙_}
+use mathlib.Core.List.{List, _++_}
+use mathlib.Core.Bool.{Bool, true, false, _&&_}
+use Prim.Native.Nat.{ℕ, zero, suc, _+_}
+use lib.Dec.{eqb}
+use lib.ListN.{length, getD}
+use Rattle.lists.specs.Lists.{same, tab}
+use Rattle.lists.proofs.Tables.{table-of}
+
+abbrev bytesOf : List ℕ → ℕ → List ℕ
+bytesOf s n = tab (λ (i : ℕ). getD s i 0) n 0
+
+-- three arrays by their bytes
+pub three : (l p o : List ℕ) → length l ≡ 6 → length p ≡ 7 → length o ≡ 9 → bytesOf l 6 ++ (bytesOf p 7 ++ bytesOf o 9) ≡ l ++ (p ++ o)
+three l p o a b c =
+    sym (ap₂ (λ (x y : List ℕ). x ++ y) (table-of 0 l 6 a) (ap₂ (λ (x y : List ℕ). x ++ y) (table-of 0 p 7 b) (table-of 0 o 9 c)))
+
+-- the first n bytes of two lists compared one by one, from the i-th
+abbrev pub alike : List ℕ → List ℕ → ℕ → ℕ → Bool
+alike a b zero i = eqb (getD a i 0) (getD b i 0)
+alike a b (suc n) i = eqb (getD a i 0) (getD b i 0) && alike a b n (i + 1)
+
+alike-tab : (a b : List ℕ) (n i : ℕ) → alike a b n i ≡ same (tab (λ (k : ℕ). getD a k 0) (suc n) i) (tab (λ (k : ℕ). getD b k 0) (suc n) i)
+alike-tab a b zero i = go (eqb (getD a i 0) (getD b i 0))
+  where
+    go : (t : Bool) → t ≡ (t && true)
+    go true = refl
+    go false = refl
+alike-tab a b (suc n) i = ap (λ (t : Bool). eqb (getD a i 0) (getD b i 0) && t) (alike-tab a b n (i + 1))
+
+pub alike-same : (a b : List ℕ) → length a ≡ 22 → length b ≡ 22 → alike a b 21 0 ≡ same a b
+alike-same a b e f = alike-tab a b 21 0 ∙ sym (ap₂ same (table-of 0 a 22 e) (table-of 0 b 22 f))

@@ -1,0 +1,32 @@
+-- Rows of matched fields: the bytes of a detail's, and the bucket that a row falls into.
+use Prim.Native.Nat.{ℕ, _+_, _*_, _%_}
+use mathlib.Core.List.{List, _++_}
+use lib.ListN.{getD}
+use Rattle.layout.specs.declared.Detail.{Detail}
+
+-- Lot-ID, pool number and original face together
+abbrev pub keyWidth : ℕ
+keyWidth = 22
+
+abbrev pub keyOf : Detail → List ℕ
+keyOf d = d .lot ++ (d .pool ++ d .original)
+
+-- every bucket is below this number
+abbrev pub bucketCount : ℕ
+bucketCount = 4096
+
+-- the eight bytes from a place as one number, the first byte the lowest
+unfoldable pub wordAt : List ℕ → ℕ → ℕ
+wordAt s at =
+    getD s at 0
+    + getD s (at + 1) 0 * 256
+    + getD s (at + 2) 0 * 65536
+    + getD s (at + 3) 0 * 16777216
+    + getD s (at + 4) 0 * 4294967296
+    + getD s (at + 5) 0 * 1099511627776
+    + getD s (at + 6) 0 * 281474976710656
+    + getD s (at + 7) 0 * 72057594037927936
+
+-- the bucket of a row: three words that cover it, each by a prime, so that rows which differ in a few digits seldom share one
+unfoldable pub bucketOf : List ℕ → ℕ
+bucketOf key = (wordAt key 0 % 4093 + wordAt key 8 % 4091 + wordAt key 14 % 4079) % bucketCount

@@ -1,0 +1,83 @@
+use native.Mathlib.Omega.{arith}
+use Prim.Native.Nat.{ℕ, _≤_, _-_, _+_}
+use mathlib.Core.Path.{_≡_, refl}
+use mathlib.Core.List.{List}
+use borrow.Author.Tests.{eq-eqb, ne-eqb}
+use Rattle.lists.specs.Lists.{tab}
+use Rattle.fields.specs.declared.Field.the-variants.{Number}
+use Rattle.book.specs.Messages.{under}
+use Rattle.table.specs.Rows.{recordAt}
+use Rattle.places.specs.Runs.{leading}
+use Rattle.places.proofs.Running.{leading-stop, leading-more, leading-done}
+use borrow.Author.Needs.{needs}
+use Rattle.places.proofs.first_other.Statement.{statement}
+use Rattle.places.proofs.first_other.Tie as tie
+use Rattle.places.proofs.first_other.Reads as reads
+use Rattle.places.proofs.first_other.Lts as lts
+
+abbrev Inv-loop : tie.InvT-loop
+Inv-loop numbers from live id i₀ i = (i ≤ live) × ((ks : List (List ℕ)) → i + leading (under (Number id)) (tab (recordAt numbers ks) (live - i) i) ≡ from + leading (under (Number id)) (tab (recordAt numbers ks) (live - from) from))
+
+abbrev μ-loop : tie.MeasureT-loop
+μ-loop numbers from live id i₀ i = live - i
+
+-- src/lib.rt:43:5
+loop-holds : tie.Need-loop-holds Inv-loop μ-loop
+loop-holds c = (search needs, λ ks. refl)
+
+-- src/lib.rt:44:19
+mul-row : tie.Need-mul-row Inv-loop μ-loop
+mul-row c = search needs
+
+-- src/lib.rt:44:19
+shared-slice-copy-out-row : tie.Need-shared-slice-copy-out-row Inv-loop μ-loop
+shared-slice-copy-out-row c = search needs
+
+-- src/lib.rt:45:12
+array-read-if1 : tie.Need-array-read-if1 Inv-loop μ-loop
+array-read-if1 c = search needs
+
+-- src/lib.rt:46:13
+returns : tie.Need-returns Inv-loop μ-loop
+returns c =
+    let a = c .before .before .before .before .args in
+    let l = c .before .before .before .loop in
+    λ ks. leading-stop (under (Number (a .id))) (recordAt (a .numbers .now) ks) (a .live) _ (l .i) (l .inv .1 ks) (omega arith) (ne-eqb _ _ (c .if1 .taken))
+
+-- src/lib.rt:48:9
+add-i : tie.Need-add-i Inv-loop μ-loop
+add-i c = search needs
+
+-- src/lib.rt:43:5
+loop-less : tie.Need-loop-less Inv-loop μ-loop
+loop-less c = search needs
+
+-- src/lib.rt:43:5
+loop-again : tie.Need-loop-again Inv-loop μ-loop
+loop-again c =
+    let a = c .before .before .before .before .args in
+    let l = c .before .before .before .loop in
+    (omega arith, λ ks. leading-more (under (Number (a .id))) (recordAt (a .numbers .now) ks) (a .live) _ (l .i) (l .inv .1 ks) (omega arith) (eq-eqb _ _ (c .if1 .left)))
+
+-- src/lib.rt:38:1
+returns-2 : tie.Need-returns-2 Inv-loop μ-loop
+returns-2 c =
+    let a = c .before .before .args in
+    let l = c .before .loop in
+    λ ks. leading-done (under (Number (a .id))) (recordAt (a .numbers .now) ks) (a .live) _ (l .i) (l .inv .1 ks) (l .inv .0) (omega arith)
+
+pub first-other-spec : {M : Type 1} → statement M
+first-other-spec =
+    tie.close
+    (tie.spec
+    Inv-loop
+    μ-loop
+    loop-holds
+    mul-row
+    shared-slice-copy-out-row
+    array-read-if1
+    returns
+    add-i
+    loop-less
+    loop-again
+    returns-2)
