@@ -10,3 +10,5 @@ pub mod Exact
 pub mod Whole
 pub mod Canceled
 pub mod Passes
+pub mod Placed
+pub mod Fine
