@@ -6,12 +6,13 @@ use mathlib.Core.Bool.{Bool, true, false, cond, not, _&&_, _||_, false≢true, a
 use native.Mathlib.Omega.{arith}
 use lib.Dec.{eqb}
 use lib.ListN.{length, getD, take, replicate}
-use borrow.Author.Tests.{eq-eqb, eqb-true}
+use borrow.Author.Tests.{eq-eqb, eqb-true, not-true, not-false}
 use Rattle.lists.specs.Lists.{tab, keep, all}
 use Rattle.lists.proofs.Tests.{_∈_, and-left, and-right, implied, keep-in}
 use Rattle.lists.proofs.Folds.{fold}
 use Rattle.layout.specs.declared.Detail.{Detail}
-use Rattle.layout.specs.Details.{details}
+use Rattle.layout.specs.Details.{details, poolCount}
+use Rattle.layout.proofs.Passes.{poolOf}
 use Rattle.terminator.specs.Terminators.{isCanceled}
 use Rattle.terminator.specs.Lots.{lots, formedFor}
 use Rattle.tally.specs.declared.MessageType.{MessageType}
@@ -26,12 +27,13 @@ use Rattle.table.specs.Rows.{recordAt, tableOf}
 use Rattle.places.specs.declared.Run.{Run}
 use Rattle.places.specs.declared.Places.{Places}
 use Rattle.places.specs.Finding.{lists, Finds}
+use Rattle.places.proofs.Ascending.{run-rises}
 use Rattle.places.proofs.Seeking.{found-live}
 use Rattle.listed.specs.declared.Listed.{Listed}
 use Rattle.listed.specs.declared.Alike.{Alike}
 use Rattle.listed.specs.Marks.{Rows, entriesFrom, markAll, unmarked, evenAt, marksEven}
 use Rattle.listed.specs.Lots.{numbersOf, alikePool, alikeAll, noneAlike}
-use Rattle.listed.specs.Listing.{Findable, Decides, judgedBy}
+use Rattle.listed.specs.Listing.{Findable, Decides, Judgeable, judgedBy}
 use Rattle.listed.proofs.Indexed.{all-each, each-all}
 use Rattle.listed.proofs.Taken.{implies}
 use Rattle.listed.proofs.Marking.{markAt}
@@ -213,3 +215,71 @@ module _ (body : List ℕ) (ns ks : List (List ℕ)) (live : ℕ) (given : Finda
               ap (λ (s : Listed). eqb (markAt s i) 0) e
               ∙ shown (typeOf body) refl c all-live .1 (and-left (marksFor (isCc (typeOf body)) .fine) (evenFor (isCc (typeOf body)) && (not (isCc (typeOf body)) || alikeLots)) (sym (ap (λ (s : Listed). s .fine) e) ∙ g)) i h;
         }
+
+  -- ---- the code's run
+  module _ (its : Run) (is : its ≡ target-run) where
+    pub run-fits : (its .start ≤ its .stop) × (its .stop ≤ length ks)
+    run-fits =
+        let b = run-bound body ns ks live (given .within) (given .ordered) (given .once) in
+        let e = ap (λ (x : Run). x .stop) is in
+        let s = ap (λ (x : Run). x .start) is in
+        (omega (arith, run-rises (targetOf body) live-rs, e, s), omega (arith, b, e, given .rows, given .within))
+
+    module _ (p : Places) (found : Finds body ks its p) where
+      there : Finds body ks target-run p
+      there = rw is at found
+
+      pub search-none : not (p .found) ≡ true → (ms : List ℕ) → Decides body ns ks live (record { fine = false; marks = ms })
+      search-none e ms = none-found p there (not-true (p .found) e) ms
+
+      module _ (some : not (p .found) ≡ false) (t : MessageType) (et : t ≡ typeOf body) (cc : Bool) (ec : cc ≡ isCc t) where
+        pub search-judged : Judgeable cc body ns (p .at) (its .start) (its .stop)
+        search-judged =
+            record {
+              rises = run-fits .0;
+              within = omega (arith, run-fits .1, given .rows);
+              few = omega (arith, run-fits .1, given .rows, given .few);
+              cells = λ i h. cell i h (lists (typeOf body) (poolOf body i)) refl;
+              canceled = λ c i h d. omega (arith, found .rows (not-false (p .found) some) i h (its-listed c i d) .1, run-fits .1, given .rows);
+            }
+          where
+            cell : (i : ℕ) → i < poolCount body → (b : Bool) → lists (typeOf body) (poolOf body i) ≡ b → getD (p .at) i 0 < recordsMax
+            cell i h true l = omega (arith, found .rows (not-false (p .found) some) i h l .1, run-fits .1, given .rows, given .few)
+            cell i h false l = omega (arith, found .others i h l)
+
+            cc-lists : (u : MessageType) → isCc u ≡ true → (d : Detail) → isCanceled d ≡ true → lists u d ≡ true
+            cc-lists On c d e = absurd (false≢true c)
+            cc-lists Cc c d e = e
+            cc-lists Dk c d e = absurd (false≢true c)
+            cc-lists Cx c d e = absurd (false≢true c)
+            cc-lists Other c d e = absurd (false≢true c)
+
+            its-listed : cc ≡ true → (i : ℕ) → isCanceled (poolOf body i) ≡ true → lists (typeOf body) (poolOf body i) ≡ true
+            its-listed c i d = cc-lists (typeOf body) (ap isCc (sym et) ∙ sym ec ∙ c) (poolOf body i) d
+
+        pub search-decided : (r : Listed) → ((row : Detail → ℕ) → Rows row body (p .at) → r ≡ judgedBy cc row ns (its .start) (its .stop) (details body)) → Decides body ns ks live r
+        search-decided r h =
+            let f = not-false (p .found) some in
+            let row = rowOf body ns ks live (given .within) (given .ordered) (given .once) in
+            decided p there f r
+            (h row (placed p there f)
+            ∙ ap (λ (x : Run). judgedBy cc row ns (x .start) (x .stop) (details body)) is
+            ∙ ap (λ (b : Bool). judgedBy b row ns (target-run .start) (target-run .stop) (details body)) (ec ∙ ap isCc et))
+
+-- ---- the judgment
+module _ (cc : Bool) (row : Detail → ℕ) (ns : List (List ℕ)) (start stop : ℕ) (ds : List Detail) (m : Listed) (em : m ≡ markAll unmarked (entriesFrom cc row 1 ds))
+    (even : Bool) (ee : even ≡ marksEven ns (m .marks) start stop) where
+  pub judged-cc : cc ≡ true → (a : Bool) → a ≡ alikeAll (λ (d : Detail). numbersOf ns (row d) d) noneAlike ds .fine
+      → _≡_ {A = Listed} (record { fine = m .fine && (even && a); marks = m .marks }) (judgedBy cc row ns start stop ds)
+  unfolding judgedBy
+  judged-cc c a ea =
+      ap (λ (b : Bool). record { fine = m .fine && (b && a); marks = m .marks }) ee
+      ∙ ap (λ (b : Bool). record { fine = m .fine && (marksEven ns (m .marks) start stop && b); marks = m .marks }) (ea ∙ sym (ap (λ (b : Bool). not b || alikeAll (λ (d : Detail). numbersOf ns (row d) d) noneAlike ds .fine) c))
+      ∙ ap (λ (x : Listed). record { fine = x .fine && (marksEven ns (x .marks) start stop && (not cc || alikeAll (λ (d : Detail). numbersOf ns (row d) d) noneAlike ds .fine)); marks = x .marks }) em
+
+  pub judged-dk : cc ≡ false → _≡_ {A = Listed} (record { fine = m .fine && even; marks = m .marks }) (judgedBy cc row ns start stop ds)
+  unfolding judgedBy
+  judged-dk c =
+      ap (λ (b : Bool). record { fine = m .fine && b; marks = m .marks }) (ee ∙ sym (and-true (marksEven ns (m .marks) start stop)))
+      ∙ ap (λ (b : Bool). record { fine = m .fine && (marksEven ns (m .marks) start stop && b); marks = m .marks }) (sym (ap (λ (b : Bool). not b || alikeAll (λ (d : Detail). numbersOf ns (row d) d) noneAlike ds .fine) c))
+      ∙ ap (λ (x : Listed). record { fine = x .fine && (marksEven ns (x .marks) start stop && (not cc || alikeAll (λ (d : Detail). numbersOf ns (row d) d) noneAlike ds .fine)); marks = x .marks }) em

@@ -6,7 +6,8 @@ use mathlib.Core.Bool.{Bool, true, not, _&&_, _||_}
 use lib.ListN.{length, getD, take}
 use lib.Dec.{eqb}
 use Rattle.layout.specs.declared.Detail.{Detail}
-use Rattle.layout.specs.Details.{details}
+use Rattle.layout.specs.Details.{details, poolCount, detailAt, placeOf}
+use Rattle.terminator.specs.Terminators.{isCanceled}
 use Rattle.terminator.specs.Lots.{formedFor}
 use Rattle.book.specs.declared.Pool.{Pool}
 use Rattle.book.specs.Records.{noPool}
@@ -33,6 +34,14 @@ pub record Decides (body : List ℕ) (ns ks : List (List ℕ)) (live : ℕ) (r :
   pub fine : ccOrDk (typeOf body) ≡ true → r .fine ≡ listedFine body (take live (tableOf ns ks))
   pub marks : ccOrDk (typeOf body) ≡ true → r .fine ≡ true → (i : ℕ) → i < live
       → eqb (getD (r .marks) i 0) 0 ≡ not (isTaken (targetOf body) (listed body) (getD (take live (tableOf ns ks)) i noPool))
+
+-- what the marks ask: the target's rows stand in the table, the cells of the pools hold rows, and those of a CC's canceled pools rows of the table
+pub record Judgeable (cc : Bool) (body : List ℕ) (ns : List (List ℕ)) (at : List ℕ) (start stop : ℕ) : Type 0 where
+  pub rises : start ≤ stop
+  pub within : stop ≤ length ns
+  pub few : stop ≤ recordsMax
+  pub cells : (i : ℕ) → i < poolCount body → getD at i 0 < recordsMax
+  pub canceled : cc ≡ true → (i : ℕ) → i < poolCount body → isCanceled (detailAt body (placeOf i)) ≡ true → getD at i 0 < length ns
 
 -- the marks of a message's listed pools, by the row of each: fine where none is listed twice, marks are even from start up to stop and a CC's lots are alike
 unfoldable pub judgedBy : Bool → (Detail → ℕ) → List (List ℕ) → ℕ → ℕ → List Detail → Listed

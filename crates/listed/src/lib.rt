@@ -1,5 +1,6 @@
 // Whether the pools that a CC or DK lists are whole live lots of its target (check 37), and which live records it takes off.
 use layout::Detail;
+use tally::MessageType;
 use terminator::Terminator;
 ghost use mathlib.Core.Path.{_≡_};
 ghost use mathlib.Core.Bool.{true};
@@ -9,6 +10,8 @@ ghost use Rattle.layout.specs.Details.{details, poolCount, poolsMax, detailAt, 
 ghost use Rattle.terminator.specs.Terminators.{kindOf, millionsOf, isCanceled};
 ghost use Rattle.book.specs.Records.{kindNumber};
 ghost use Rattle.book.specs.Opening.{recordsMax};
+ghost use Rattle.book.specs.Checks.{isCc};
+ghost use Rattle.listed.specs.Listing.{Findable, Decides, Judgeable, judgedBy};
 ghost use Rattle.listed.specs.Marks.{Rows, isListed, numberAfter, entriesFrom, markAll, unmarked, evenAt, marksEven};
 ghost use Rattle.listed.specs.Lots.{numbersOf, lastFits, alikePool, alikeAll, noneAlike};
 
@@ -55,7 +58,7 @@ fn number_after(cc: bool, k: u8, d: Detail) -> u8
 // Marks the row of each listed pool with the number of its lot; a row that has a mark is listed twice.
 fn mark_places(body: &[u8], at: &[usize; 250], cc: bool) -> Listed
     requires { ⌜ ((i : ℕ) → i < poolCount (now body) → getD (now at) i 0 < recordsMax) ⌝ }
-    ensures { λ r. ⌜ ((row : Detail → ℕ) → Rows row (now (body .entry)) (now (at .entry)) → r ≡ markAll unmarked (entriesFrom cc row 1 (details (now (body .entry))))) ⌝ }
+    ensures { λ r. ⌜ (length (r .marks) ≡ recordsMax) × ((row : Detail → ℕ) → Rows row (now (body .entry)) (now (at .entry)) → r ≡ markAll unmarked (entriesFrom cc row 1 (details (now (body .entry))))) ⌝ }
 {
     let n = layout::pool_count(body);
     let mut fine = true;
@@ -200,4 +203,63 @@ fn lots_alike(numbers: &[[u64; 6]], body: &[u8], at: &[usize; 250]) -> bool
         s = alike_pool(s, d, row);
     }
     s.fine
+}
+
+fn is_cc(t: MessageType) -> bool
+    ensures { λ r. ⌜ r ≡ isCc t ⌝ }
+{
+    match t {
+        MessageType::On => false,
+        MessageType::Cc => true,
+        MessageType::Dk => false,
+        MessageType::Cx => false,
+        MessageType::Other => false,
+    }
+}
+
+// Marks the rows of the listed pools, and judges the marks: none twice, even among the target's rows and, on a CC, lots alike.
+fn judge(
+    body: &[u8],
+    numbers: &[[u64; 6]],
+    at: &[usize; 250],
+    cc: bool,
+    start: usize,
+    stop: usize,
+) -> Listed
+    requires { ⌜ Judgeable cc (now body) (now numbers) (now at) start stop ⌝ }
+    ensures { λ r. ⌜ ((row : Detail → ℕ) → Rows row (now (body .entry)) (now (at .entry)) → r ≡ judgedBy cc row (now (numbers .entry)) start stop (details (now (body .entry)))) ⌝ }
+{
+    let m = mark_places(body, at, cc);
+    let fine = m.fine;
+    let marks = m.marks;
+    let even = marks_even(numbers, &marks, start, stop);
+    if cc {
+        return Listed {
+            fine: fine & (even & lots_alike(numbers, body, at)),
+            marks: marks,
+        };
+    }
+    Listed {
+        fine: fine & even,
+        marks: marks,
+    }
+}
+
+// 37: whether the pools that a CC or DK lists are whole live lots of its target, and the records that it takes off.
+pub fn find_listed(body: &[u8], numbers: &[[u64; 6]], keys: &[[u8; 22]], live: usize) -> Listed
+    requires { ⌜ Findable (now body) (now numbers) (now keys) live ⌝ }
+    ensures { λ r. ⌜ Decides (now (body .entry)) (now (numbers .entry)) (now (keys .entry)) live r ⌝ }
+{
+    let t = header::message_type(body);
+    let cc = is_cc(t);
+    let run = places::target_run(numbers, live, body);
+    let p = places::find_places(body, keys, run);
+    if !p.found {
+        return Listed {
+            fine: false,
+            marks: [0u8; book::RECORDS_MAX],
+        };
+    }
+    let at = p.at;
+    judge(body, numbers, &at, cc, run.start, run.stop)
 }

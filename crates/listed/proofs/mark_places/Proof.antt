@@ -98,7 +98,7 @@ returns : tie.Need-returns Inv-loop μ-loop
 returns c =
     let a = c .before .before .before .before .args in
     let l = c .before .loop in
-    mark-done (a .cc) (a .body .now) (a .at .now) _ (l .fine) (l .marks) (l .lot) (l .i) (l .inv .3) (omega arith) (c .before .before .pool-count .ensures)
+    (l .inv .2, mark-done (a .cc) (a .body .now) (a .at .now) _ (l .fine) (l .marks) (l .lot) (l .i) (l .inv .3) (omega arith) (c .before .before .pool-count .ensures))
 
 pub mark-places-spec : {M : Type 1} → statement M
 mark-places-spec =
