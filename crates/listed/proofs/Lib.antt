@@ -1,0 +1,14 @@
+pub mod Indexed
+pub mod Taken
+pub mod Marking
+pub mod Numbered
+pub mod Evenness
+pub mod Grouped
+pub mod Likeness
+pub mod OneLot
+pub mod Exact
+pub mod Whole
+pub mod Canceled
+pub mod Passes
+pub mod Placed
+pub mod Fine

@@ -1,0 +1,55 @@
+-- What the search for a message's listed pools asks of the table, and what it decides (01, number 37).
+use Prim.Native.Nat.{ℕ, _≤_, _<_}
+use mathlib.Core.Path.{_≡_}
+use mathlib.Core.List.{List}
+use mathlib.Core.Bool.{Bool, true, not, _&&_, _||_}
+use lib.ListN.{length, getD, take}
+use lib.Dec.{eqb}
+use Rattle.layout.specs.declared.Detail.{Detail}
+use Rattle.layout.specs.Details.{details, poolCount, detailAt, placeOf}
+use Rattle.terminator.specs.Terminators.{isCanceled}
+use Rattle.terminator.specs.Lots.{formedFor}
+use Rattle.book.specs.declared.Pool.{Pool}
+use Rattle.book.specs.Records.{noPool}
+use Rattle.book.specs.Messages.{typeOf, targetOf, listed}
+use Rattle.book.specs.Opening.{recordsMax}
+use Rattle.book.specs.Soundness.{inOrder, fieldsOnce}
+use Rattle.book.specs.Checks.{isCc, ccOrDk, isTaken, listedFine}
+use Rattle.table.specs.Rows.{tableOf}
+use Rattle.listed.specs.declared.Listed.{Listed}
+use Rattle.listed.specs.Marks.{entriesFrom, markAll, unmarked, marksEven}
+use Rattle.listed.specs.Lots.{numbersOf, alikeAll, noneAlike}
+
+-- as many rows of bytes as of numbers, live records in order (42) whose fields differ within a message (42), and a CC's pools formed into lots (19)
+pub record Findable (body : List ℕ) (ns ks : List (List ℕ)) (live : ℕ) : Type 0 where
+  pub rows : length ks ≡ length ns
+  pub within : live ≤ length ns
+  pub few : length ns ≤ recordsMax
+  pub ordered : inOrder (take live (tableOf ns ks)) ≡ true
+  pub once : fieldsOnce (take live (tableOf ns ks)) ≡ true
+  pub formed : isCc (typeOf body) ≡ true → formedFor true (details body) ≡ true
+
+-- of a CC or DK: whether it passes 37 and, where it does, a mark on each live record that it takes off and on no other
+pub record Decides (body : List ℕ) (ns ks : List (List ℕ)) (live : ℕ) (r : Listed) : Type 0 where
+  pub fine : ccOrDk (typeOf body) ≡ true → r .fine ≡ listedFine body (take live (tableOf ns ks))
+  pub marks : ccOrDk (typeOf body) ≡ true → r .fine ≡ true → (i : ℕ) → i < live
+      → eqb (getD (r .marks) i 0) 0 ≡ not (isTaken (targetOf body) (listed body) (getD (take live (tableOf ns ks)) i noPool))
+
+-- what the marks ask: the target's rows stand in the table, the cells of the pools hold rows, and those of a CC's canceled pools rows of the table
+pub record Judgeable (cc : Bool) (body : List ℕ) (ns : List (List ℕ)) (at : List ℕ) (start stop : ℕ) : Type 0 where
+  pub rises : start ≤ stop
+  pub within : stop ≤ length ns
+  pub few : stop ≤ recordsMax
+  pub cells : (i : ℕ) → i < poolCount body → getD at i 0 < recordsMax
+  pub canceled : cc ≡ true → (i : ℕ) → i < poolCount body → isCanceled (detailAt body (placeOf i)) ≡ true → getD at i 0 < length ns
+
+-- the marks of a message's listed pools, by the row of each: fine where none is listed twice, marks are even from start up to stop and a CC's lots are alike
+unfoldable pub judgedBy : Bool → (Detail → ℕ) → List (List ℕ) → ℕ → ℕ → List Detail → Listed
+judgedBy cc row ns start stop ds =
+    record {
+      fine =
+          markAll unmarked (entriesFrom cc row 1 ds) .fine
+          && (marksEven ns (markAll unmarked (entriesFrom cc row 1 ds) .marks) start stop
+          && (not cc || alikeAll (λ (d : Detail). numbersOf ns (row d) d) noneAlike ds .fine));
+      marks = markAll unmarked (entriesFrom cc row 1 ds) .marks;
+    }
