@@ -72,7 +72,7 @@ fn put_pools(
     keys: &mut [[u8; 22]],
     at: usize,
     body: &[u8],
-    faces: &[u64; 250],
+    faces: &[u64; layout::POOLS_MAX],
     first: usize,
     n: usize,
     s: Common,

@@ -6,10 +6,11 @@ use native.Mathlib.Nat.{zero-add}
 use native.Mathlib.Omega.{arith}
 use native.Mathlib.Decide.{ℕ-discrete}
 use lib.ListN.{length, take, drop, set, getD, length-set, length-append}
-use lib.Seq.{ext-getD, take-at, drop-at, take-all, getD-set-same, getD-set-other}
+use lib.Seq.{ext-getD, take-at, drop-at, take-all, getD-set-same, getD-set-other, set-getD}
 use Rattle.lists.specs.Lists.{part, tab}
 use Rattle.lists.proofs.Tables.{length-tab, getD-tab, take-tab, drop-tab, tab-turn, table-of}
 use Rattle.book.specs.declared.Pool.{Pool}
+use Rattle.book.specs.Records.{noPool}
 use Rattle.table.specs.Rows.{recordAt, tableOf}
 
 -- ---- a record of two rows
@@ -107,6 +108,10 @@ module _ (ns ks : List (List ℕ)) where
 
       other : (j : ℕ) → j < length ns → (j ≡ i → ⊥) → recordAt (set ns i row) (set ks i key) j ≡ recordAt ns ks j
       other j g n = rw (getD-set-other ns i j row [] n, getD-set-other ks i j key [] n)
+
+  -- a record that stays where it is
+  pub table-stays : (i : ℕ) → i < length ns → tableOf ns ks ≡ set (tableOf ns ks) i (recordAt ns ks i)
+  table-stays i h = sym (ap (set (tableOf ns ks) i) (sym (table-at i noPool h)) ∙ set-getD (tableOf ns ks) i noPool)
 
   -- after the rows of a record are stored at i
   pub table-put : (i : ℕ) (p : Pool) → length (p .lot) ≡ 6 → length (p .pool) ≡ 7 → length (p .original) ≡ 9 → length ks ≡ length ns → i < length ns

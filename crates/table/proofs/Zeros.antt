@@ -6,11 +6,11 @@ use native.Mathlib.Nat.{sub-zero}
 use native.Mathlib.Numerals.{add-one}
 use native.Mathlib.Omega.{arith}
 use lib.ListN.{length, take, drop, set, getD, replicate, take-append-drop, drop-of-length-le, length-replicate, getD-replicate}
-use lib.Seq.{drop-set-lt, take-suc-set, ext-getD, set-getD}
+use lib.Seq.{drop-set-lt, take-suc-set, ext-getD}
 use Rattle.lists.specs.Lists.{part}
 use Rattle.book.specs.Records.{noPool}
 use Rattle.book.specs.Opening.{cleared}
-use Rattle.table.specs.Rows.{recordAt, tableOf}
+use Rattle.table.specs.Rows.{tableOf}
 use Rattle.table.proofs.Rows.{recordIn, length-table, table-at, table-set}
 
 -- ---- zeros from i up to e, in a list of any element
@@ -48,10 +48,6 @@ module _ (ns ks : List (List ℕ)) (i : ℕ) (s : length ks ≡ length ns) (h : 
   -- one more of the loop
   pub table-zero-more : (e : ℕ) → i < e → e ≤ length ns → Zeros noPool e (tableOf (set ns i (replicate 6 0)) (set ks i (replicate 22 0))) (i + 1) ≡ Zeros noPool e (tableOf ns ks) i
   table-zero-more e k l = zeros-more noPool e (tableOf ns ks) (tableOf (set ns i (replicate 6 0)) (set ks i (replicate 22 0))) i table-zero k (rw (length-table ns ks) l)
-
-  -- a record that stays where it is
-  pub table-stays : tableOf ns ks ≡ set (tableOf ns ks) i (recordAt ns ks i)
-  table-stays = sym (ap (set (tableOf ns ks) i) (sym (table-at ns ks i noPool h)) ∙ set-getD (tableOf ns ks) i noPool)
 
 -- the table of rows of zeros
 zero-table : (n : ℕ) → tableOf (replicate n (replicate 6 0)) (replicate n (replicate 22 0)) ≡ replicate n noPool

@@ -114,20 +114,20 @@ pub fn close_up(numbers: &mut [[u64; 6]], keys: &mut [[u8; 22]], live: usize, ma
 fn clear_numbers(numbers: &mut [[u64; 6]])
     ensures { λ _. ⌜ now (numbers .exit) ≡ replicate (length (now (numbers .entry))) (replicate 6 0) ⌝ }
 {
-    let mut i: usize = 0;
-    while i < numbers.len() {
-        numbers[i] = [0; 6];
-        i += 1;
+    let mut row: usize = 0;
+    while row < numbers.len() {
+        numbers[row] = [0; 6];
+        row += 1;
     }
 }
 
 fn clear_keys(keys: &mut [[u8; 22]])
     ensures { λ _. ⌜ now (keys .exit) ≡ replicate (length (now (keys .entry))) (replicate 22 0) ⌝ }
 {
-    let mut i: usize = 0;
-    while i < keys.len() {
-        keys[i] = [0; 22];
-        i += 1;
+    let mut key: usize = 0;
+    while key < keys.len() {
+        keys[key] = [0; 22];
+        key += 1;
     }
 }
 

@@ -2,8 +2,7 @@
 use native.Mathlib.Omega.{arith}
 use lib.ListN.{getD}
 use mathlib.Core.List.{[]}
-use Rattle.table.proofs.Rows.{table-set}
-use Rattle.table.proofs.Zeros.{table-stays}
+use Rattle.table.proofs.Rows.{table-set, table-stays}
 use borrow.Author.Needs.{needs}
 use Rattle.table.proofs.move_record.Statement.{statement}
 use Rattle.table.proofs.move_record.Tie as tie
@@ -11,7 +10,7 @@ use Rattle.table.proofs.move_record.Tie as tie
 returns : tie.Need-returns
 returns c =
     let a = c .before .args in
-    rw (c .if1 .taken) (table-stays (a .numbers .now) (a .keys .now) (a .to) (omega arith) (omega arith))
+    rw (c .if1 .taken) (table-stays (a .numbers .now) (a .keys .now) (a .to) (omega arith))
 
 mul-row : tie.Need-mul-row
 mul-row c = search needs
