@@ -17,7 +17,11 @@ ghost use Rattle.faces.specs.Faces.{newPools};
 ghost use Rattle.book.specs.Messages.{typeOf, targetOf, under, listedOf};
 ghost use Rattle.book.specs.Trades.{tradesOf};
 ghost use Rattle.book.specs.Opening.{recordsMax};
-ghost use Rattle.book.specs.Checks.{isOn, isCc, isDk, tradeAt};
+ghost use Rattle.book.specs.Soundness.{liveOf};
+ghost use Rattle.book.specs.Checks.{isOn, isCc, isDk, targetTrade, tradeAt, firstFailing};
+ghost use Rattle.book.specs.declared.Pool.{Pool};
+ghost use Rattle.book.specs.declared.Book.{Book};
+ghost use mathlib.Core.List.{List};
 ghost use Rattle.trader.specs.Decisions.{traderChecks, callOn, Ready, Decided};
 
 // What the trader's checks decide, and what an accepted message moves: its trade, the weight that it takes off, the weight that it brings,
@@ -64,6 +68,42 @@ fn is_dk(kind: MessageType) -> bool
         MessageType::Cx => false,
         MessageType::Other => false,
     }
+}
+
+// 30 to 36, where it is known whether the target has live pools, and of which trade.
+fn first_of_terms(v: Values, body: &[u8], there: bool, target: usize) -> Verdict
+    ensures { λ r. ⌜ ((book : Book) (table : List Pool) (room : ℕ) → book .values ≡ v → any (under (targetOf (now (body .entry)))) (liveOf book table) ≡ there → targetTrade (now (body .entry)) (liveOf book table) ≡ target → r ≡ firstFailing (take 7 traderChecks) (record { book = book; table = table; body = now (body .entry); room = room })) ⌝ }
+{
+    let kind = header::message_type(body);
+    let on = is_on(kind);
+    let cc = is_cc(kind);
+    let dk = is_dk(kind);
+    let limits = v.limits;
+    if (cc | dk) & !there {
+        return Verdict::Fails(Reason::Target);
+    }
+    if trades::id_fails(body, v, target) {
+        return Verdict::Fails(Reason::TradeId);
+    }
+    if trades::terms_fail(body, v, target) {
+        return Verdict::Fails(Reason::Terms);
+    }
+    if !(on | cc) {
+        return Verdict::Passes;
+    }
+    if on & sender_rules::millions_fail(body) {
+        return Verdict::Fails(Reason::Millions);
+    }
+    if faces::faces_fail(body, limits.least) {
+        return Verdict::Fails(Reason::Faces);
+    }
+    if faces::lots_fail(body, limits.variance, limits.pools) {
+        return Verdict::Fails(Reason::Variance);
+    }
+    if once::repeated(body) {
+        return Verdict::Fails(Reason::Repeated);
+    }
+    Verdict::Passes
 }
 
 // How many new pools a message has.
