@@ -2,16 +2,16 @@
 use mathlib.Core.Path.{_≡_, refl, sym, ap, _∙_}
 use mathlib.Core.Logic.{_⊎_, inl, inr}
 use mathlib.Core.List.{List, [], _∷_}
-use mathlib.Core.Bool.{Bool, true, false, cond, not, _&&_, _||_, false≢true}
+use mathlib.Core.Bool.{Bool, true, false, cond, _&&_, _||_, false≢true}
 use Prim.Native.Nat.{ℕ, zero, suc, _+_, _-_, _≤_, _<_}
 use native.Mathlib.Omega.{arith}
 use native.Mathlib.Decide.{decLt}
 use lib.ListN.{length, getD, take, drop, length-drop}
 use lib.Seq.{getD-drop}
 use lib.Dec.{eqb, leb, ltb}
-use borrow.Author.Tests.{ltb-true, leb-true, eqb-true, eqb-false, eq-eqb, ne-eqb, lt-ltb, le-ltb, le-leb, lt-leb}
+use borrow.Author.Tests.{ltb-true, leb-true, eqb-true, eqb-false, eq-eqb, ne-eqb, lt-ltb, le-ltb, le-leb}
 use Rattle.lists.specs.Lists.{part, keep, any, all}
-use Rattle.lists.proofs.Tests.{_∈_, and-left, and-right, both, clash, un-true, all-out, keep-none}
+use Rattle.lists.proofs.Tests.{and-left, and-right, both, clash, un-true, all-out, keep-none}
 use Rattle.fields.specs.declared.Field.{Field}
 use Rattle.fields.specs.declared.Field.the-variants.{Number, NotDigits}
 use Rattle.book.specs.declared.Pool.{Pool}
@@ -20,7 +20,6 @@ use Rattle.book.specs.Messages.{targetOf, under}
 use Rattle.book.specs.Soundness.{follows, inOrder}
 use Rattle.book.specs.Checks.{firstUnder, targetTrade}
 use Rattle.book.proofs.ListLaws.{or-split, all-implied}
-use Rattle.places.specs.declared.Run.{Run}
 use Rattle.places.specs.Runs.{ahead, leading, runOf}
 use Rattle.places.proofs.Running.{ahead-most, leading-most}
 

@@ -1,19 +1,18 @@
 -- The search for the rows of the listed pools: what is filled when it has passed over all pools, and what a pool without a row says.
 use mathlib.Core.Path.{_≡_, refl, sym, ap, _∙_}
-use mathlib.Core.List.{List, [], _∷_, map}
+use mathlib.Core.List.{List, [], _∷_}
 use mathlib.Core.Bool.{Bool, true, false, cond, not, _&&_, _||_, false≢true, true≢false}
 use Prim.Native.Nat.{ℕ, zero, suc, _+_, _-_, _≤_, _<_}
 use native.Mathlib.Nat.{add-zero}
 use native.Mathlib.Decide.{decLt, ℕ-discrete}
 use native.Mathlib.Omega.{arith}
-use lib.ListN.{length, getD, take, drop, set, replicate}
+use lib.ListN.{length, getD, take, set, replicate}
 use borrow.Author.Tests.{not-true, not-false}
 use Rattle.lists.specs.Lists.{part, tab, keep, any, all}
 use Rattle.lists.proofs.Tables.{length-tab, getD-tab, take-tab, drop-tab}
 use Rattle.lists.proofs.Tests.{keep-all, keep-none}
-use Rattle.fields.specs.declared.Field.{Field}
 use Rattle.layout.specs.declared.Detail.{Detail}
-use Rattle.layout.specs.Details.{poolsMax, poolCount, detailAt, placeOf, details}
+use Rattle.layout.specs.Details.{poolsMax, poolCount, details}
 use Rattle.layout.proofs.Passes.{poolOf}
 use Rattle.tally.specs.declared.MessageType.{MessageType}
 use Rattle.tally.specs.declared.MessageType.the-variants.{On, Cc, Dk, Cx, Other}

@@ -2,7 +2,7 @@
 use mathlib.Core.Path.{_≡_, refl, sym, ap, _∙_}
 use mathlib.Core.List.{List, [], _∷_}
 use mathlib.Core.Bool.{Bool, true, false, cond, not, _&&_, true≢false}
-use Prim.Native.Nat.{ℕ, zero, suc, _+_, _-_, _*_, _≤_, _<_}
+use Prim.Native.Nat.{ℕ, suc, _+_, _-_, _*_, _≤_, _<_}
 use native.Mathlib.Omega.{arith}
 use lib.ListN.{length, getD, take, drop}
 use lib.Dec.{eqb}
@@ -15,18 +15,11 @@ use Rattle.book.specs.declared.Pool.{Pool}
 use Rattle.book.specs.Records.{noPool, kindGood, runSum, weightShare, weightOfRecords}
 use Rattle.book.specs.Opening.{elevenDigitsMax}
 use Rattle.table.specs.Rows.{recordAt, tableOf}
+use Rattle.table.specs.Closed.{unmarked}
 use Rattle.places.specs.Marks.{marked, rowShare}
 use Rattle.places.proofs.Running.{live-tab}
 
 -- ---- the share of one record
-pub share-most : (row : List ℕ) (first : Bool) → getD row 3 0 ≤ elevenDigitsMax → getD row 5 0 ≤ 99 → rowShare first row ≤ elevenDigitsMax
-share-most row first f m = go (eqb (getD row 4 0) kindGood) first
-  where
-    go : (b c : Bool) → cond b (cond c (getD row 5 0 * millionCents) 0) (getD row 3 0) ≤ elevenDigitsMax
-    go true true = omega (arith, m)
-    go true false = omega arith
-    go false c = f
-
 -- whether a row begins a lot, after a record of a message and an ordinal
 abbrev pub begins : List ℕ → ℕ → ℕ → Bool
 begins row message ordinal = not (eqb (getD row 0 0) message && eqb (getD row 1 0) ordinal)
@@ -102,3 +95,11 @@ module _ (p : Pool → Bool) where
       go true false e h = h
       go false true e h = ap (λ (l : List Pool). r ∷ l) h
       go false false e h = absurd (true≢false (sym e))
+
+  pub unmarked-keep : (ms : List ℕ) (rs : List Pool) → Tells ms rs → unmarked ms rs ≡ keep (λ (r : Pool). not (p r)) rs
+  unmarked-keep [] [] t = refl
+  unmarked-keep [] (r ∷ rs) t = absurd (omega (arith, t .0))
+  unmarked-keep (m ∷ ms) [] t = refl
+  unmarked-keep (m ∷ ms) (r ∷ rs) t =
+      ap (λ (b : Bool). cond b (r ∷ unmarked ms rs) (unmarked ms rs)) (t .1 0 (omega arith))
+      ∙ ap (λ (l : List Pool). cond (not (p r)) (r ∷ l) l) (unmarked-keep ms rs (tells-tail m ms r rs t))

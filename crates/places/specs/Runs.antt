@@ -1,7 +1,7 @@
 -- Where the target's records stand: they follow one another, since a sound table is in the order of message IDs.
 use Prim.Native.Nat.{ℕ, suc, _+_}
 use mathlib.Core.List.{List, [], _∷_}
-use mathlib.Core.Bool.{Bool, cond, not}
+use mathlib.Core.Bool.{Bool, cond}
 use lib.ListN.{drop}
 use Rattle.fields.specs.declared.Field.{Field}
 use Rattle.book.specs.declared.Pool.{Pool}

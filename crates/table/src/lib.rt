@@ -1,4 +1,12 @@
 // The table of live pools in two lent slices: a row of numbers and a row of bytes for each record.
+use book::Pool;
+ghost use mathlib.Core.Path.{_≡_};
+ghost use mathlib.Core.List.{_++_};
+ghost use Prim.Native.Nat.{_<_, _≤_};
+ghost use lib.ListN.{length, take, set, replicate};
+ghost use Rattle.table.specs.Rows.{recordAt, tableOf};
+ghost use Rattle.table.specs.Closed.{unmarked, zeroed, closedUp};
+
 // The numbers of a row, in their order.
 pub const MESSAGE: usize = 0;
 
@@ -11,3 +19,123 @@ pub const CURRENT: usize = 3;
 pub const KIND: usize = 4;
 
 pub const MILLIONS: usize = 5;
+
+// The matched fields as one row of bytes.
+fn key_of(lot: [u8; 6], pool: [u8; 7], original: [u8; 9]) -> [u8; 22]
+    ensures { λ r. ⌜ r ≡ lot ++ (pool ++ original) ⌝ }
+{
+    [
+        lot[0],
+        lot[1],
+        lot[2],
+        lot[3],
+        lot[4],
+        lot[5],
+        pool[0],
+        pool[1],
+        pool[2],
+        pool[3],
+        pool[4],
+        pool[5],
+        pool[6],
+        original[0],
+        original[1],
+        original[2],
+        original[3],
+        original[4],
+        original[5],
+        original[6],
+        original[7],
+        original[8],
+    ]
+}
+
+// Stores a record as the i-th.
+pub fn put_record(numbers: &mut [[u64; 6]], keys: &mut [[u8; 22]], i: usize, p: Pool)
+    requires { ⌜ (length (now keys) ≡ length (now numbers)) × (i < length (now numbers)) ⌝ }
+    ensures { λ _. ⌜ tableOf (now (numbers .exit)) (now (keys .exit)) ≡ set (tableOf (now (numbers .entry)) (now (keys .entry))) i p ⌝ }
+{
+    let row = [p.message, p.ordinal, p.trade, p.current, p.kind, p.millions];
+    let lot = p.lot;
+    let pool = p.pool;
+    let original = p.original;
+    let key = key_of(lot, pool, original);
+    numbers[i] = row;
+    keys[i] = key;
+}
+
+// Copies a record to another place. One that stays where it is is not copied.
+fn move_record(numbers: &mut [[u64; 6]], keys: &mut [[u8; 22]], from: usize, to: usize)
+    requires { ⌜ (length (now keys) ≡ length (now numbers)) × (from < length (now numbers)) × (to < length (now numbers)) ⌝ }
+    ensures { λ _. ⌜ tableOf (now (numbers .exit)) (now (keys .exit)) ≡ set (tableOf (now (numbers .entry)) (now (keys .entry))) to (recordAt (now (numbers .entry)) (now (keys .entry)) from) ⌝ }
+{
+    if from == to {
+        return;
+    }
+    let row = numbers[from];
+    let key = keys[from];
+    numbers[to] = row;
+    keys[to] = key;
+}
+
+// Zeros in the places from a up to e.
+fn zero_records(numbers: &mut [[u64; 6]], keys: &mut [[u8; 22]], a: usize, e: usize)
+    requires { ⌜ (length (now keys) ≡ length (now numbers)) × (a ≤ e) × (e ≤ length (now numbers)) ⌝ }
+    ensures { λ _. ⌜ tableOf (now (numbers .exit)) (now (keys .exit)) ≡ zeroed (tableOf (now (numbers .entry)) (now (keys .entry))) a e ⌝ }
+{
+    let mut i = a;
+    while i < e {
+        numbers[i] = [0; 6];
+        keys[i] = [0; 22];
+        i += 1;
+    }
+}
+
+// Takes the marked records out of the live ones, and gives the number of those that are left.
+pub fn close_up(numbers: &mut [[u64; 6]], keys: &mut [[u8; 22]], live: usize, marks: &[u8]) -> usize
+    requires { ⌜ (length (now keys) ≡ length (now numbers)) × (live ≤ length (now numbers)) × (live ≤ length (now marks)) ⌝ }
+    ensures { λ r. ⌜ (r ≡ length (unmarked (now (marks .entry)) (take live (tableOf (now (numbers .entry)) (now (keys .entry))))))
+        × (tableOf (now (numbers .exit)) (now (keys .exit)) ≡ closedUp (now (marks .entry)) live (tableOf (now (numbers .entry)) (now (keys .entry)))) ⌝ }
+{
+    let mut r: usize = 0;
+    let mut w: usize = 0;
+    while r < live {
+        let from = r;
+        r += 1;
+        if marks[from] == 0 {
+            move_record(&mut *numbers, &mut *keys, from, w);
+            w += 1;
+        }
+    }
+    zero_records(&mut *numbers, &mut *keys, w, live);
+    w
+}
+
+fn clear_numbers(numbers: &mut [[u64; 6]])
+    ensures { λ _. ⌜ now (numbers .exit) ≡ replicate (length (now (numbers .entry))) (replicate 6 0) ⌝ }
+{
+    let mut i: usize = 0;
+    while i < numbers.len() {
+        numbers[i] = [0; 6];
+        i += 1;
+    }
+}
+
+fn clear_keys(keys: &mut [[u8; 22]])
+    ensures { λ _. ⌜ now (keys .exit) ≡ replicate (length (now (keys .entry))) (replicate 22 0) ⌝ }
+{
+    let mut i: usize = 0;
+    while i < keys.len() {
+        keys[i] = [0; 22];
+        i += 1;
+    }
+}
+
+// Zeros in every row.
+pub fn clear(numbers: &mut [[u64; 6]], keys: &mut [[u8; 22]])
+    ensures { λ _. ⌜ (now (numbers .exit) ≡ replicate (length (now (numbers .entry))) (replicate 6 0))
+        × (now (keys .exit) ≡ replicate (length (now (keys .entry))) (replicate 22 0)) ⌝ }
+{
+    clear_numbers(numbers);
+    clear_keys(keys);
+}

@@ -1,5 +1,7 @@
+-- The outer loop's invariant: the cells of the pools that are passed are filled. The inner loop's: no row from the last match up to j has the fields.
+use Prim.{tt}
 use native.Mathlib.Omega.{arith}
-use Prim.Native.Nat.{ℕ, _≤_, _-_, _+_}
+use Prim.Native.Nat.{_≤_, _-_}
 use mathlib.Core.Path.{_≡_, refl, sym, _∙_}
 use lib.ListN.{length, length-set}
 use Rattle.layout.proofs.Lengths.{count-max}
@@ -8,15 +10,6 @@ use Rattle.places.proofs.Seeking.{Without, without-none, without-more, 
 use borrow.Author.Needs.{needs}
 use Rattle.places.proofs.find_places.Statement.{statement}
 use Rattle.places.proofs.find_places.Tie as tie
-use Rattle.places.proofs.find_places.Reads as reads
-use Rattle.places.proofs.find_places.Lts as lts
-use Rattle.header.proofs.message_type.Reads as message-type-reads
-use Rattle.keys.proofs.key_of.Reads as key-of-reads
-use Rattle.layout.proofs.pool_at.Reads as pool-at-reads
-use Rattle.layout.proofs.pool_count.Reads as pool-count-reads
-use Rattle.places.proofs.first_same.Reads as first-same-reads
-use Rattle.places.proofs.is_listed.Reads as is-listed-reads
-use Rattle.places.proofs.same_row.Reads as same-row-reads
 
 abbrev Inv-loop : tie.InvT-loop
 Inv-loop body keys start stop t n at₀ next₀ d i key j₀ at next j = (next₀ ≤ j) × (j ≤ stop) × (next ≡ next₀) × (at ≡ at₀) × Without keys (rowFields key) next₀ j
@@ -30,37 +23,29 @@ Inv-listed body keys start stop t n at₀ next₀ d₀ at next d = (d ≤ n) × 
 abbrev μ-listed : tie.MeasureT-listed
 μ-listed body keys start stop t n at₀ next₀ d₀ at next d = n - d
 
--- src/lib.rt:131:9
 message-type-requires : tie.Need-message-type-requires Inv-loop μ-loop Inv-listed μ-listed
-message-type-requires c κs = search needs
+message-type-requires c κs = tt
 
--- src/lib.rt:132:9
 pool-count-requires : tie.Need-pool-count-requires Inv-loop μ-loop Inv-listed μ-listed
-pool-count-requires c κs = search needs
+pool-count-requires c κs = tt
 
--- src/lib.rt:136:5
 listed-holds : tie.Need-listed-holds Inv-loop μ-loop Inv-listed μ-listed
 listed-holds c =
     let a = c .before .before .before .args in
     (omega arith, omega (arith, c .pool-count .ensures, count-max (a .body .now)), omega arith, omega (arith, c .before .before .before .pre .0), refl, sought-none (a .body .now) (a .keys .now) (a .run .start) (a .run .stop))
 
--- src/lib.rt:138:13
 pool-at-requires : tie.Need-pool-at-requires Inv-loop μ-loop Inv-listed μ-listed
 pool-at-requires c κs = omega (arith, c .before .before .pool-count .ensures)
 
--- src/lib.rt:139:9
 add-d : tie.Need-add-d Inv-loop μ-loop Inv-listed μ-listed
-add-d c = search needs
+add-d c = omega arith
 
--- src/lib.rt:140:13
 is-listed-requires : tie.Need-is-listed-requires Inv-loop μ-loop Inv-listed μ-listed
-is-listed-requires c κs = search needs
+is-listed-requires c κs = tt
 
--- src/lib.rt:136:5
 listed-less : tie.Need-listed-less Inv-loop μ-loop Inv-listed μ-listed
-listed-less c = search needs
+listed-less c = omega arith
 
--- src/lib.rt:136:5
 listed-again : tie.Need-listed-again Inv-loop μ-loop Inv-listed μ-listed
 listed-again c =
     let a = c .before .before .before .before .before .before .before .before .args in
@@ -73,47 +58,37 @@ listed-again c =
       sought-skip (a .body .now) (a .keys .now) (o .d) (c .before .before .before .before .before .before .message-type .result) (c .before .before .pool-at .result) (c .before .is-listed .result) (c .before .before .before .before .before .before .message-type .ensures) (c .before .before .pool-at .ensures) (c .before .is-listed .ensures) (a .run .start) (a .run .stop) (o .at) (o .inv .5) (c .if1 .taken),
     )
 
--- src/lib.rt:143:13
 key-of-requires : tie.Need-key-of-requires Inv-loop μ-loop Inv-listed μ-listed
-key-of-requires c κs = search needs
+key-of-requires c κs = tt
 
--- src/lib.rt:145:9
 loop-holds : tie.Need-loop-holds Inv-loop μ-loop Inv-listed μ-listed
 loop-holds c =
     let a = c .before .before .before .before .before .before .before .before .before .args in
     let o = c .before .before .before .before .before .listed in
     (omega arith, o .inv .3, refl, refl, without-none (a .keys .now) (rowFields (c .key-of .result)) (o .next))
 
--- src/lib.rt:146:25
 mul-same-row : tie.Need-mul-same-row Inv-loop μ-loop Inv-listed μ-listed
 mul-same-row c = search needs
 
--- src/lib.rt:146:25
 shared-slice-copy-out-same-row :
     tie.Need-shared-slice-copy-out-same-row Inv-loop μ-loop Inv-listed μ-listed
-shared-slice-copy-out-same-row c = search needs
+shared-slice-copy-out-same-row c = omega arith
 
--- src/lib.rt:146:16
 same-row-requires : tie.Need-same-row-requires Inv-loop μ-loop Inv-listed μ-listed
-same-row-requires c κs = search needs
+same-row-requires c κs = tt
 
--- src/lib.rt:147:17
 mul-at : tie.Need-mul-at Inv-loop μ-loop Inv-listed μ-listed
 mul-at c = search needs
 
--- src/lib.rt:147:17
 array-write-at : tie.Need-array-write-at Inv-loop μ-loop Inv-listed μ-listed
 array-write-at c = omega arith
 
--- src/lib.rt:148:24
 add-next : tie.Need-add-next Inv-loop μ-loop Inv-listed μ-listed
-add-next c = search needs
+add-next c = omega arith
 
--- src/lib.rt:136:5
 listed-less-2 : tie.Need-listed-less-2 Inv-loop μ-loop Inv-listed μ-listed
-listed-less-2 c = search needs
+listed-less-2 c = omega arith
 
--- src/lib.rt:136:5
 listed-again-2 : tie.Need-listed-again-2 Inv-loop μ-loop Inv-listed μ-listed
 listed-again-2 c =
     let a = c .before .before .before .before .before .before .before .before .before .before .before .before .before .before .args in
@@ -127,15 +102,12 @@ listed-again-2 c =
       rw (l .inv .3) (sought-more (a .body .now) (a .keys .now) (o .d) (c .before .before .before .before .before .before .before .before .before .before .before .before .message-type .result) (c .before .before .before .before .before .before .before .before .pool-at .result) (c .before .before .before .before .before .before .before .is-listed .result) (c .before .before .before .before .before .before .before .before .before .before .before .before .message-type .ensures) (c .before .before .before .before .before .before .before .before .pool-at .ensures) (c .before .before .before .before .before .before .before .is-listed .ensures) (a .run .start) (a .run .stop) (o .at) (o .inv .5) (c .before .before .before .before .before .before .if1 .left) (omega (arith, c .before .before .before .before .before .before .before .before .before .before .before .pool-count .ensures)) (omega arith) (c .before .before .before .before .before .key-of .result) (c .before .before .before .before .before .key-of .ensures) (l .j) (omega arith) (omega arith) (sym (c .before .same-row .ensures) ∙ c .if2 .taken)),
     )
 
--- src/lib.rt:151:13
 add-j : tie.Need-add-j Inv-loop μ-loop Inv-listed μ-listed
-add-j c = search needs
+add-j c = omega arith
 
--- src/lib.rt:145:9
 loop-less : tie.Need-loop-less Inv-loop μ-loop Inv-listed μ-listed
-loop-less c = search needs
+loop-less c = omega arith
 
--- src/lib.rt:145:9
 loop-again : tie.Need-loop-again Inv-loop μ-loop Inv-listed μ-listed
 loop-again c =
     let a = c .before .before .before .before .before .before .before .before .before .before .before .before .before .before .args in
@@ -143,11 +115,9 @@ loop-again c =
     let l = c .before .before .before .before .loop in
     (omega arith, omega arith, l .inv .2, l .inv .3, without-more (a .keys .now) (rowFields (c .before .before .before .before .before .key-of .result)) (o .next) (l .j) (l .inv .4) (sym (c .before .same-row .ensures) ∙ c .if2 .left))
 
--- src/lib.rt:153:13
 first-same-requires : tie.Need-first-same-requires Inv-loop μ-loop Inv-listed μ-listed
-first-same-requires c κs = search needs
+first-same-requires c κs = (omega arith, omega arith)
 
--- src/lib.rt:155:13
 returns : tie.Need-returns Inv-loop μ-loop Inv-listed μ-listed
 returns c =
     let a = c .before .before .before .before .before .before .before .before .before .before .before .before .before .args in
@@ -158,23 +128,18 @@ returns c =
     (first-none (a .keys .now) k (a .run .start) (l .next) _ (c .before .first-same .ensures) (omega arith) (c .if3 .taken))
     (λ i h e. l .inv .4 i (omega (arith, l .inv .2, h)) (omega (arith, c .before .before .loop-test .left, e)))
 
--- src/lib.rt:160:9
 mul-at-2 : tie.Need-mul-at-2 Inv-loop μ-loop Inv-listed μ-listed
 mul-at-2 c = search needs
 
--- src/lib.rt:160:9
 array-write-at-2 : tie.Need-array-write-at-2 Inv-loop μ-loop Inv-listed μ-listed
 array-write-at-2 c = omega arith
 
--- src/lib.rt:161:16
 add-next-2 : tie.Need-add-next-2 Inv-loop μ-loop Inv-listed μ-listed
-add-next-2 c = search needs
+add-next-2 c = omega arith
 
--- src/lib.rt:136:5
 listed-less-3 : tie.Need-listed-less-3 Inv-loop μ-loop Inv-listed μ-listed
-listed-less-3 c = search needs
+listed-less-3 c = omega arith
 
--- src/lib.rt:136:5
 listed-again-3 : tie.Need-listed-again-3 Inv-loop μ-loop Inv-listed μ-listed
 listed-again-3 c =
     let a = c .before .before .before .before .before .before .before .before .before .before .before .before .before .args in
@@ -189,7 +154,6 @@ listed-again-3 c =
       rw (l .inv .3) (sought-more (a .body .now) (a .keys .now) (o .d) (c .before .before .before .before .before .before .before .before .before .before .before .message-type .result) (c .before .before .before .before .before .before .before .pool-at .result) (c .before .before .before .before .before .before .is-listed .result) (c .before .before .before .before .before .before .before .before .before .before .before .message-type .ensures) (c .before .before .before .before .before .before .before .pool-at .ensures) (c .before .before .before .before .before .before .is-listed .ensures) (a .run .start) (a .run .stop) (o .at) (o .inv .5) (c .before .before .before .before .before .if1 .left) (omega (arith, c .before .before .before .before .before .before .before .before .before .before .pool-count .ensures)) (omega arith) (c .before .before .before .before .key-of .result) (c .before .before .before .before .key-of .ensures) (c .before .first-same .result) (w .0) (omega arith) (w .1)),
     )
 
--- src/lib.rt:125:1
 returns-2 : tie.Need-returns-2 Inv-loop μ-loop Inv-listed μ-listed
 returns-2 c =
     let a = c .before .before .before .before .before .args in

@@ -1,3 +1,5 @@
+-- The loop's invariant: what is left from i on still has its first row with the fields at the same place.
+use Prim.{tt}
 use native.Mathlib.Omega.{arith}
 use Prim.Native.Nat.{ℕ, _≤_, _-_, _+_}
 use mathlib.Core.Path.{_≡_, refl, sym, _∙_}
@@ -11,9 +13,6 @@ use Rattle.places.proofs.Running.{ahead-stop, ahead-more, ahead-done}
 use borrow.Author.Needs.{needs}
 use Rattle.places.proofs.first_same.Statement.{statement}
 use Rattle.places.proofs.first_same.Tie as tie
-use Rattle.places.proofs.first_same.Reads as reads
-use Rattle.places.proofs.first_same.Lts as lts
-use Rattle.places.proofs.same_row.Reads as same-row-reads
 
 abbrev Inv-loop : tie.InvT-loop
 Inv-loop keys start stop key i₀ i = (i ≤ stop) × (i + ahead (λ (row : List ℕ). sameFields (rowFields row) (rowFields key)) (tab (keyAt keys) (stop - i) i) ≡ start + ahead (λ (row : List ℕ). sameFields (rowFields row) (rowFields key)) (tab (keyAt keys) (stop - start) start))
@@ -21,45 +20,36 @@ Inv-loop keys start stop key i₀ i = (i ≤ stop) × (i + ahead (λ (row : List
 abbrev μ-loop : tie.MeasureT-loop
 μ-loop keys start stop key i₀ i = stop - i
 
--- src/lib.rt:114:5
 loop-holds : tie.Need-loop-holds Inv-loop μ-loop
 loop-holds c = (search needs, refl)
 
--- src/lib.rt:115:21
 mul-same-row : tie.Need-mul-same-row Inv-loop μ-loop
 mul-same-row c = search needs
 
--- src/lib.rt:115:21
 shared-slice-copy-out-same-row : tie.Need-shared-slice-copy-out-same-row Inv-loop μ-loop
-shared-slice-copy-out-same-row c = search needs
+shared-slice-copy-out-same-row c = omega arith
 
--- src/lib.rt:115:12
 same-row-requires : tie.Need-same-row-requires Inv-loop μ-loop
-same-row-requires c κs = search needs
+same-row-requires c κs = tt
 
--- src/lib.rt:116:13
 returns : tie.Need-returns Inv-loop μ-loop
 returns c =
     let a = c .before .before .before .before .before .args in
     let l = c .before .before .before .before .loop in
     ahead-stop (λ (row : List ℕ). sameFields (rowFields row) (rowFields (a .key))) (keyAt (a .keys .now)) (a .stop) _ (l .i) (l .inv .1) (omega arith) (sym (c .before .same-row .ensures) ∙ c .if1 .taken)
 
--- src/lib.rt:118:9
 add-i : tie.Need-add-i Inv-loop μ-loop
-add-i c = search needs
+add-i c = omega arith
 
--- src/lib.rt:114:5
 loop-less : tie.Need-loop-less Inv-loop μ-loop
-loop-less c = search needs
+loop-less c = omega arith
 
--- src/lib.rt:114:5
 loop-again : tie.Need-loop-again Inv-loop μ-loop
 loop-again c =
     let a = c .before .before .before .before .before .args in
     let l = c .before .before .before .before .loop in
     (omega arith, ahead-more (λ (row : List ℕ). sameFields (rowFields row) (rowFields (a .key))) (keyAt (a .keys .now)) (a .stop) _ (l .i) (l .inv .1) (omega arith) (sym (c .before .same-row .ensures) ∙ c .if1 .left))
 
--- src/lib.rt:109:1
 returns-2 : tie.Need-returns-2 Inv-loop μ-loop
 returns-2 c =
     let a = c .before .before .args in

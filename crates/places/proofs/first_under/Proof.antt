@@ -1,3 +1,4 @@
+-- The loop's invariant: what is left from i on still has its first row under the ID at the same place.
 use native.Mathlib.Omega.{arith}
 use Prim.Native.Nat.{ℕ, _≤_, _-_, _+_}
 use mathlib.Core.Path.{_≡_, ap}
@@ -13,8 +14,6 @@ use Rattle.places.proofs.Running.{ahead-stop, ahead-more, ahead-done}
 use borrow.Author.Needs.{needs}
 use Rattle.places.proofs.first_under.Statement.{statement}
 use Rattle.places.proofs.first_under.Tie as tie
-use Rattle.places.proofs.first_under.Reads as reads
-use Rattle.places.proofs.first_under.Lts as lts
 
 abbrev Inv-loop : tie.InvT-loop
 Inv-loop numbers live id i₀ i = (i ≤ live) × ((ks : List (List ℕ)) → i + ahead (under (Number id)) (tab (recordAt numbers ks) (live - i) i) ≡ ahead (under (Number id)) (tab (recordAt numbers ks) live 0))
@@ -22,45 +21,36 @@ Inv-loop numbers live id i₀ i = (i ≤ live) × ((ks : List (List ℕ)) → i 
 abbrev μ-loop : tie.MeasureT-loop
 μ-loop numbers live id i₀ i = live - i
 
--- src/lib.rt:27:5
 loop-holds : tie.Need-loop-holds Inv-loop μ-loop
 loop-holds c = (search needs, λ ks. omega (arith, ap (ahead (under (Number (c .args .id)))) (tab-all (recordAt (c .args .numbers .now) ks) (c .args .live))))
 
--- src/lib.rt:28:19
 mul-row : tie.Need-mul-row Inv-loop μ-loop
 mul-row c = search needs
 
--- src/lib.rt:28:19
 shared-slice-copy-out-row : tie.Need-shared-slice-copy-out-row Inv-loop μ-loop
-shared-slice-copy-out-row c = search needs
+shared-slice-copy-out-row c = omega arith
 
--- src/lib.rt:29:12
 array-read-if1 : tie.Need-array-read-if1 Inv-loop μ-loop
-array-read-if1 c = search needs
+array-read-if1 c = omega arith
 
--- src/lib.rt:30:13
 returns : tie.Need-returns Inv-loop μ-loop
 returns c =
     let a = c .before .before .before .before .args in
     let l = c .before .before .before .loop in
     λ ks. ahead-stop (under (Number (a .id))) (recordAt (a .numbers .now) ks) (a .live) _ (l .i) (l .inv .1 ks) (omega arith) (eq-eqb _ _ (c .if1 .taken))
 
--- src/lib.rt:32:9
 add-i : tie.Need-add-i Inv-loop μ-loop
-add-i c = search needs
+add-i c = omega arith
 
--- src/lib.rt:27:5
 loop-less : tie.Need-loop-less Inv-loop μ-loop
-loop-less c = search needs
+loop-less c = omega arith
 
--- src/lib.rt:27:5
 loop-again : tie.Need-loop-again Inv-loop μ-loop
 loop-again c =
     let a = c .before .before .before .before .args in
     let l = c .before .before .before .loop in
     (omega arith, λ ks. ahead-more (under (Number (a .id))) (recordAt (a .numbers .now) ks) (a .live) _ (l .i) (l .inv .1 ks) (omega arith) (ne-eqb _ _ (c .if1 .left)))
 
--- src/lib.rt:22:1
 returns-2 : tie.Need-returns-2 Inv-loop μ-loop
 returns-2 c =
     let a = c .before .before .args in

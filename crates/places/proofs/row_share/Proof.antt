@@ -1,37 +1,30 @@
+-- A share by the record's kind and whether it begins its lot.
+use native.Mathlib.Omega.{arith}
 use Rattle.places.proofs.Weighing.{share-other, share-first, share-rest}
 use borrow.Author.Needs.{needs}
 use Rattle.places.proofs.row_share.Statement.{statement}
 use Rattle.places.proofs.row_share.Tie as tie
-use Rattle.places.proofs.row_share.Reads as reads
-use Rattle.places.proofs.row_share.Lts as lts
 
--- src/lib.rt:86:8
 array-read-if1 : tie.Need-array-read-if1
-array-read-if1 c = search needs
+array-read-if1 c = omega arith
 
--- src/lib.rt:87:16
 array-read-result : tie.Need-array-read-result
-array-read-result c = search needs
+array-read-result c = omega arith
 
--- src/lib.rt:87:9
 returns : tie.Need-returns
-returns c = share-other (c .before .args .t1) (c .before .args .begins) (c .if1 .taken)
+returns c = (share-other (c .before .args .t1) (c .before .args .begins) (c .if1 .taken), c .before .pre .0)
 
--- src/lib.rt:90:16
 array-read-result-2 : tie.Need-array-read-result-2
-array-read-result-2 c = search needs
+array-read-result-2 c = omega arith
 
--- src/lib.rt:90:16
 mul-result : tie.Need-mul-result
 mul-result c = search needs
 
--- src/lib.rt:90:9
 returns-2 : tie.Need-returns-2
-returns-2 c = share-first (c .before .before .args .t1) (c .before .before .args .begins) (c .before .if1 .left) (c .if2 .taken)
+returns-2 c = (share-first (c .before .before .args .t1) (c .before .before .args .begins) (c .before .if1 .left) (c .if2 .taken), omega (arith, c .before .before .pre .1))
 
--- src/lib.rt:82:1
 returns-3 : tie.Need-returns-3
-returns-3 c = share-rest (c .before .before .args .t1) (c .before .before .args .begins) (c .before .if1 .left) (c .if2 .left)
+returns-3 c = (share-rest (c .before .before .args .t1) (c .before .before .args .begins) (c .before .if1 .left) (c .if2 .left), omega arith)
 
 pub row-share-spec : {M : Type 1} → statement M
 row-share-spec =

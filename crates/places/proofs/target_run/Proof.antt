@@ -1,3 +1,5 @@
+-- The two ends of the run, or the number of live rows twice where the target is not digits.
+use Prim.{tt}
 use native.Mathlib.Omega.{arith}
 use mathlib.Core.Path.{sym, _∙_}
 use mathlib.Core.List.{[]}
@@ -8,41 +10,29 @@ use Rattle.places.proofs.Running.{ahead-tab, run-found, run-none}
 use borrow.Author.Needs.{needs}
 use Rattle.places.proofs.target_run.Statement.{statement}
 use Rattle.places.proofs.target_run.Tie as tie
-use Rattle.places.proofs.target_run.Reads as reads
-use Rattle.places.proofs.target_run.Lts as lts
-use Rattle.layout.proofs.number_in.Reads as number-in-reads
-use Rattle.places.proofs.first_other.Reads as first-other-reads
-use Rattle.places.proofs.first_under.Reads as first-under-reads
 
--- src/lib.rt:58:9
 number-in-requires : tie.Need-number-in-requires
-number-in-requires c κs = search needs
+number-in-requires c κs = tt
 
--- src/lib.rt:60:23
 enum-known-f : tie.Need-enum-known-f
 enum-known-f c = search needs
 
--- src/lib.rt:61:17
 first-under-requires : tie.Need-first-under-requires
 first-under-requires c κs = search needs
 
--- src/lib.rt:62:17
 first-other-requires : tie.Need-first-other-requires
 first-other-requires c κs =
     let a = c .before .before .before .before .before .before .args in
     (omega (arith, c .first-under .ensures [], ahead-tab (under (Number (c .before .before .f .given .0 .0))) (recordAt (a .numbers .now) []) (a .live) 0), omega arith)
 
--- src/lib.rt:68:29
 enum-told : tie.Need-enum-told
 enum-told c = search needs
 
--- src/lib.rt:54:1
 returns : tie.Need-returns
 returns c =
     let a = c .before .before .before .before .before .before .before .args in
     λ ks. run-found (a .numbers .now) ks (a .live) (omega arith) _ _ _ _ (sym (c .before .before .before .before .before .number-in .ensures) ∙ c .before .before .before .f .given .1) (c .before .first-under .ensures ks) (c .first-other .ensures ks)
 
--- src/lib.rt:54:1
 returns-2 : tie.Need-returns-2
 returns-2 c =
     let a = c .before .before .before .before .args in

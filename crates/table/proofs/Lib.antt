@@ -1,0 +1,4 @@
+pub mod Rows
+pub mod Closing
+pub mod Zeros
+pub mod Whole
