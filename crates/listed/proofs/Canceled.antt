@@ -1,9 +1,8 @@
 -- 37 of a CC: where each canceled pool has its record's row, fine and even marks with lots alike are distinct pools of whole lots, and each 6 lot one live lot like it.
 use Prim.Native.Nat.{ℕ, _≤_, _<_}
-use mathlib.Core.Path.{_≡_, refl, sym, ap, ap₂, _∙_}
-use mathlib.Core.Logic.{_⊎_, inl, inr}
-use mathlib.Core.List.{List, [], _∷_, _++_, map, List·Memᴰ·head, List·Memᴰ·tail, List·Memᴰ·not-nil, List·Memᴰ·cases-cons, Memᴰ·map, Memᴰ·append-left, Memᴰ·append-right}
-use mathlib.Core.Bool.{Bool, true, false, cond, not, _&&_, _||_}
+use mathlib.Core.Path.{_≡_, refl, sym, ap, _∙_}
+use mathlib.Core.List.{List, [], map, List·Memᴰ·head, List·Memᴰ·tail, List·Memᴰ·not-nil, Memᴰ·map, Memᴰ·append-left, Memᴰ·append-right}
+use mathlib.Core.Bool.{Bool, true, false, cond, not, _&&_}
 use lib.Dec.{eqb}
 use lib.ListN.{getD}
 use borrow.Author.Tests.{eq-eqb, eqb-true}
@@ -11,11 +10,11 @@ use Rattle.lists.specs.Lists.{tab, keep, all}
 use Rattle.lists.proofs.Tests.{_∈_, and-left, and-right, both, implied, all-in, all-out, keep-in}
 use Rattle.fields.specs.declared.Field.{Field}
 use Rattle.layout.specs.declared.Detail.{Detail}
-use Rattle.terminator.specs.Terminators.{kindOf, millionsOf, term, isCanceled}
+use Rattle.terminator.specs.Terminators.{isCanceled}
 use Rattle.terminator.specs.Lots.{Lot, poolsOf, lots, lotKind, lotMillions, formedFor}
 use Rattle.terminator.specs.Groups.{lotCanceled}
 use Rattle.book.specs.declared.Pool.{Pool}
-use Rattle.book.specs.Records.{Fields, fieldsOf, kindNumber, distinct, sameLot}
+use Rattle.book.specs.Records.{Fields, fieldsOf, kindNumber, distinct}
 use Rattle.book.specs.Messages.{under}
 use Rattle.book.specs.Opening.{recordsMax}
 use Rattle.book.specs.Soundness.{inOrder, fieldsOnce}
@@ -30,8 +29,9 @@ use Rattle.listed.proofs.Marking.{markAt}
 use Rattle.listed.proofs.Numbered.{numbered, rowsIn, rows-numbered, rows-out, rows-in}
 use Rattle.listed.proofs.Evenness.{Even}
 use Rattle.listed.proofs.Exact.{marks-fine, marks-taken, marks-closed, closed-marks}
-use Rattle.listed.proofs.Grouped.{lotRows, entries-rows, entries-cc, canceled-alike, canceled-pools}
-use Rattle.listed.proofs.Likeness.{ordinalOf, oneOrdinal, lotAlike, ordinal-out, ordinal-in}
+use Rattle.listed.proofs.Formed.{canceled-alike, canceled-pools}
+use Rattle.listed.proofs.Grouped.{lotRows, entries-rows, entries-cc}
+use Rattle.listed.proofs.Likeness.{oneOrdinal, lotAlike, ordinal-out, ordinal-in}
 use Rattle.listed.proofs.OneLot.{keep-member, Agreed, agree-out, agree-in}
 use Rattle.listed.proofs.Whole.{Stands, fields-are, rows-stand}
 

@@ -1,11 +1,11 @@
 -- Even marks: records of one lot, which follow one another, have equal marks exactly if each list of rows is whole lots.
 use Prim.Native.Nat.{ℕ, zero, suc, _+_, _-_, _≤_, _<_}
-use mathlib.Core.Path.{_≡_, refl, sym, ap, _∙_}
+use mathlib.Core.Path.{_≡_, sym, ap, _∙_}
 use mathlib.Core.Logic.{_⊎_, inl, inr}
 use mathlib.Core.List.{List, Memᴰ·cast}
 use mathlib.Core.Bool.{true}
 use native.Mathlib.Omega.{arith}
-use native.Mathlib.Decide.{ℕ-discrete, decLt}
+use native.Mathlib.Decide.{decLt}
 use Rattle.lists.specs.Lists.{tab}
 use Rattle.lists.proofs.Tests.{_∈_}
 use Rattle.fields.specs.declared.Field.{Field}
@@ -15,7 +15,7 @@ use Rattle.book.specs.Messages.{under}
 use Rattle.book.specs.Soundness.{inOrder, fieldsOnce}
 use Rattle.listed.specs.Marks.{Entry}
 use Rattle.listed.proofs.Indexed.{lot-next, lot-parts, is-lot}
-use Rattle.listed.proofs.Taken.{Within, Closed, under-lot}
+use Rattle.listed.proofs.Taken.{under-lot}
 use Rattle.listed.proofs.Numbered.{entry, numbered, list-of, number-of}
 
 module _ (tgt : Field) (f : ℕ → Pool) (n : ℕ) (order : inOrder (tab f n 0) ≡ true) (once : fieldsOnce (tab f n 0) ≡ true) (start stop : ℕ) (m : ℕ → ℕ) where

@@ -2,8 +2,8 @@
 use Prim.Native.Nat.{ℕ, zero, suc, _≤_, _<_}
 use mathlib.Core.Path.{_≡_, refl, sym, ap, _∙_}
 use mathlib.Core.Logic.{_⊎_, inl, inr}
-use mathlib.Core.List.{List, [], _∷_, map, map-map, Memᴰ·cast}
-use mathlib.Core.Bool.{Bool, true, false, not}
+use mathlib.Core.List.{List, map, map-map, Memᴰ·cast}
+use mathlib.Core.Bool.{true, not}
 use native.Mathlib.Omega.{arith}
 use lib.Dec.{eqb}
 use lib.ListN.{length, getD, replicate, length-replicate}

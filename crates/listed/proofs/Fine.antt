@@ -2,13 +2,13 @@
 use Prim.Native.Nat.{ℕ, _+_, _-_, _≤_, _<_}
 use mathlib.Core.Path.{_≡_, refl, sym, ap, _∙_}
 use mathlib.Core.List.{List, [], _∷_, map}
-use mathlib.Core.Bool.{Bool, true, false, cond, not, _&&_, _||_, false≢true, and-true, and-false}
+use mathlib.Core.Bool.{Bool, true, false, cond, not, _&&_, _||_, false≢true}
 use native.Mathlib.Omega.{arith}
 use lib.Dec.{eqb}
 use lib.ListN.{length, getD, take, replicate}
 use borrow.Author.Tests.{eq-eqb, eqb-true, not-true, not-false}
 use Rattle.lists.specs.Lists.{tab, keep, all}
-use Rattle.lists.proofs.Tests.{_∈_, and-left, and-right, implied, keep-in}
+use Rattle.lists.proofs.Tests.{_∈_, and-left, implied, keep-in}
 use Rattle.lists.proofs.Folds.{fold}
 use Rattle.layout.specs.declared.Detail.{Detail}
 use Rattle.layout.specs.Details.{details, poolCount}
@@ -22,7 +22,7 @@ use Rattle.book.specs.Records.{Fields, fieldsOf, distinct, sameLot, noPool}
 use Rattle.book.specs.Messages.{typeOf, targetOf, under, listedOf, listed}
 use Rattle.book.specs.Opening.{recordsMax}
 use Rattle.book.specs.Soundness.{inOrder, fieldsOnce}
-use Rattle.book.specs.Checks.{isCc, ccOrDk, isTaken, allLive, wholeLots, oneLot, canceledLots, listedFine}
+use Rattle.book.specs.Checks.{isCc, ccOrDk, isTaken, allLive, wholeLots, oneLot, canceledLots}
 use Rattle.table.specs.Rows.{recordAt, tableOf}
 use Rattle.places.specs.declared.Run.{Run}
 use Rattle.places.specs.declared.Places.{Places}
@@ -41,7 +41,7 @@ use Rattle.listed.proofs.Evenness.{Even}
 use Rattle.listed.proofs.Likeness.{lotAlike, alike-pass}
 use Rattle.listed.proofs.Whole.{Stands, dk-fine, dk-taken, dk-even}
 use Rattle.listed.proofs.Canceled.{Numbers, cc-fine, cc-taken, cc-even}
-use Rattle.listed.proofs.Placed.{rs, at, run, rows-are, order-at, once-at, row-at, run-bound, run-inside, rowOf, rows-placed, pools-stand}
+use Rattle.listed.proofs.Placed.{at, run, rows-are, order-at, once-at, row-at, run-bound, run-inside, rowOf, rows-placed, pools-stand}
 
 alike-fold : (numbers : Detail → List ℕ) (s : Alike) (ds : List Detail) → alikeAll numbers s ds ≡ fold (λ (s : Alike) (d : Detail). alikePool s d (numbers d)) s ds
 alike-fold numbers s [] = refl
@@ -265,21 +265,3 @@ module _ (body : List ℕ) (ns ks : List (List ℕ)) (live : ℕ) (given : Finda
             (h row (placed p there f)
             ∙ ap (λ (x : Run). judgedBy cc row ns (x .start) (x .stop) (details body)) is
             ∙ ap (λ (b : Bool). judgedBy b row ns (target-run .start) (target-run .stop) (details body)) (ec ∙ ap isCc et))
-
--- ---- the judgment
-module _ (cc : Bool) (row : Detail → ℕ) (ns : List (List ℕ)) (start stop : ℕ) (ds : List Detail) (m : Listed) (em : m ≡ markAll unmarked (entriesFrom cc row 1 ds))
-    (even : Bool) (ee : even ≡ marksEven ns (m .marks) start stop) where
-  pub judged-cc : cc ≡ true → (a : Bool) → a ≡ alikeAll (λ (d : Detail). numbersOf ns (row d) d) noneAlike ds .fine
-      → _≡_ {A = Listed} (record { fine = m .fine && (even && a); marks = m .marks }) (judgedBy cc row ns start stop ds)
-  unfolding judgedBy
-  judged-cc c a ea =
-      ap (λ (b : Bool). record { fine = m .fine && (b && a); marks = m .marks }) ee
-      ∙ ap (λ (b : Bool). record { fine = m .fine && (marksEven ns (m .marks) start stop && b); marks = m .marks }) (ea ∙ sym (ap (λ (b : Bool). not b || alikeAll (λ (d : Detail). numbersOf ns (row d) d) noneAlike ds .fine) c))
-      ∙ ap (λ (x : Listed). record { fine = x .fine && (marksEven ns (x .marks) start stop && (not cc || alikeAll (λ (d : Detail). numbersOf ns (row d) d) noneAlike ds .fine)); marks = x .marks }) em
-
-  pub judged-dk : cc ≡ false → _≡_ {A = Listed} (record { fine = m .fine && even; marks = m .marks }) (judgedBy cc row ns start stop ds)
-  unfolding judgedBy
-  judged-dk c =
-      ap (λ (b : Bool). record { fine = m .fine && b; marks = m .marks }) (ee ∙ sym (and-true (marksEven ns (m .marks) start stop)))
-      ∙ ap (λ (b : Bool). record { fine = m .fine && (marksEven ns (m .marks) start stop && b); marks = m .marks }) (sym (ap (λ (b : Bool). not b || alikeAll (λ (d : Detail). numbersOf ns (row d) d) noneAlike ds .fine) c))
-      ∙ ap (λ (x : Listed). record { fine = x .fine && (marksEven ns (x .marks) start stop && (not cc || alikeAll (λ (d : Detail). numbersOf ns (row d) d) noneAlike ds .fine)); marks = x .marks }) em

@@ -3,6 +3,7 @@ pub mod Taken
 pub mod Marking
 pub mod Numbered
 pub mod Evenness
+pub mod Formed
 pub mod Grouped
 pub mod Likeness
 pub mod OneLot
@@ -10,5 +11,6 @@ pub mod Exact
 pub mod Whole
 pub mod Canceled
 pub mod Passes
+pub mod Judged
 pub mod Placed
 pub mod Fine

@@ -13,8 +13,8 @@ use Rattle.layout.specs.declared.Detail.{Detail}
 use Rattle.terminator.specs.Terminators.{isEnd, term}
 use Rattle.terminator.specs.Lots.{Lot, poolsOf, lots, formedFor}
 use Rattle.listed.specs.declared.Alike.{Alike}
-use Rattle.listed.specs.Lots.{ordinalIn, lastFits, sameOrdinal, alikePool, noneAlike}
-use Rattle.listed.proofs.Grouped.{whole-lots}
+use Rattle.listed.specs.Lots.{ordinalIn, lastFits, alikePool, noneAlike}
+use Rattle.listed.proofs.Formed.{whole-lots}
 
 module _ (numbers : Detail → List ℕ) where
   abbrev pub ordinalOf : Detail → ℕ

@@ -1,8 +1,7 @@
 -- A 6 lot's records are of one live lot of its kind and millions exactly if all have one ordinal and the last pool's has that kind and those millions.
 use Prim.Native.Nat.{ℕ, _<_}
 use mathlib.Core.Path.{_≡_, refl, sym, ap, _∙_}
-use mathlib.Core.Logic.{_⊎_, inl, inr}
-use mathlib.Core.List.{List, [], _∷_, _++_, map, List·Memᴰ·head, List·Memᴰ·tail, List·Memᴰ·not-nil, List·Memᴰ·cases-cons, Memᴰ·map, Memᴰ·append-right}
+use mathlib.Core.List.{List, [], _∷_, map, List·Memᴰ·head, List·Memᴰ·tail, List·Memᴰ·not-nil, Memᴰ·map, Memᴰ·append-right}
 use mathlib.Core.Bool.{Bool, true, false, cond, _&&_}
 use native.Mathlib.Omega.{arith}
 use lib.Dec.{eqb}
@@ -14,7 +13,6 @@ use Rattle.layout.specs.declared.Detail.{Detail}
 use Rattle.terminator.specs.Lots.{Lot, poolsOf, lotKind, lotMillions}
 use Rattle.book.specs.declared.Pool.{Pool}
 use Rattle.book.specs.Records.{kindNumber}
-use Rattle.book.specs.Messages.{under}
 use Rattle.book.specs.Soundness.{inOrder, fieldsOnce}
 use Rattle.book.specs.Checks.{isTaken, firstOrdinal}
 use Rattle.listed.proofs.Indexed.{tab-in, tab-from, lot-alike, is-lot}

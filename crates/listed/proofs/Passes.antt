@@ -1,5 +1,5 @@
 -- The passes of the code: what is left of the pools, or of the rows, still leads to the same answer.
-use Prim.Native.Nat.{ℕ, suc, _+_, _-_, _≤_, _<_}
+use Prim.Native.Nat.{ℕ, _+_, _-_, _≤_, _<_}
 use mathlib.Core.Path.{_≡_, refl, sym, ap, _∙_}
 use mathlib.Core.List.{List, [], _∷_}
 use mathlib.Core.Bool.{Bool, true, false, cond, not, _&&_, _||_}
@@ -18,8 +18,8 @@ use Rattle.book.specs.Records.{kindNumber}
 use Rattle.book.specs.Opening.{recordsMax}
 use Rattle.listed.specs.declared.Listed.{Listed}
 use Rattle.listed.specs.declared.Alike.{Alike}
-use Rattle.listed.specs.Marks.{Rows, isListed, numberAfter, entriesFrom, markRow, markAll, unmarked, evenAt, marksEven}
-use Rattle.listed.specs.Lots.{numbersOf, ordinalIn, lastFits, sameOrdinal, alikePool, alikeAll, noneAlike}
+use Rattle.listed.specs.Marks.{Rows, isListed, numberAfter, entriesFrom, markAll, unmarked, evenAt, marksEven}
+use Rattle.listed.specs.Lots.{numbersOf, lastFits, alikePool, alikeAll, noneAlike}
 
 -- ---- one pool
 module _ (cc : Bool) (k : ℕ) (d : Detail) (t : Terminator) (e : Bool) (et : t ≡ term d) (ee : e ≡ isEnd t) where

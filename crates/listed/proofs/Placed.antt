@@ -1,7 +1,7 @@
 -- Each listed pool's row as a function of the pool: the first of the target's rows with its fields, which is the row that was found.
 use Prim.Native.Nat.{ℕ, zero, suc, _+_, _≤_, _<_}
 use mathlib.Core.Path.{_≡_, refl, sym, ap, _∙_}
-use mathlib.Core.List.{List, [], _∷_}
+use mathlib.Core.List.{List}
 use mathlib.Core.Bool.{Bool, true, false, cond, _&&_}
 use native.Mathlib.Omega.{arith}
 use native.Mathlib.Decide.{ℕ-discrete}
@@ -9,9 +9,8 @@ use lib.ListN.{length, getD, take}
 use Rattle.lists.specs.Lists.{tab}
 use Rattle.lists.proofs.Tests.{_∈_, and-left, and-right, both, clash}
 use Rattle.lists.proofs.Tables.{length-tab, getD-tab}
-use Rattle.fields.specs.declared.Field.{Field}
 use Rattle.layout.specs.declared.Detail.{Detail}
-use Rattle.layout.specs.Details.{details, poolCount, detailAt, placeOf}
+use Rattle.layout.specs.Details.{details, poolCount}
 use Rattle.layout.proofs.Passes.{poolOf}
 use Rattle.book.specs.declared.Pool.{Pool}
 use Rattle.book.specs.Records.{Fields, fieldsOf, liveFields, sameFields, noPool}
@@ -24,7 +23,7 @@ use Rattle.places.specs.declared.Places.{Places}
 use Rattle.places.specs.Runs.{ahead, runOf}
 use Rattle.places.specs.Finding.{lists, Finds}
 use Rattle.places.proofs.Running.{live-tab}
-use Rattle.places.proofs.Ascending.{run-rises, run-within, run-under, run-only}
+use Rattle.places.proofs.Ascending.{run-within, run-under, run-only}
 use Rattle.listed.specs.Marks.{Rows}
 use Rattle.listed.proofs.Indexed.{tab-from}
 use Rattle.listed.proofs.Taken.{same-row}

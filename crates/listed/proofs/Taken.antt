@@ -1,9 +1,9 @@
 -- Records that a list of rows takes off: those of the rows, since no two records of the target have equal fields; and whole lots of them.
 use Prim.Native.Nat.{ℕ, _<_}
-use mathlib.Core.Path.{_≡_, refl, sym, ap, _∙_}
+use mathlib.Core.Path.{_≡_, refl, sym, _∙_}
 use mathlib.Core.Logic.{_⊎_, inl, inr}
 use mathlib.Core.List.{List, [], _∷_, map, List·Memᴰ·head, List·Memᴰ·tail, List·Memᴰ·not-nil, List·Memᴰ·cases-cons, Memᴰ·map}
-use mathlib.Core.Bool.{Bool, true, false, not, _&&_, _||_}
+use mathlib.Core.Bool.{Bool, true, false, not, _||_}
 use native.Mathlib.Omega.{arith}
 use Rattle.lists.specs.Lists.{tab, all}
 use Rattle.lists.proofs.Tests.{_∈_, and-left, and-right, both, implied}
@@ -14,7 +14,7 @@ use Rattle.book.specs.Messages.{under}
 use Rattle.book.specs.Soundness.{inOrder, fieldsOnce}
 use Rattle.book.specs.Checks.{isTaken, wholeLots}
 use Rattle.book.proofs.Targets.{has-in, has-out, under-is, target-one}
-use Rattle.listed.proofs.Indexed.{alike, all-each, each-all, row-once, lot-parts}
+use Rattle.listed.proofs.Indexed.{all-each, each-all, row-once}
 
 -- an element of a mapped list is that of an element
 pub map-from : {A B : Type 0} (g : A → B) (xs : List A) (y : B) → y ∈ map g xs → (x : A) × (x ∈ xs) × (y ≡ g x)

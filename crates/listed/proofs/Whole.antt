@@ -16,7 +16,7 @@ use Rattle.book.specs.Opening.{recordsMax}
 use Rattle.book.specs.Soundness.{inOrder, fieldsOnce}
 use Rattle.book.specs.Checks.{isTaken, wholeLots}
 use Rattle.listed.specs.declared.Listed.{Listed}
-use Rattle.listed.specs.Marks.{Entry, entriesFrom, markAll, unmarked}
+use Rattle.listed.specs.Marks.{entriesFrom, markAll, unmarked}
 use Rattle.listed.proofs.Indexed.{alike}
 use Rattle.listed.proofs.Taken.{fieldsAt, Within, Closed, whole-closed, closed-whole, map-from}
 use Rattle.listed.proofs.Marking.{markAt}

@@ -9,7 +9,6 @@ use Rattle.layout.specs.declared.Detail.{Detail}
 use Rattle.layout.specs.Details.{details, poolCount, detailAt, placeOf}
 use Rattle.terminator.specs.Terminators.{isCanceled}
 use Rattle.terminator.specs.Lots.{formedFor}
-use Rattle.book.specs.declared.Pool.{Pool}
 use Rattle.book.specs.Records.{noPool}
 use Rattle.book.specs.Messages.{typeOf, targetOf, listed}
 use Rattle.book.specs.Opening.{recordsMax}

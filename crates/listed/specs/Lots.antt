@@ -13,7 +13,7 @@ use Rattle.listed.specs.declared.Alike.{Alike}
 abbrev pub numbersOf : List (List ℕ) → ℕ → Detail → List ℕ
 numbersOf ns row d = cond (isCanceled d) (getD ns row []) (replicate 6 0)
 
--- ordinal, kind and millions in a row of numbers
+-- the ordinal in a row of numbers
 abbrev pub ordinalIn : List ℕ → ℕ
 ordinalIn row = getD row 1 0
 

@@ -56,7 +56,7 @@ fn number_after(cc: bool, k: u8, d: Detail) -> u8
 }
 
 // Marks the row of each listed pool with the number of its lot; a row that has a mark is listed twice.
-fn mark_places(body: &[u8], at: &[usize; 250], cc: bool) -> Listed
+fn mark_places(body: &[u8], at: &[usize; layout::POOLS_MAX], cc: bool) -> Listed
     requires { ⌜ ((i : ℕ) → i < poolCount (now body) → getD (now at) i 0 < recordsMax) ⌝ }
     ensures { λ r. ⌜ (length (r .marks) ≡ recordsMax) × ((row : Detail → ℕ) → Rows row (now (body .entry)) (now (at .entry)) → r ≡ markAll unmarked (entriesFrom cc row 1 (details (now (body .entry))))) ⌝ }
 {
@@ -185,7 +185,7 @@ fn numbers_of(numbers: &[[u64; 6]], row: usize, d: Detail) -> [u64; 6]
 }
 
 // Whether the records of each 6 lot's pools have one ordinal, and the lot's kind and millions.
-fn lots_alike(numbers: &[[u64; 6]], body: &[u8], at: &[usize; 250]) -> bool
+fn lots_alike(numbers: &[[u64; 6]], body: &[u8], at: &[usize; layout::POOLS_MAX]) -> bool
     requires { ⌜ ((i : ℕ) → i < poolCount (now body) → isCanceled (detailAt (now body) (placeOf i)) ≡ true → getD (now at) i 0 < length (now numbers)) ⌝ }
     ensures { λ r. ⌜ ((row : Detail → ℕ) → Rows row (now (body .entry)) (now (at .entry)) → r ≡ alikeAll (λ (d : Detail). numbersOf (now (numbers .entry)) (row d) d) noneAlike (details (now (body .entry))) .fine) ⌝ }
 {
@@ -221,7 +221,7 @@ fn is_cc(t: MessageType) -> bool
 fn judge(
     body: &[u8],
     numbers: &[[u64; 6]],
-    at: &[usize; 250],
+    at: &[usize; layout::POOLS_MAX],
     cc: bool,
     start: usize,
     stop: usize,

@@ -7,12 +7,13 @@ use native.Mathlib.Nat.{add-zero}
 use native.Mathlib.Omega.{arith}
 use lib.ListN.{length, take, drop}
 use Rattle.lists.specs.Lists.{tab}
-use Rattle.lists.proofs.Tables.{take-tab, drop-tab, length-tab, tab-turn, tab-end}
+use Rattle.lists.proofs.Tables.{drop-tab, length-tab, tab-turn, tab-end}
 use Rattle.fields.specs.declared.Field.{Field}
 use Rattle.fields.specs.declared.Field.the-variants.{Number, NotDigits}
 use Rattle.book.specs.declared.Pool.{Pool}
 use Rattle.book.specs.Messages.{under}
 use Rattle.table.specs.Rows.{recordAt, tableOf}
+use Rattle.table.proofs.Rows.{take-table}
 use Rattle.places.specs.declared.Run.{Run}
 use Rattle.places.specs.Runs.{ahead, leading, runOf}
 
@@ -71,8 +72,7 @@ module _ {A : Type 0} (p : A → Bool) where
 -- ---- the run from its two ends
 -- the live records of a table
 pub live-tab : (ns ks : List (List ℕ)) (n : ℕ) → n ≤ length ns → take n (tableOf ns ks) ≡ tab (recordAt ns ks) n 0
-unfolding tableOf
-live-tab ns ks n l = take-tab (recordAt ns ks) n (length ns) 0 l
+live-tab ns ks n l = take-table ns ks n l
 
 -- what is left of them at i
 live-from : (ns ks : List (List ℕ)) (n i : ℕ) → drop i (tab (recordAt ns ks) n 0) ≡ tab (recordAt ns ks) (n - i) i

@@ -20,14 +20,6 @@ use Rattle.places.specs.Marks.{marked, rowShare}
 use Rattle.places.proofs.Running.{live-tab}
 
 -- ---- the share of one record
-pub share-most : (row : List ℕ) (first : Bool) → getD row 3 0 ≤ elevenDigitsMax → getD row 5 0 ≤ 99 → rowShare first row ≤ elevenDigitsMax
-share-most row first f m = go (eqb (getD row 4 0) kindGood) first
-  where
-    go : (b c : Bool) → cond b (cond c (getD row 5 0 * millionCents) 0) (getD row 3 0) ≤ elevenDigitsMax
-    go true true = omega (arith, m)
-    go true false = omega arith
-    go false c = f
-
 -- whether a row begins a lot, after a record of a message and an ordinal
 abbrev pub begins : List ℕ → ℕ → ℕ → Bool
 begins row message ordinal = not (eqb (getD row 0 0) message && eqb (getD row 1 0) ordinal)

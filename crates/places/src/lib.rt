@@ -10,6 +10,7 @@ ghost use Rattle.lists.specs.Lists.{tab};
 ghost use Rattle.fields.specs.declared.Field.the-variants.{Number};
 ghost use Rattle.book.specs.Records.{sameFields, weightOfRecords};
 ghost use Rattle.book.specs.Messages.{targetOf, under};
+ghost use Rattle.book.specs.Opening.{elevenDigitsMax};
 ghost use Rattle.table.specs.Rows.{keyAt, recordAt, tableOf};
 ghost use Rattle.places.specs.Runs.{ahead, leading, runOf};
 ghost use Rattle.places.specs.Finding.{rowFields, lists, Finds};
@@ -165,8 +166,8 @@ pub fn find_places(body: &[u8], keys: &[[u8; 22]], run: Run) -> Places
 
 // What a record adds to the weight of its lot, given whether it begins the lot.
 fn row_share(row: [u64; 6], begins: bool) -> u64
-    requires { ⌜ getD row 5 0 ≤ 99 ⌝ }
-    ensures { λ r. ⌜ r ≡ rowShare begins row ⌝ }
+    requires { ⌜ (getD row 3 0 ≤ elevenDigitsMax) × (getD row 5 0 ≤ 99) ⌝ }
+    ensures { λ r. ⌜ (r ≡ rowShare begins row) × (r ≤ elevenDigitsMax) ⌝ }
 {
     if row[table::KIND] != GOOD {
         return row[table::CURRENT];

@@ -1,4 +1,4 @@
-use native.Mathlib.Omega.{arith}
+-- Nothing is fine where a pool has no row; else the judgment of the rows decides.
 use Rattle.listed.proofs.Fine.{run-fits, search-none, search-judged, search-decided}
 use borrow.Author.Needs.{needs}
 use Rattle.listed.proofs.find_listed.Statement.{statement}
@@ -11,33 +11,26 @@ use Rattle.listed.proofs.judge.Reads as judge-reads
 use Rattle.places.proofs.find_places.Reads as find-places-reads
 use Rattle.places.proofs.target_run.Reads as target-run-reads
 
--- src/lib.rt:253:9
 message-type-requires : tie.Need-message-type-requires
 message-type-requires c κs = search needs
 
--- src/lib.rt:254:9
 is-cc-requires : tie.Need-is-cc-requires
 is-cc-requires c κs = search needs
 
--- src/lib.rt:255:9
 target-run-requires : tie.Need-target-run-requires
 target-run-requires c κs = c .before .before .before .pre .within
 
--- src/lib.rt:256:9
 find-places-requires : tie.Need-find-places-requires
 find-places-requires c κs = let a = c .before .before .before .before .args in run-fits (a .body .now) (a .numbers .now) (a .keys .now) (a .live) (c .before .before .before .before .pre) _ (c .target-run .ensures (a .keys .now))
 
--- src/lib.rt:258:9
 returns : tie.Need-returns
 returns c = let a = c .before .before .before .before .before .before .before .args in search-none (a .body .now) (a .numbers .now) (a .keys .now) (a .live) (c .before .before .before .before .before .before .before .pre) _ (c .before .before .before .target-run .ensures (a .keys .now)) _ (c .before .before .find-places .ensures) (c .if1 .taken) _
 
--- src/lib.rt:264:5
 judge-requires : tie.Need-judge-requires
 judge-requires c κs =
     let a = c .before .before .before .before .before .before .before .before .before .args in
     search-judged (a .body .now) (a .numbers .now) (a .keys .now) (a .live) (c .before .before .before .before .before .before .before .before .before .pre) _ (c .before .before .before .before .before .target-run .ensures (a .keys .now)) _ (c .before .before .before .before .find-places .ensures) (c .before .before .if1 .left) _ (c .before .before .before .before .before .before .before .message-type .ensures) _ (c .before .before .before .before .before .before .is-cc .ensures)
 
--- src/lib.rt:249:1
 returns-2 : tie.Need-returns-2
 returns-2 c =
     let a = c .before .before .before .before .before .before .before .before .before .before .args in

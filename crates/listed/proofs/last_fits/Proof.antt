@@ -1,3 +1,4 @@
+-- The terminator's kind and millions by their contracts.
 use Rattle.listed.proofs.Passes.{last-is}
 use borrow.Author.Needs.{needs}
 use Rattle.listed.proofs.last_fits.Statement.{statement}
@@ -8,31 +9,24 @@ use Rattle.listed.proofs.kind_number.Reads as kind-number-reads
 use Rattle.listed.proofs.millions_of.Reads as millions-of-reads
 use Rattle.terminator.proofs.terminator_of.Reads as terminator-of-reads
 
--- src/lib.rt:139:9
 terminator-of-requires : tie.Need-terminator-of-requires
 terminator-of-requires c κs = search needs
 
--- src/lib.rt:140:7
 array-read-result : tie.Need-array-read-result
 array-read-result c = search needs
 
--- src/lib.rt:141:13
 array-read-result-2 : tie.Need-array-read-result-2
 array-read-result-2 c = search needs
 
--- src/lib.rt:141:33
 kind-number-requires : tie.Need-kind-number-requires
 kind-number-requires c κs = search needs
 
--- src/lib.rt:141:52
 array-read-result-3 : tie.Need-array-read-result-3
 array-read-result-3 c = search needs
 
--- src/lib.rt:141:76
 millions-of-requires : tie.Need-millions-of-requires
 millions-of-requires c κs = search needs
 
--- src/lib.rt:135:1
 returns : tie.Need-returns
 returns c = let a = c .before .before .before .before .args in last-is (a .d) (a .t2) _ _ _ (c .before .before .terminator-of .ensures) (c .before .kind-number .ensures) (c .millions-of .ensures)
 

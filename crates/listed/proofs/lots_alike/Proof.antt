@@ -1,3 +1,4 @@
+-- The loop's invariant: what is left of the pools still leads to the same state.
 use Rattle.terminator.specs.Terminators.{isCanceled}
 use Prim.Native.Nat.{_≤_, _-_}
 use native.Mathlib.Omega.{arith}
@@ -20,50 +21,39 @@ Inv-loop numbers body at n s₀ i₀ s i = (i ≤ n) × AlikeLeft numbers body a
 abbrev μ-loop : tie.MeasureT-loop
 μ-loop numbers body at n s₀ i₀ s i = n - i
 
--- src/lib.rt:189:9
 pool-count-requires : tie.Need-pool-count-requires Inv-loop μ-loop
 pool-count-requires c κs = search needs
 
--- src/lib.rt:196:5
 loop-holds : tie.Need-loop-holds Inv-loop μ-loop
 loop-holds c = let a = c .before .before .args in (omega arith, alike-none (a .numbers .now) (a .body .now) (a .at .now) (c .pool-count .result))
 
--- src/lib.rt:197:13
 pool-at-requires : tie.Need-pool-at-requires Inv-loop μ-loop
 pool-at-requires c κs = omega (arith, c .before .before .pool-count .ensures)
 
--- src/lib.rt:198:39
 mul-numbers-of : tie.Need-mul-numbers-of Inv-loop μ-loop
 mul-numbers-of c = omega (arith, count-max (c .before .before .before .before .before .args .body .now), c .before .before .before .pool-count .ensures)
 
--- src/lib.rt:198:39
 element-copy-out-numbers-of : tie.Need-element-copy-out-numbers-of Inv-loop μ-loop
 element-copy-out-numbers-of c = omega (arith, count-max (c .before .before .before .before .before .args .body .now), c .before .before .before .pool-count .ensures)
 
--- src/lib.rt:198:13
 numbers-of-requires : tie.Need-numbers-of-requires Inv-loop μ-loop
 numbers-of-requires c κs = λ e. c .before .before .before .before .before .before .pre (c .before .before .before .loop .i) (omega (arith, c .before .before .before .before .pool-count .ensures)) (ap isCanceled (sym (c .before .pool-at .ensures)) ∙ e)
 
--- src/lib.rt:199:9
 add-i : tie.Need-add-i Inv-loop μ-loop
 add-i c = omega arith
 
--- src/lib.rt:200:9
 alike-pool-requires : tie.Need-alike-pool-requires Inv-loop μ-loop
 alike-pool-requires c κs = search needs
 
--- src/lib.rt:196:5
 loop-less : tie.Need-loop-less Inv-loop μ-loop
 loop-less c = omega arith
 
--- src/lib.rt:196:5
 loop-again : tie.Need-loop-again Inv-loop μ-loop
 loop-again c =
     let a = c .before .before .before .before .before .before .before .before .args in
     let l = c .before .before .before .before .before .loop in
     (omega arith, alike-more (a .numbers .now) (a .body .now) (a .at .now) _ (l .s) (l .i) (l .inv .1) (omega arith) (c .before .before .before .before .before .before .pool-count .ensures) _ (c .before .before .before .pool-at .ensures) _ (c .before .numbers-of .ensures) _ (c .alike-pool .ensures))
 
--- src/lib.rt:185:1
 returns : tie.Need-returns Inv-loop μ-loop
 returns c =
     let a = c .before .before .before .before .args in

@@ -1,3 +1,4 @@
+-- The loop's invariant: the number is at most that of the pools read, and what is left of them still leads to the same marks.
 use Prim.Native.Nat.{ℕ, _+_, _≤_, _-_}
 use mathlib.Core.Path.{_≡_, refl}
 use native.Mathlib.Omega.{arith}
@@ -21,53 +22,41 @@ Inv-loop body at cc n fine₀ marks₀ lot₀ i₀ fine marks lot i = (i ≤ n) 
 abbrev μ-loop : tie.MeasureT-loop
 μ-loop body at cc n fine₀ marks₀ lot₀ i₀ fine marks lot i = n - i
 
--- src/lib.rt:60:9
 pool-count-requires : tie.Need-pool-count-requires Inv-loop μ-loop
 pool-count-requires c κs = search needs
 
--- src/lib.rt:65:5
 loop-holds : tie.Need-loop-holds Inv-loop μ-loop
 loop-holds c =
     let a = c .before .before .args in
     (omega arith, omega arith, length-replicate {A = ℕ} recordsMax 0, mark-none (a .cc) (a .body .now) (a .at .now) (c .pool-count .result))
 
--- src/lib.rt:66:13
 pool-at-requires : tie.Need-pool-at-requires Inv-loop μ-loop
 pool-at-requires c κs = omega (arith, c .before .before .pool-count .ensures)
 
--- src/lib.rt:67:19
 mul-row : tie.Need-mul-row Inv-loop μ-loop
 mul-row c = omega (arith, count-max (c .before .before .before .before .before .args .body .now), c .before .before .before .pool-count .ensures)
 
--- src/lib.rt:67:19
 element-copy-out-row : tie.Need-element-copy-out-row Inv-loop μ-loop
 element-copy-out-row c = omega (arith, count-max (c .before .before .before .before .before .args .body .now), c .before .before .before .pool-count .ensures)
 
--- src/lib.rt:69:9
 number-after-requires : tie.Need-number-after-requires Inv-loop μ-loop
 number-after-requires c κs = omega (arith, count-max (c .before .before .before .before .before .before .args .body .now), c .before .before .before .before .pool-count .ensures)
 
--- src/lib.rt:70:9
 add-i : tie.Need-add-i Inv-loop μ-loop
 add-i c = omega arith
 
--- src/lib.rt:71:12
 is-listed-requires : tie.Need-is-listed-requires Inv-loop μ-loop
 is-listed-requires c κs = search needs
 
--- src/lib.rt:72:28
 array-read-fine : tie.Need-array-read-fine Inv-loop μ-loop
 array-read-fine c = let p = c .before .before .before .before .before .before .before .before .before .pre (c .before .before .before .before .before .before .loop .i) (omega (arith, c .before .before .before .before .before .before .before .pool-count .ensures)) in omega (arith, p, c .before .before .before .before .before .before .loop .inv .2)
 
--- src/lib.rt:73:13
 array-write-marks : tie.Need-array-write-marks Inv-loop μ-loop
 array-write-marks c = let p = c .before .before .before .before .before .before .before .before .before .pre (c .before .before .before .before .before .before .loop .i) (omega (arith, c .before .before .before .before .before .before .before .pool-count .ensures)) in omega (arith, p, c .before .before .before .before .before .before .loop .inv .2)
 
--- src/lib.rt:65:5
 loop-less : tie.Need-loop-less Inv-loop μ-loop
 loop-less c = omega arith
 
--- src/lib.rt:65:5
 loop-again : tie.Need-loop-again Inv-loop μ-loop
 loop-again c =
     let a = c .before .before .before .before .before .before .before .before .before .args in
@@ -78,11 +67,9 @@ loop-again c =
       mark-more (a .cc) (a .body .now) (a .at .now) _ (l .fine) (l .marks) (l .lot) (l .i) (l .inv .3) (omega arith) (c .before .before .before .before .before .before .before .pool-count .ensures) _ (c .before .before .before .before .pool-at .ensures) _ (c .before .before .number-after .ensures) _ (c .before .is-listed .ensures) (c .if1 .taken) _ refl,
     )
 
--- src/lib.rt:65:5
 loop-less-2 : tie.Need-loop-less-2 Inv-loop μ-loop
 loop-less-2 c = omega arith
 
--- src/lib.rt:65:5
 loop-again-2 : tie.Need-loop-again-2 Inv-loop μ-loop
 loop-again-2 c =
     let a = c .before .before .before .before .before .before .before .before .before .args in
@@ -93,7 +80,6 @@ loop-again-2 c =
       mark-pass (a .cc) (a .body .now) (a .at .now) _ (l .fine) (l .marks) (l .lot) (l .i) (l .inv .3) (omega arith) (c .before .before .before .before .before .before .before .pool-count .ensures) _ (c .before .before .before .before .pool-at .ensures) _ (c .before .before .number-after .ensures) _ (c .before .is-listed .ensures) (c .if1 .left),
     )
 
--- src/lib.rt:56:1
 returns : tie.Need-returns Inv-loop μ-loop
 returns c =
     let a = c .before .before .before .before .args in

@@ -1,3 +1,4 @@
+-- The loop's invariant: what is left of the neighbors still gives the answer.
 use Prim.Native.Nat.{_≤_, _-_}
 use native.Mathlib.Omega.{arith}
 use Rattle.listed.proofs.Passes.{EvenLeft, even-none, even-more, even-stop, even-done}
@@ -14,41 +15,33 @@ Inv-loop numbers marks start stop i₀ i = (i ≤ stop) × EvenLeft numbers mark
 abbrev μ-loop : tie.MeasureT-loop
 μ-loop numbers marks start stop i₀ i = stop - i
 
--- src/lib.rt:99:5
 loop-holds : tie.Need-loop-holds Inv-loop μ-loop
 loop-holds c = let a = c .before .args in (omega arith, even-none (a .numbers .now) (a .marks .now) (a .start) (a .stop))
 
--- src/lib.rt:99:11
 add-loop : tie.Need-add-loop Inv-loop μ-loop
 add-loop c = search needs
 
--- src/lib.rt:100:13
 even-at-requires : tie.Need-even-at-requires Inv-loop μ-loop
 even-at-requires c κs = search needs
 
--- src/lib.rt:101:13
 returns : tie.Need-returns Inv-loop μ-loop
 returns c =
     let a = c .before .before .before .before .before .args in
     let l = c .before .before .before .loop in
     even-stop (a .numbers .now) (a .marks .now) (a .start) (a .stop) (l .i) (l .inv .1) (omega arith) _ (c .before .even-at .ensures) (c .if1 .taken)
 
--- src/lib.rt:103:9
 add-i : tie.Need-add-i Inv-loop μ-loop
 add-i c = search needs
 
--- src/lib.rt:99:5
 loop-less : tie.Need-loop-less Inv-loop μ-loop
 loop-less c = search needs
 
--- src/lib.rt:99:5
 loop-again : tie.Need-loop-again Inv-loop μ-loop
 loop-again c =
     let a = c .before .before .before .before .before .args in
     let l = c .before .before .before .loop in
     (omega arith, even-more (a .numbers .now) (a .marks .now) (a .start) (a .stop) (l .i) (l .inv .1) (omega arith) _ (c .before .even-at .ensures) (c .if1 .left))
 
--- src/lib.rt:94:1
 returns-2 : tie.Need-returns-2 Inv-loop μ-loop
 returns-2 c =
     let a = c .before .before .before .args in

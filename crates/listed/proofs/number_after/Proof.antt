@@ -1,3 +1,4 @@
+-- The number goes up after a CC's end.
 use Rattle.listed.proofs.Passes.{number-end, number-on}
 use borrow.Author.Needs.{needs}
 use Rattle.listed.proofs.number_after.Statement.{statement}
@@ -7,23 +8,18 @@ use Rattle.listed.proofs.number_after.Lts as lts
 use Rattle.terminator.proofs.is_end.Reads as is-end-reads
 use Rattle.terminator.proofs.terminator_of.Reads as terminator-of-reads
 
--- src/lib.rt:48:9
 terminator-of-requires : tie.Need-terminator-of-requires
 terminator-of-requires c κs = search needs
 
--- src/lib.rt:49:13
 is-end-requires : tie.Need-is-end-requires
 is-end-requires c κs = search needs
 
--- src/lib.rt:50:16
 add-result : tie.Need-add-result
 add-result c = search needs
 
--- src/lib.rt:50:9
 returns : tie.Need-returns
 returns c = let a = c .before .before .before .before .args in number-end (a .cc) (a .k) (a .d) _ _ (c .before .before .terminator-of .ensures) (c .before .is-end .ensures) (c .if1 .taken)
 
--- src/lib.rt:43:1
 returns-2 : tie.Need-returns-2
 returns-2 c = let a = c .before .before .before .before .args in number-on (a .cc) (a .k) (a .d) _ _ (c .before .before .terminator-of .ensures) (c .before .is-end .ensures) (c .if1 .left)
 

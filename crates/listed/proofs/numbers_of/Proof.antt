@@ -1,3 +1,4 @@
+-- A canceled pool has its record's numbers, another zeros.
 use native.Mathlib.Omega.{arith}
 use borrow.Author.Tests.{eq-eqb}
 use Rattle.listed.proofs.Passes.{numbers-there, numbers-none}
@@ -7,23 +8,18 @@ use Rattle.listed.proofs.numbers_of.Tie as tie
 use Rattle.listed.proofs.numbers_of.Reads as reads
 use Rattle.listed.proofs.numbers_of.Lts as lts
 
--- src/lib.rt:178:8
 array-read-if1 : tie.Need-array-read-if1
 array-read-if1 c = search needs
 
--- src/lib.rt:179:16
 mul-result : tie.Need-mul-result
 mul-result c = omega (arith, c .before .before .pre (eq-eqb _ _ (c .if1 .taken)))
 
--- src/lib.rt:179:16
 shared-slice-copy-out-result : tie.Need-shared-slice-copy-out-result
 shared-slice-copy-out-result c = omega (arith, c .before .before .pre (eq-eqb _ _ (c .if1 .taken)))
 
--- src/lib.rt:179:9
 returns : tie.Need-returns
 returns c = let a = c .before .before .before .args in numbers-there (a .numbers .now) (a .row) (a .d) (c .before .if1 .taken)
 
--- src/lib.rt:173:1
 returns-2 : tie.Need-returns-2
 returns-2 c = let a = c .before .before .args in numbers-none (a .numbers .now) (a .row) (a .d) (c .if1 .left)
 

@@ -4,7 +4,7 @@ use Prim.Native.Nat.{ℕ, _≤_, _-_, _*_}
 use mathlib.Core.List.{List, []}
 use lib.ListN.{getD}
 use Rattle.book.specs.Opening.{elevenDigitsMax}
-use Rattle.places.proofs.Weighing.{begins, share-most, Weighed, weighed-none, weighed-more, weighed-skip, weighed-done}
+use Rattle.places.proofs.Weighing.{Weighed, weighed-none, weighed-more, weighed-skip, weighed-done}
 use borrow.Author.Needs.{needs}
 use Rattle.places.proofs.weight_of_marked.Statement.{statement}
 use Rattle.places.proofs.weight_of_marked.Tie as tie
@@ -39,14 +39,12 @@ array-read-begins-2 : tie.Need-array-read-begins-2 Inv-loop μ-loop
 array-read-begins-2 c = omega arith
 
 row-share-requires : tie.Need-row-share-requires Inv-loop μ-loop
-row-share-requires c κs = c .before .before .before .before .before .before .pre .millions (c .before .before .before .before .loop .i) (omega arith)
+row-share-requires c κs =
+    let i = c .before .before .before .before .loop .i in
+    (c .before .before .before .before .before .before .pre .faces i (omega arith), c .before .before .before .before .before .before .pre .millions i (omega arith))
 
 add-sum : tie.Need-add-sum Inv-loop μ-loop
-add-sum c =
-    let a = c .before .before .before .before .before .before .before .args in
-    let l = c .before .before .before .before .before .loop in
-    let p = c .before .before .before .before .before .before .before .pre in
-    omega (arith, c .row-share .ensures, p .few, share-most (getD (a .numbers .now) (l .i) []) (begins (getD (a .numbers .now) (l .i) []) (l .message) (l .ordinal)) (p .faces (l .i) (omega arith)) (p .millions (l .i) (omega arith)))
+add-sum c = omega (arith, c .row-share .ensures .1, c .before .before .before .before .before .before .before .pre .few)
 
 array-read-message : tie.Need-array-read-message Inv-loop μ-loop
 array-read-message c = omega arith
@@ -63,8 +61,8 @@ loop-again c =
     let l = c .before .before .before .before .before .loop in
     let p = c .before .before .before .before .before .before .before .pre in (
       omega arith,
-      omega (arith, c .row-share .ensures, share-most (getD (a .numbers .now) (l .i) []) (begins (getD (a .numbers .now) (l .i) []) (l .message) (l .ordinal)) (p .faces (l .i) (omega arith)) (p .millions (l .i) (omega arith))),
-      λ ks. weighed-more (a .numbers .now) (a .marks .now) (a .live) ks (l .sum) (l .message) (l .ordinal) (l .i) (l .inv .2 ks) (omega arith) (p .marks) (c .before .if1 .taken) _ (c .row-share .ensures),
+      omega (arith, c .row-share .ensures .1),
+      λ ks. weighed-more (a .numbers .now) (a .marks .now) (a .live) ks (l .sum) (l .message) (l .ordinal) (l .i) (l .inv .2 ks) (omega arith) (p .marks) (c .before .if1 .taken) _ (c .row-share .ensures .0),
     )
 
 loop-less-2 : tie.Need-loop-less-2 Inv-loop μ-loop
