@@ -4,6 +4,8 @@ use book::Reason;
 use book::Trade;
 use book::Values;
 use book::Verdict;
+use listed::Listed;
+use places::Run;
 use tally::MessageType;
 ghost use mathlib.Core.Path.{_≡_};
 ghost use mathlib.Core.Bool.{cond, not, _&&_, _||_};
@@ -15,14 +17,17 @@ ghost use Rattle.terminator.specs.Terminators.{isCanceled};
 ghost use Rattle.layout.specs.Details.{details};
 ghost use Rattle.faces.specs.Faces.{newPools};
 ghost use Rattle.book.specs.Messages.{typeOf, targetOf, under, listedOf};
-ghost use Rattle.book.specs.Trades.{tradesOf};
+ghost use Rattle.book.specs.Trades.{tradesOf, tradeOfOn, openPars};
+ghost use Rattle.book.specs.declared.Verdict.the-variants.{Fails};
 ghost use Rattle.book.specs.Opening.{recordsMax};
 ghost use Rattle.book.specs.Soundness.{liveOf};
 ghost use Rattle.book.specs.Checks.{isOn, isCc, isDk, targetTrade, tradeAt, firstFailing};
 ghost use Rattle.book.specs.declared.Pool.{Pool};
 ghost use Rattle.book.specs.declared.Book.{Book};
 ghost use mathlib.Core.List.{List};
-ghost use Rattle.trader.specs.Decisions.{traderChecks, callOn, Ready, Decided};
+ghost use Rattle.table.specs.Rows.{tableOf, numberAt};
+ghost use Rattle.listed.specs.Judging.{Findable};
+ghost use Rattle.trader.specs.Decisions.{traderChecks, callOn, Ready, DecidedBy, Takes};
 
 // What the trader's checks decide, and what an accepted message moves: its trade, the weight that it takes off, the weight that it brings,
 // and a mark on each record that it takes off.
@@ -158,4 +163,55 @@ fn par_fits(
         return true;
     }
     brought - off <= t.left
+}
+
+// The trade of the target's records.
+fn target_trade(numbers: &[[u64; 6]], run: Run) -> usize
+    requires { ⌜ run .stop ≤ length (now numbers) ⌝ }
+    ensures { λ r. ⌜ r ≡ cond (ltb (run .start) (run .stop)) (numberAt (now (numbers .entry)) (run .start) 2) 0 ⌝ }
+{
+    if run.start < run.stop {
+        let row = numbers[run.start];
+        return row[table::TRADE] as usize;
+    }
+    0
+}
+
+// What a message takes off. One that is no CC or DK takes off nothing.
+fn taken_by(body: &[u8], numbers: &[[u64; 6]], keys: &[[u8; 22]], live: usize) -> Listed
+    requires { ⌜ Findable (now body) (now numbers) (now keys) live ⌝ }
+    ensures { λ r. ⌜ Takes (now (body .entry)) (take live (tableOf (now (numbers .entry)) (now (keys .entry)))) r ⌝ }
+{
+    let kind = header::message_type(body);
+    let cc = is_cc(kind);
+    let dk = is_dk(kind);
+    if cc | dk {
+        return listed::find_listed(body, numbers, keys, live);
+    }
+    Listed {
+        fine: true,
+        marks: [0u8; book::RECORDS_MAX],
+    }
+}
+
+// The trade that a message concerns, where the target's is known.
+fn concerned_by(body: &[u8], v: Values, on: bool, target: usize) -> usize
+    ensures { λ r. ⌜ r ≡ cond on (tradeOfOn (now (body .entry)) (tradesOf v) (openPars (tradesOf v))) target ⌝ }
+{
+    if on {
+        return trades::trade_of_on(body, v);
+    }
+    target
+}
+
+fn refused(reason: Reason) -> Decision
+    ensures { λ r. ⌜ r .verdict ≡ Fails reason ⌝ }
+{
+    Decision {
+        verdict: Verdict::Fails(reason),
+        trade: 0,
+        off: 0,
+        brought: 0,
+        marks: [0u8; book::RECORDS_MAX],
+    }
 }
