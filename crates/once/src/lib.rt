@@ -63,7 +63,7 @@ pub fn fields_once(numbers: &[[u64; 6]], keys: &[[u8; 22]], live: usize) -> bool
     ensures { λ r. ⌜ r ≡ fieldsOnce (take live (tableOf (now (numbers .entry)) (now (keys .entry)))) ⌝ }
 {
     let mut seen = [0u32; keys::BUCKETS];
-    let mut back = [0u32; 4096];
+    let mut back = [0u32; book::RECORDS_MAX];
     let mut start: usize = 0;
     let mut i: usize = 0;
     while i < live {
