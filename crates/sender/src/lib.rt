@@ -1,0 +1,325 @@
+// The checks of the line and the sender's system, 43 and 44 and then 10 to 25: the first that fails.
+use book::Book;
+use book::Reason;
+use book::Verdict;
+use sequence::Arrival;
+use tally::MessageType;
+ghost use mathlib.Core.Path.{_≡_};
+ghost use mathlib.Core.List.{List};
+ghost use mathlib.Core.Bool.{not, _&&_, _||_};
+ghost use lib.Dec.{eqb, leb};
+ghost use Rattle.layout.specs.Columns as columns;
+ghost use Rattle.layout.specs.Columns.{numberIn};
+ghost use Rattle.layout.specs.Details.{details};
+ghost use Rattle.terminator.specs.Lots.{formedFor, replacementCount};
+ghost use Rattle.terminator.specs.Groups.{groupsFormed, groupsBalanced};
+ghost use Rattle.calendar.specs.Calendar.{businessDate};
+ghost use Rattle.sequence.specs.Sequence.{arrivalOf, outboundSpent};
+ghost use Rattle.book.specs.declared.Pool.{Pool};
+ghost use Rattle.book.specs.Messages.{typeOf, idIn, isStipulated};
+ghost use Rattle.book.specs.Opening.{holidaysOf, elevenDigitsMax};
+ghost use Rattle.book.specs.Checks.{
+  arrived,
+  isDuplicate,
+  isOther,
+  isCc,
+  isCx,
+  isDk,
+  onOrCc,
+  notNumber,
+  amountsFail,
+  partiesFine,
+  isWhole,
+  firstFailing,
+};
+ghost use Rattle.sender.specs.Order.{senderChecks, numbered, failsIn};
+
+// The checks by their numbers, in the order in which they are tried.
+const ORDER: [u8; 18] = [
+    43,
+    44,
+    10,
+    11,
+    12,
+    13,
+    14,
+    15,
+    16,
+    17,
+    18,
+    19,
+    20,
+    21,
+    22,
+    23,
+    24,
+    25,
+];
+
+const CHECKS: usize = 18;
+
+// Eleven digits hold no higher message ID.
+const LAST_MAX: u64 = 99999999999;
+
+// The bytes of a TX and an AA.
+const ROOM_LEAST: usize = 217;
+
+fn is_duplicate(a: Arrival) -> bool
+    ensures { λ r. ⌜ r ≡ isDuplicate a ⌝ }
+{
+    match a {
+        Arrival::Refused => false,
+        Arrival::Duplicate => true,
+        Arrival::Expected => false,
+        Arrival::Gap => false,
+    }
+}
+
+fn is_other(t: MessageType) -> bool
+    ensures { λ r. ⌜ r ≡ isOther t ⌝ }
+{
+    match t {
+        MessageType::On => false,
+        MessageType::Cc => false,
+        MessageType::Dk => false,
+        MessageType::Cx => false,
+        MessageType::Other => true,
+    }
+}
+
+fn is_cc(t: MessageType) -> bool
+    ensures { λ r. ⌜ r ≡ isCc t ⌝ }
+{
+    match t {
+        MessageType::On => false,
+        MessageType::Cc => true,
+        MessageType::Dk => false,
+        MessageType::Cx => false,
+        MessageType::Other => false,
+    }
+}
+
+fn is_dk(t: MessageType) -> bool
+    ensures { λ r. ⌜ r ≡ isDk t ⌝ }
+{
+    match t {
+        MessageType::On => false,
+        MessageType::Cc => false,
+        MessageType::Dk => true,
+        MessageType::Cx => false,
+        MessageType::Other => false,
+    }
+}
+
+fn is_cx(t: MessageType) -> bool
+    ensures { λ r. ⌜ r ≡ isCx t ⌝ }
+{
+    match t {
+        MessageType::On => false,
+        MessageType::Cc => false,
+        MessageType::Dk => false,
+        MessageType::Cx => true,
+        MessageType::Other => false,
+    }
+}
+
+fn is_on_or_cc(t: MessageType) -> bool
+    ensures { λ r. ⌜ r ≡ onOrCc t ⌝ }
+{
+    match t {
+        MessageType::On => true,
+        MessageType::Cc => true,
+        MessageType::Dk => false,
+        MessageType::Cx => false,
+        MessageType::Other => false,
+    }
+}
+
+// 43: the last ID is the highest, or fewer than two outbound numbers are left.
+fn is_spent(book: Book) -> bool
+    ensures { λ r. ⌜ r ≡ (leb elevenDigitsMax (book .values .last) || outboundSpent (book .values .outbound)) ⌝ }
+{
+    let outbound = book.values.outbound;
+    (LAST_MAX <= book.values.last) | sequence::spent(outbound)
+}
+
+// 12: the sequence number is the last one received.
+fn repeats(book: Book, body: &[u8]) -> bool
+    ensures { λ r. ⌜ r ≡ isDuplicate (arrivalOf (book .line) (arrived (now (body .entry)))) ⌝ }
+{
+    let line = book.line;
+    let number = header::arrived(body);
+    is_duplicate(sequence::judge(line, number))
+}
+
+// 13: another type.
+fn is_unknown(body: &[u8]) -> bool
+    ensures { λ r. ⌜ r ≡ isOther (typeOf (now (body .entry))) ⌝ }
+{
+    is_other(header::message_type(body))
+}
+
+// 16: par, price or GDMM.
+fn amounts_fail(book: Book, body: &[u8]) -> bool
+    ensures { λ r. ⌜ r ≡ amountsFail (book .values .limits .ceiling) (now (body .entry)) ⌝ }
+{
+    sender_rules::amounts_fail(book.values.limits.ceiling, body)
+}
+
+// 17: subscriber, connection, submitter or contra.
+fn parties_fail(book: Book, body: &[u8]) -> bool
+    ensures { λ r. ⌜ r ≡ not (partiesFine (book .values) (now (body .entry))) ⌝ }
+{
+    let values = book.values;
+    !header::parties_fine(values, body)
+}
+
+// 18: a CX.
+fn is_cancel(body: &[u8]) -> bool
+    ensures { λ r. ⌜ r ≡ isCx (typeOf (now (body .entry))) ⌝ }
+{
+    is_cx(header::message_type(body))
+}
+
+// 19 of an ON and a CC: terminators that make no whole lots.
+fn lots_fail(body: &[u8]) -> bool
+    ensures { λ r. ⌜ r ≡ (onOrCc (typeOf (now (body .entry))) && not (formedFor (isCc (typeOf (now (body .entry)))) (details (now (body .entry))))) ⌝ }
+{
+    let kind = header::message_type(body);
+    if !is_on_or_cc(kind) {
+        return false;
+    }
+    !terminator::lots_formed(body, is_cc(kind))
+}
+
+// 20 of a CC: groups that are not formed.
+fn groups_fail(body: &[u8]) -> bool
+    ensures { λ r. ⌜ r ≡ (isCc (typeOf (now (body .entry))) && not (groupsFormed (details (now (body .entry))))) ⌝ }
+{
+    if !is_cc(header::message_type(body)) {
+        return false;
+    }
+    let groups = terminator::groups_of(body);
+    !groups.formed
+}
+
+// 21 of a CC: a group whose sums are unlike.
+fn sums_fail(body: &[u8]) -> bool
+    ensures { λ r. ⌜ r ≡ (isCc (typeOf (now (body .entry))) && not (groupsBalanced (details (now (body .entry))))) ⌝ }
+{
+    if !is_cc(header::message_type(body)) {
+        return false;
+    }
+    let groups = terminator::groups_of(body);
+    !groups.balanced
+}
+
+// 22 of a CC: the number of replacement pools.
+fn replacements_fail(body: &[u8]) -> bool
+    ensures { λ r. ⌜ r ≡ (isCc (typeOf (now (body .entry))) && notNumber (eqb (replacementCount (details (now (body .entry))))) (numberIn (now (body .entry)) columns.numberOfPools)) ⌝ }
+{
+    if !is_cc(header::message_type(body)) {
+        return false;
+    }
+    sender_rules::replacements_fail(body)
+}
+
+// 23 of a CC: settlement.
+fn settlement_fails(book: Book, body: &[u8]) -> bool
+    ensures { λ r. ⌜ r ≡ (isCc (typeOf (now (body .entry))) && notNumber (λ n. businessDate n (holidaysOf (book .values))) (numberIn (now (body .entry)) columns.settlement)) ⌝ }
+{
+    if !is_cc(header::message_type(body)) {
+        return false;
+    }
+    let values = book.values;
+    sender_rules::settlement_fails(values, body)
+}
+
+// 24 of a DK: its reason.
+fn reason_fails(body: &[u8]) -> bool
+    ensures { λ r. ⌜ r ≡ (isDk (typeOf (now (body .entry))) && notNumber (leb 1) (numberIn (now (body .entry)) columns.reason)) ⌝ }
+{
+    if !is_dk(header::message_type(body)) {
+        return false;
+    }
+    sender_rules::reason_fails(body)
+}
+
+// 25 of a DK: its trade ID.
+fn id_fails(body: &[u8]) -> bool
+    ensures { λ r. ⌜ r ≡ (isDk (typeOf (now (body .entry))) && (isStipulated (now (body .entry)) && not (isWhole (idIn (now (body .entry)))))) ⌝ }
+{
+    if !is_dk(header::message_type(body)) {
+        return false;
+    }
+    sender_rules::no_trade_id(body)
+}
+
+// Whether a message fails the check with a number.
+fn fails(book: Book, body: &[u8], room: usize, number: u8) -> bool
+    ensures { λ r. ⌜ ((table : List Pool) → r ≡ failsIn (numbered number) (record { book = book; table = table; body = now (body .entry); room = room })) ⌝ }
+{
+    match number {
+        43 => is_spent(book),
+        44 => room < ROOM_LEAST,
+        10 => !header::length_fits(body),
+        11 => header::sequence_fails(body),
+        12 => repeats(book, body),
+        13 => is_unknown(body),
+        14 => !header::version_fine(body),
+        15 => !header::fillers_fine(body),
+        16 => amounts_fail(book, body),
+        17 => parties_fail(book, body),
+        18 => is_cancel(body),
+        19 => lots_fail(body),
+        20 => groups_fail(body),
+        21 => sums_fail(body),
+        22 => replacements_fail(body),
+        23 => settlement_fails(book, body),
+        24 => reason_fails(body),
+        25 => id_fails(body),
+        _ => false,
+    }
+}
+
+// The reason that a number stands for.
+fn reason_of(number: u8) -> Reason
+    ensures { λ r. ⌜ r ≡ numbered number .reason ⌝ }
+{
+    match number {
+        43 => Reason::Spent,
+        44 => Reason::ShortOutput,
+        10 => Reason::Length,
+        11 => Reason::Sequence,
+        12 => Reason::Duplicate,
+        13 => Reason::MessageType,
+        14 => Reason::Version,
+        15 => Reason::Filler,
+        16 => Reason::Amounts,
+        17 => Reason::Parties,
+        18 => Reason::Cancel,
+        19 => Reason::LotForm,
+        20 => Reason::Groups,
+        21 => Reason::Sums,
+        22 => Reason::Replacements,
+        23 => Reason::Settlement,
+        24 => Reason::ReasonCode,
+        25 => Reason::NoTradeId,
+        _ => Reason::Opening,
+    }
+}
+
+// The first check that fails.
+pub fn first_of_sender(book: Book, body: &[u8], room: usize) -> Verdict
+    ensures { λ r. ⌜ ((table : List Pool) → r ≡ firstFailing senderChecks (record { book = book; table = table; body = now (body .entry); room = room })) ⌝ }
+{
+    let mut i: usize = 0;
+    while i < CHECKS {
+        let number = ORDER[i];
+        i += 1;
+        if fails(book, body, room, number) {
+            return Verdict::Fails(reason_of(number));
+        }
+    }
+    Verdict::Passes
+}
