@@ -63,7 +63,8 @@ nothing-taken body rs e = keep-all (λ (r : Pool). not (isTaken (targetOf body) 
     and-none true = refl
     and-none false = refl
 
-lists-nothing : (k : MessageType) (body : List ℕ) → k ≡ typeOf body → ccOrDk k ≡ false → listed body ≡ []
+-- a type that is no CC or DK lists nothing
+pub lists-nothing : (k : MessageType) (body : List ℕ) → k ≡ typeOf body → ccOrDk k ≡ false → listed body ≡ []
 unfolding listed
 lists-nothing k body e f = rw (sym e) (go k f)
   where

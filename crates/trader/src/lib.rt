@@ -26,7 +26,7 @@ ghost use Rattle.book.specs.declared.Pool.{Pool};
 ghost use Rattle.book.specs.declared.Book.{Book};
 ghost use mathlib.Core.List.{List};
 ghost use Rattle.table.specs.Rows.{tableOf, numberAt};
-ghost use Rattle.listed.specs.Judging.{Findable};
+ghost use Rattle.listed.specs.Listing.{Findable};
 ghost use Rattle.trader.specs.Decisions.{traderChecks, callOn, Ready, DecidedBy, Takes};
 
 // What the trader's checks decide, and what an accepted message moves: its trade, the weight that it takes off, the weight that it brings,
@@ -170,9 +170,11 @@ fn target_trade(numbers: &[[u64; 6]], run: Run) -> usize
     requires { ⌜ run .stop ≤ length (now numbers) ⌝ }
     ensures { λ r. ⌜ r ≡ cond (ltb (run .start) (run .stop)) (numberAt (now (numbers .entry)) (run .start) 2) 0 ⌝ }
 {
-    if run.start < run.stop {
-        let row = numbers[run.start];
-        return row[table::TRADE] as usize;
+    let start = run.start;
+    if start < run.stop {
+        let row = numbers[start];
+        let trade = row[table::TRADE] as usize;
+        return trade;
     }
     0
 }
@@ -213,5 +215,63 @@ fn refused(reason: Reason) -> Decision
         off: 0,
         brought: 0,
         marks: [0u8; book::RECORDS_MAX],
+    }
+}
+
+// 37, 38 and 40, where the target's trade is known, and what an accepted message moves.
+fn decide_moves(
+    book: Book,
+    numbers: &[[u64; 6]],
+    keys: &[[u8; 22]],
+    body: &[u8],
+    target: usize,
+) -> Decision
+    requires { ⌜ Ready book (now numbers) (now keys) (now body) ⌝ }
+    requires { ⌜ targetTrade (now body) (liveOf book (tableOf (now numbers) (now keys))) ≡ target ⌝ }
+    ensures { λ r. ⌜ ((room : ℕ) → DecidedBy (drop 7 traderChecks) (callOn book (now (numbers .entry)) (now (keys .entry)) (now (body .entry)) room) r) ⌝ }
+{
+    let values = book.values;
+    let live = book.live;
+    let trades = values.trades;
+    let kind = header::message_type(body);
+    let on = is_on(kind);
+    let cc = is_cc(kind);
+    let found = taken_by(body, numbers, keys, live);
+    if !found.fine {
+        return refused(Reason::Listed);
+    }
+    let marks = found.marks;
+    let off = places::weight_of_marked(numbers, &marks, live);
+    let brought = terms::brought_weight(body);
+    let trade = concerned_by(body, values, on, target);
+    let both = on | cc;
+    if both & !par_fits(trades, values.count, trade, off, brought) {
+        return refused(Reason::Par);
+    }
+    if both & !table_fits(body, cc, live, numbers.len()) {
+        return refused(Reason::TableFull);
+    }
+    Decision {
+        verdict: Verdict::Passes,
+        trade: trade,
+        off: off,
+        brought: brought,
+        marks: marks,
+    }
+}
+
+// Decides 30 to 40.
+pub fn decide(book: Book, numbers: &[[u64; 6]], keys: &[[u8; 22]], body: &[u8]) -> Decision
+    requires { ⌜ Ready book (now numbers) (now keys) (now body) ⌝ }
+    ensures { λ r. ⌜ ((room : ℕ) → DecidedBy traderChecks (callOn book (now (numbers .entry)) (now (keys .entry)) (now (body .entry)) room) r) ⌝ }
+{
+    let values = book.values;
+    let run = places::target_run(numbers, book.live, body);
+    let there = run.start < run.stop;
+    let target = target_trade(numbers, run);
+    let terms = first_of_terms(values, body, there, target);
+    match terms {
+        Verdict::Fails(reason) => refused(reason),
+        Verdict::Passes => decide_moves(book, numbers, keys, body, target),
     }
 }
