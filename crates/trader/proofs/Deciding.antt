@@ -4,7 +4,7 @@ use native.Mathlib.Omega.{arith}
 use mathlib.Core.Path.{_≡_, refl, sym, ap, _∙_}
 use mathlib.Core.List.{List, [], map}
 use mathlib.Core.Bool.{Bool, true, false, cond, not, _&&_, _||_, true≢false}
-use lib.ListN.{length, take, drop, getD, replicate, length-map}
+use lib.ListN.{length, take, drop, getD, replicate, length-map, length-replicate}
 use lib.Dec.{eqb, leb, ltb}
 use lib.Seq.{length-take-le, getD-take}
 use borrow.Author.Tests.{leb-true, lt-ltb, le-ltb, not-true, not-false}
@@ -72,17 +72,18 @@ pub either : (k : MessageType) (cc dk : Bool) → cc ≡ isCc k → dk ≡ isDk 
 either k cc dk ec ed = rw (ec, ed)
 
 module _ (k : MessageType) (body : List ℕ) (cc dk : Bool) (ek : k ≡ typeOf body) (ec : (cc || dk) ≡ ccOrDk k) where
-  pub takes-some : (ns ks : List (List ℕ)) (n : ℕ) (r : Listed) → n ≤ length ns → (cc || dk) ≡ true → Decides body ns ks n r → Takes body (take n (tableOf ns ks)) r
-  takes-some ns ks n r h e d =
+  pub takes-some : (ns ks : List (List ℕ)) (n : ℕ) (r : Listed) → length (r .marks) ≡ recordsMax → n ≤ length ns → (cc || dk) ≡ true → Decides body ns ks n r → Takes body (take n (tableOf ns ks)) r
+  takes-some ns ks n r lm h e d =
       let y : ccOrDk (typeOf body) ≡ true = rw (sym ek, sym ec) e in
       let size : length (take n (tableOf ns ks)) ≡ n = length-take-le n (tableOf ns ks) (rw (length-table ns ks) h) in
-      record { fine = rw y (d .fine y); marked = λ f i g. d .marks y f i (omega (arith, size, g)) }
+      record { size = lm; fine = rw y (d .fine y); marked = λ f i g. d .marks y f i (omega (arith, size, g)) }
 
-  pub takes-none : (rs : List Pool) (r : Listed) (n : ℕ) → (cc || dk) ≡ false → r .fine ≡ true → r .marks ≡ replicate n 0 → Takes body rs r
-  takes-none rs r n e ef em =
+  pub takes-none : (rs : List Pool) (r : Listed) (n : ℕ) → n ≡ recordsMax → (cc || dk) ≡ false → r .fine ≡ true → r .marks ≡ replicate n 0 → Takes body rs r
+  takes-none rs r n en e ef em =
       let y : ccOrDk (typeOf body) ≡ false = rw (sym ek, sym ec) e in
       let l : listed body ≡ [] = lists-nothing k body ek (rw (sym ec) e) in
       record {
+        size = rw em (length-replicate {A = ℕ} n 0 ∙ en);
         fine = rw (ef, y);
         marked = λ f i g. rw (em, l, none (under (targetOf body) (getD rs i noPool)), getD-zeros n i);
       }
@@ -158,7 +159,7 @@ module _ (book : Book) (ns ks : List (List ℕ)) (body : List ℕ) (y : Ready bo
 
     module _ (h37 : not (t .fine) ≡ false) (off brought trade : ℕ)
         (ef : (ks′ : List (List ℕ)) → off ≡ weightOfRecords (marked (t .marks) (take (book .live) (tableOf ns ks′)))) (eb : brought ≡ broughtWeight body)
-        (er : trade ≡ cond on (tradeOfOn body (tradesOf (book .values)) (openPars (tradesOf (book .values)))) target) (lm : length (t .marks) ≡ recordsMax) where
+        (er : trade ≡ cond on (tradeOfOn body (tradesOf (book .values)) (openPars (tradesOf (book .values)))) target) where
       tests : (ccOrDk (typeOf body) && not (listedFine body (take (book .live) (tableOf ns ks)))) ≡ false
       tests = takes-all (ccOrDk (typeOf body)) (listedFine body (take (book .live) (tableOf ns ks))) (t .fine) (tk .fine) (not-false (t .fine) h37)
 
@@ -179,7 +180,7 @@ module _ (book : Book) (ns ks : List (List ℕ)) (body : List ℕ) (y : Ready bo
       off-is =
           ef ks
           ∙ ap weightOfRecords
-          (marked-keep (isTaken (targetOf body) (listed body)) (t .marks) (take (book .live) (tableOf ns ks)) (omega (arith, size, within, few, lm), tk .marked (not-false (t .fine) h37)))
+          (marked-keep (isTaken (targetOf body) (listed body)) (t .marks) (take (book .live) (tableOf ns ks)) (omega (arith, size, within, few, tk .size), tk .marked (not-false (t .fine) h37)))
 
       module _ (p : Bool) (ep : p ≡ (ltb trade (length (tradesOf (book .values))) && leb brought (tradeAt (tradesOf (book .values)) trade .left + off))) where
         par-is : p ≡ parFine (callOn book ns ks body room)

@@ -14,6 +14,7 @@ use Rattle.layout.specs.Details.{details}
 use Rattle.terminator.specs.Lots.{formedFor}
 use Rattle.book.specs.Messages.{typeOf, targetOf, listed}
 use Rattle.book.specs.Trades.{broughtWeight}
+use Rattle.book.specs.Opening.{recordsMax}
 use Rattle.book.specs.Soundness.{isSound}
 use Rattle.book.specs.Checks.{Call, Check, live, checks, firstFailing, isCc, ccOrDk, listedFine, concerned, isTaken, taken}
 use Rattle.table.specs.Rows.{tableOf}
@@ -44,5 +45,6 @@ pub record DecidedBy (ks : List Check) (c : Call) (d : Decision) : Type 0 where
 
 -- what a message takes off: whether it passes 37, if that is for its type, and the marks of the records
 pub record Takes (body : List ℕ) (rs : List Pool) (r : Listed) : Type 0 where
+  pub size : length (r .marks) ≡ recordsMax
   pub fine : r .fine ≡ (not (ccOrDk (typeOf body)) || listedFine body rs)
   pub marked : r .fine ≡ true → (i : ℕ) → i < length rs → eqb (getD (r .marks) i 0) 0 ≡ not (isTaken (targetOf body) (listed body) (getD rs i noPool))

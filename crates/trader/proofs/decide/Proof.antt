@@ -1,3 +1,8 @@
+use mathlib.Core.Path.{refl, sym, _∙_}
+use Rattle.table.specs.Rows.{tableOf}
+use Rattle.trader.specs.Decisions.{traderChecks, callOn}
+use Rattle.trader.proofs.Firsts.{first-early}
+use Rattle.trader.proofs.Deciding.{refused-by, within, run-stop, there-is, target-is, decided-late}
 use borrow.Author.Needs.{needs}
 use Rattle.trader.proofs.decide.Statement.{statement}
 use Rattle.trader.proofs.decide.Tie as tie
@@ -11,11 +16,11 @@ use Rattle.trader.proofs.target_trade.Reads as target-trade-reads
 
 -- src/lib.rt:269:9
 target-run-requires : tie.Need-target-run-requires
-target-run-requires c κs = search needs
+target-run-requires c κs = within (c .before .before .args .book) (c .before .before .args .numbers .now) (c .before .before .args .keys .now) (c .before .before .args .body .now) (c .before .before .pre)
 
 -- src/lib.rt:271:9
 target-trade-requires : tie.Need-target-trade-requires
-target-trade-requires c κs = search needs
+target-trade-requires c κs = run-stop (c .before .before .before .before .args .book) (c .before .before .before .before .args .numbers .now) (c .before .before .before .before .args .keys .now) (c .before .before .before .before .args .body .now) (c .before .before .before .before .pre) _ (c .before .target-run .ensures)
 
 -- src/lib.rt:272:9
 first-of-terms-requires : tie.Need-first-of-terms-requires
@@ -35,15 +40,15 @@ enum-told c = search needs
 
 -- src/lib.rt:275:28
 decide-moves-requires : tie.Need-decide-moves-requires
-decide-moves-requires c κs = search needs
+decide-moves-requires c κs = (c .before .before .before .before .before .before .before .before .pre, target-is (c .before .before .before .before .before .before .before .before .args .book) (c .before .before .before .before .before .before .before .before .args .numbers .now) (c .before .before .before .before .before .before .before .before .args .keys .now) (c .before .before .before .before .before .before .before .before .args .body .now) (c .before .before .before .before .before .before .before .before .pre) _ (c .before .before .before .before .before .target-run .ensures) ∙ sym (c .before .before .before .target-trade .ensures))
 
 -- src/lib.rt:264:1
 returns : tie.Need-returns
-returns c = search needs
+returns c = λ room. refused-by traderChecks (c .before .before .before .before .before .before .before .before .before .before .args .book) (c .before .before .before .before .before .before .before .before .before .before .args .numbers .now) (c .before .before .before .before .before .before .before .before .before .before .args .keys .now) (c .before .before .before .before .before .before .before .before .before .before .args .body .now) room _ _ (c .refused .ensures) (sym (first-early (callOn (c .before .before .before .before .before .before .before .before .before .before .args .book) (c .before .before .before .before .before .before .before .before .before .before .args .numbers .now) (c .before .before .before .before .before .before .before .before .before .before .args .keys .now) (c .before .before .before .before .before .before .before .before .before .before .args .body .now) room) 7 traderChecks _ (sym (c .before .before .before .before .first-of-terms .ensures (c .before .before .before .before .before .before .before .before .before .before .args .book) (tableOf (c .before .before .before .before .before .before .before .before .before .before .args .numbers .now) (c .before .before .before .before .before .before .before .before .before .before .args .keys .now)) room refl (there-is (c .before .before .before .before .before .before .before .before .before .before .args .book) (c .before .before .before .before .before .before .before .before .before .before .args .numbers .now) (c .before .before .before .before .before .before .before .before .before .before .args .keys .now) (c .before .before .before .before .before .before .before .before .before .before .args .body .now) (c .before .before .before .before .before .before .before .before .before .before .pre) _ (c .before .before .before .before .before .before .before .target-run .ensures)) (target-is (c .before .before .before .before .before .before .before .before .before .before .args .book) (c .before .before .before .before .before .before .before .before .before .before .args .numbers .now) (c .before .before .before .before .before .before .before .before .before .before .args .keys .now) (c .before .before .before .before .before .before .before .before .before .before .args .body .now) (c .before .before .before .before .before .before .before .before .before .before .pre) _ (c .before .before .before .before .before .before .before .target-run .ensures) ∙ sym (c .before .before .before .before .before .target-trade .ensures))) ∙ c .before .before .terms .given .1)))
 
 -- src/lib.rt:264:1
 returns-2 : tie.Need-returns-2
-returns-2 c = search needs
+returns-2 c = λ room. decided-late (c .before .before .before .before .before .before .before .before .before .args .book) (c .before .before .before .before .before .before .before .before .before .args .numbers .now) (c .before .before .before .before .before .before .before .before .before .args .keys .now) (c .before .before .before .before .before .before .before .before .before .args .body .now) room _ (sym (c .before .enum-told .given .1) ∙ c .before .before .before .first-of-terms .ensures (c .before .before .before .before .before .before .before .before .before .args .book) (tableOf (c .before .before .before .before .before .before .before .before .before .args .numbers .now) (c .before .before .before .before .before .before .before .before .before .args .keys .now)) room refl (there-is (c .before .before .before .before .before .before .before .before .before .args .book) (c .before .before .before .before .before .before .before .before .before .args .numbers .now) (c .before .before .before .before .before .before .before .before .before .args .keys .now) (c .before .before .before .before .before .before .before .before .before .args .body .now) (c .before .before .before .before .before .before .before .before .before .pre) _ (c .before .before .before .before .before .before .target-run .ensures)) (target-is (c .before .before .before .before .before .before .before .before .before .args .book) (c .before .before .before .before .before .before .before .before .before .args .numbers .now) (c .before .before .before .before .before .before .before .before .before .args .keys .now) (c .before .before .before .before .before .before .before .before .before .args .body .now) (c .before .before .before .before .before .before .before .before .before .pre) _ (c .before .before .before .before .before .before .target-run .ensures) ∙ sym (c .before .before .before .before .target-trade .ensures))) (c .decide-moves .ensures room)
 
 pub decide-spec : {M : Type 1} → statement M
 decide-spec =

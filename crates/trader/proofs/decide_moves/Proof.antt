@@ -49,7 +49,7 @@ slice-aggregate-weight-of-marked c = search needs
 
 -- src/lib.rt:244:9
 weight-of-marked-requires : tie.Need-weight-of-marked-requires
-weight-of-marked-requires c κs = weighable (c .before .before .before .before .before .before .before .before .before .before .before .args .book) (c .before .before .before .before .before .before .before .before .before .before .before .args .numbers .now) (c .before .before .before .before .before .before .before .before .before .before .before .args .keys .now) (c .before .before .before .before .before .before .before .before .before .before .before .args .body .now) (c .before .before .before .before .before .before .before .before .before .before .before .pre .0) _ (search needs)
+weight-of-marked-requires c κs = weighable (c .before .before .before .before .before .before .before .before .before .before .before .args .book) (c .before .before .before .before .before .before .before .before .before .before .before .args .numbers .now) (c .before .before .before .before .before .before .before .before .before .before .before .args .keys .now) (c .before .before .before .before .before .before .before .before .before .before .before .args .body .now) (c .before .before .before .before .before .before .before .before .before .before .before .pre .0) _ (c .before .before .before .before .taken-by .ensures .size)
 
 -- src/lib.rt:245:9
 brought-weight-requires : tie.Need-brought-weight-requires
@@ -69,7 +69,7 @@ refused-requires-2 c κs = search needs
 
 -- src/lib.rt:249:9
 returns-2 : tie.Need-returns-2
-returns-2 c = λ room. refused-by (drop 7 traderChecks) (c .before .before .before .before .before .before .before .before .before .before .before .before .before .before .before .before .before .args .book) (c .before .before .before .before .before .before .before .before .before .before .before .before .before .before .before .before .before .args .numbers .now) (c .before .before .before .before .before .before .before .before .before .before .before .before .before .before .before .before .before .args .keys .now) (c .before .before .before .before .before .before .before .before .before .before .before .before .before .before .before .before .before .args .body .now) room _ _ (c .refused2 .ensures) (par-fails (c .before .before .before .before .before .before .before .before .before .before .before .before .before .before .before .before .before .args .book) (c .before .before .before .before .before .before .before .before .before .before .before .before .before .before .before .before .before .args .numbers .now) (c .before .before .before .before .before .before .before .before .before .before .before .before .before .before .before .before .before .args .keys .now) (c .before .before .before .before .before .before .before .before .before .before .before .before .before .before .before .before .before .args .body .now) (c .before .before .before .before .before .before .before .before .before .before .before .before .before .before .before .before .before .pre .0) room _ _ _ (c .before .before .before .before .before .before .before .before .before .before .before .before .before .message-type .ensures) (c .before .before .before .before .before .before .before .before .before .before .before .before .is-on .ensures) (c .before .before .before .before .before .before .before .before .before .before .before .is-cc .ensures) _ (c .before .before .before .before .before .before .before .before .before .before .before .before .before .before .before .before .before .pre .1) _ (c .before .before .before .before .before .before .before .before .before .before .taken-by .ensures) (c .before .before .before .before .before .before .before .before .if1 .left) _ _ _ (c .before .before .before .before .before .weight-of-marked .ensures) (c .before .before .before .before .brought-weight .ensures) (c .before .before .before .concerned-by .ensures) (search needs) _ (c .before .before .par-fits .ensures) _ refl (c .before .if2 .taken))
+returns-2 c = λ room. refused-by (drop 7 traderChecks) (c .before .before .before .before .before .before .before .before .before .before .before .before .before .before .before .before .before .args .book) (c .before .before .before .before .before .before .before .before .before .before .before .before .before .before .before .before .before .args .numbers .now) (c .before .before .before .before .before .before .before .before .before .before .before .before .before .before .before .before .before .args .keys .now) (c .before .before .before .before .before .before .before .before .before .before .before .before .before .before .before .before .before .args .body .now) room _ _ (c .refused2 .ensures) (par-fails (c .before .before .before .before .before .before .before .before .before .before .before .before .before .before .before .before .before .args .book) (c .before .before .before .before .before .before .before .before .before .before .before .before .before .before .before .before .before .args .numbers .now) (c .before .before .before .before .before .before .before .before .before .before .before .before .before .before .before .before .before .args .keys .now) (c .before .before .before .before .before .before .before .before .before .before .before .before .before .before .before .before .before .args .body .now) (c .before .before .before .before .before .before .before .before .before .before .before .before .before .before .before .before .before .pre .0) room _ _ _ (c .before .before .before .before .before .before .before .before .before .before .before .before .before .message-type .ensures) (c .before .before .before .before .before .before .before .before .before .before .before .before .is-on .ensures) (c .before .before .before .before .before .before .before .before .before .before .before .is-cc .ensures) _ (c .before .before .before .before .before .before .before .before .before .before .before .before .before .before .before .before .before .pre .1) _ (c .before .before .before .before .before .before .before .before .before .before .taken-by .ensures) (c .before .before .before .before .before .before .before .before .if1 .left) _ _ _ (c .before .before .before .before .before .weight-of-marked .ensures) (c .before .before .before .before .brought-weight .ensures) (c .before .before .before .concerned-by .ensures) _ (c .before .before .par-fits .ensures) _ refl (c .before .if2 .taken))
 
 -- src/lib.rt:251:16
 table-fits-requires : tie.Need-table-fits-requires
@@ -81,11 +81,11 @@ refused-requires-3 c κs = search needs
 
 -- src/lib.rt:252:9
 returns-3 : tie.Need-returns-3
-returns-3 c = λ room. refused-by (drop 7 traderChecks) (c .before .before .before .before .before .before .before .before .before .before .before .before .before .before .before .before .before .before .before .args .book) (c .before .before .before .before .before .before .before .before .before .before .before .before .before .before .before .before .before .before .before .args .numbers .now) (c .before .before .before .before .before .before .before .before .before .before .before .before .before .before .before .before .before .before .before .args .keys .now) (c .before .before .before .before .before .before .before .before .before .before .before .before .before .before .before .before .before .before .before .args .body .now) room _ _ (c .refused3 .ensures) (table-fails (c .before .before .before .before .before .before .before .before .before .before .before .before .before .before .before .before .before .before .before .args .book) (c .before .before .before .before .before .before .before .before .before .before .before .before .before .before .before .before .before .before .before .args .numbers .now) (c .before .before .before .before .before .before .before .before .before .before .before .before .before .before .before .before .before .before .before .args .keys .now) (c .before .before .before .before .before .before .before .before .before .before .before .before .before .before .before .before .before .before .before .args .body .now) (c .before .before .before .before .before .before .before .before .before .before .before .before .before .before .before .before .before .before .before .pre .0) room _ _ _ (c .before .before .before .before .before .before .before .before .before .before .before .before .before .before .before .message-type .ensures) (c .before .before .before .before .before .before .before .before .before .before .before .before .before .before .is-on .ensures) (c .before .before .before .before .before .before .before .before .before .before .before .before .before .is-cc .ensures) _ (c .before .before .before .before .before .before .before .before .before .before .before .before .before .before .before .before .before .before .before .pre .1) _ (c .before .before .before .before .before .before .before .before .before .before .before .before .taken-by .ensures) (c .before .before .before .before .before .before .before .before .before .before .if1 .left) _ _ _ (c .before .before .before .before .before .before .before .weight-of-marked .ensures) (c .before .before .before .before .before .before .brought-weight .ensures) (c .before .before .before .before .before .concerned-by .ensures) (search needs) _ (c .before .before .before .before .par-fits .ensures) _ refl (c .before .before .before .if2 .left) _ (c .before .before .table-fits .ensures) (c .before .if3 .taken))
+returns-3 c = λ room. refused-by (drop 7 traderChecks) (c .before .before .before .before .before .before .before .before .before .before .before .before .before .before .before .before .before .before .before .args .book) (c .before .before .before .before .before .before .before .before .before .before .before .before .before .before .before .before .before .before .before .args .numbers .now) (c .before .before .before .before .before .before .before .before .before .before .before .before .before .before .before .before .before .before .before .args .keys .now) (c .before .before .before .before .before .before .before .before .before .before .before .before .before .before .before .before .before .before .before .args .body .now) room _ _ (c .refused3 .ensures) (table-fails (c .before .before .before .before .before .before .before .before .before .before .before .before .before .before .before .before .before .before .before .args .book) (c .before .before .before .before .before .before .before .before .before .before .before .before .before .before .before .before .before .before .before .args .numbers .now) (c .before .before .before .before .before .before .before .before .before .before .before .before .before .before .before .before .before .before .before .args .keys .now) (c .before .before .before .before .before .before .before .before .before .before .before .before .before .before .before .before .before .before .before .args .body .now) (c .before .before .before .before .before .before .before .before .before .before .before .before .before .before .before .before .before .before .before .pre .0) room _ _ _ (c .before .before .before .before .before .before .before .before .before .before .before .before .before .before .before .message-type .ensures) (c .before .before .before .before .before .before .before .before .before .before .before .before .before .before .is-on .ensures) (c .before .before .before .before .before .before .before .before .before .before .before .before .before .is-cc .ensures) _ (c .before .before .before .before .before .before .before .before .before .before .before .before .before .before .before .before .before .before .before .pre .1) _ (c .before .before .before .before .before .before .before .before .before .before .before .before .taken-by .ensures) (c .before .before .before .before .before .before .before .before .before .before .if1 .left) _ _ _ (c .before .before .before .before .before .before .before .weight-of-marked .ensures) (c .before .before .before .before .before .before .brought-weight .ensures) (c .before .before .before .before .before .concerned-by .ensures) _ (c .before .before .before .before .par-fits .ensures) _ refl (c .before .before .before .if2 .left) _ (c .before .before .table-fits .ensures) (c .before .if3 .taken))
 
 -- src/lib.rt:222:1
 returns-4 : tie.Need-returns-4
-returns-4 c = λ room. all-pass (c .before .before .before .before .before .before .before .before .before .before .before .before .before .before .before .before .before .before .args .book) (c .before .before .before .before .before .before .before .before .before .before .before .before .before .before .before .before .before .before .args .numbers .now) (c .before .before .before .before .before .before .before .before .before .before .before .before .before .before .before .before .before .before .args .keys .now) (c .before .before .before .before .before .before .before .before .before .before .before .before .before .before .before .before .before .before .args .body .now) (c .before .before .before .before .before .before .before .before .before .before .before .before .before .before .before .before .before .before .pre .0) room _ _ _ (c .before .before .before .before .before .before .before .before .before .before .before .before .before .before .message-type .ensures) (c .before .before .before .before .before .before .before .before .before .before .before .before .before .is-on .ensures) (c .before .before .before .before .before .before .before .before .before .before .before .before .is-cc .ensures) _ (c .before .before .before .before .before .before .before .before .before .before .before .before .before .before .before .before .before .before .pre .1) _ (c .before .before .before .before .before .before .before .before .before .before .before .taken-by .ensures) (c .before .before .before .before .before .before .before .before .before .if1 .left) _ _ _ (c .before .before .before .before .before .before .weight-of-marked .ensures) (c .before .before .before .before .before .brought-weight .ensures) (c .before .before .before .before .concerned-by .ensures) (search needs) _ (c .before .before .before .par-fits .ensures) _ refl (c .before .before .if2 .left) _ (c .before .table-fits .ensures) (c .if3 .left)
+returns-4 c = λ room. all-pass (c .before .before .before .before .before .before .before .before .before .before .before .before .before .before .before .before .before .before .args .book) (c .before .before .before .before .before .before .before .before .before .before .before .before .before .before .before .before .before .before .args .numbers .now) (c .before .before .before .before .before .before .before .before .before .before .before .before .before .before .before .before .before .before .args .keys .now) (c .before .before .before .before .before .before .before .before .before .before .before .before .before .before .before .before .before .before .args .body .now) (c .before .before .before .before .before .before .before .before .before .before .before .before .before .before .before .before .before .before .pre .0) room _ _ _ (c .before .before .before .before .before .before .before .before .before .before .before .before .before .before .message-type .ensures) (c .before .before .before .before .before .before .before .before .before .before .before .before .before .is-on .ensures) (c .before .before .before .before .before .before .before .before .before .before .before .before .is-cc .ensures) _ (c .before .before .before .before .before .before .before .before .before .before .before .before .before .before .before .before .before .before .pre .1) _ (c .before .before .before .before .before .before .before .before .before .before .before .taken-by .ensures) (c .before .before .before .before .before .before .before .before .before .if1 .left) _ _ _ (c .before .before .before .before .before .before .weight-of-marked .ensures) (c .before .before .before .before .before .brought-weight .ensures) (c .before .before .before .before .concerned-by .ensures) _ (c .before .before .before .par-fits .ensures) _ refl (c .before .before .if2 .left) _ (c .before .table-fits .ensures) (c .if3 .left)
 
 pub decide-moves-spec : {M : Type 1} → statement M
 decide-moves-spec =

@@ -28,11 +28,11 @@ find-listed-requires c κs = search needs
 
 -- src/lib.rt:189:9
 returns : tie.Need-returns
-returns c = takes-some (c .before .before .before .before .message-type .result) (c .before .before .before .before .before .before .args .body .now) (c .before .before .before .is-cc .result) (c .before .before .is-dk .result) (c .before .before .before .before .message-type .ensures) (either (c .before .before .before .before .message-type .result) (c .before .before .before .is-cc .result) (c .before .before .is-dk .result) (c .before .before .before .is-cc .ensures) (c .before .before .is-dk .ensures)) (c .before .before .before .before .before .before .args .numbers .now) (c .before .before .before .before .before .before .args .keys .now) (c .before .before .before .before .before .before .args .live) _ (c .before .before .before .before .before .before .pre .within) (c .before .if1 .taken) (c .find-listed .ensures)
+returns c = takes-some (c .before .before .before .before .message-type .result) (c .before .before .before .before .before .before .args .body .now) (c .before .before .before .is-cc .result) (c .before .before .is-dk .result) (c .before .before .before .before .message-type .ensures) (either (c .before .before .before .before .message-type .result) (c .before .before .before .is-cc .result) (c .before .before .is-dk .result) (c .before .before .before .is-cc .ensures) (c .before .before .is-dk .ensures)) (c .before .before .before .before .before .before .args .numbers .now) (c .before .before .before .before .before .before .args .keys .now) (c .before .before .before .before .before .before .args .live) _ (search needs) (c .before .before .before .before .before .before .pre .within) (c .before .if1 .taken) (c .find-listed .ensures)
 
 -- src/lib.rt:181:1
 returns-2 : tie.Need-returns-2
-returns-2 c = takes-none (c .before .before .before .message-type .result) (c .before .before .before .before .before .args .body .now) (c .before .before .is-cc .result) (c .before .is-dk .result) (c .before .before .before .message-type .ensures) (either (c .before .before .before .message-type .result) (c .before .before .is-cc .result) (c .before .is-dk .result) (c .before .before .is-cc .ensures) (c .before .is-dk .ensures)) _ _ 4096 (c .if1 .left) refl refl
+returns-2 c = takes-none (c .before .before .before .message-type .result) (c .before .before .before .before .before .args .body .now) (c .before .before .is-cc .result) (c .before .is-dk .result) (c .before .before .before .message-type .ensures) (either (c .before .before .before .message-type .result) (c .before .before .is-cc .result) (c .before .is-dk .result) (c .before .before .is-cc .ensures) (c .before .is-dk .ensures)) _ _ 4096 refl (c .if1 .left) refl refl
 
 pub taken-by-spec : {M : Type 1} → statement M
 taken-by-spec =
