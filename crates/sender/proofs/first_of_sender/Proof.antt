@@ -36,17 +36,17 @@ reason-of-requires c κs = search needs
 returns : tie.Need-returns Inv-loop μ-loop
 returns c = λ (table : List Pool).
     ap (λ (r : Reason). Fails r) (c .reason-of .ensures)
-    ∙ left-fails (call (c .before .before .before .before .before .before .args .book) table (c .before .before .before .before .before .before .args .body .now) (c .before .before .before .before .before .before .args .room)) (c .before .before .before .before .loop .i) (c .before .before .before .before .loop .inv .1 table) (c .before .before .before .loop-test .taken) (sym (c .before .before .fails .ensures table) ∙ c .before .if1 .taken)
+    ∙ left-fails (call (c .before .before .before .before .before .before .args .book) table (c .before .before .before .before .before .before .args .body .now) (c .before .before .before .before .before .before .args .room)) (c .before .before .before .before .loop .i) (c .before .before .before .before .loop .inv .1 table) (omega (arith, c .before .before .before .loop-test .taken)) (sym (c .before .before .fails .ensures table) ∙ c .before .if1 .taken)
 
 loop-less : tie.Need-loop-less Inv-loop μ-loop
 loop-less c = search needs
 
 loop-again : tie.Need-loop-again Inv-loop μ-loop
 loop-again c =
-    (omega arith, λ (table : List Pool). left-more (call (c .before .before .before .before .before .args .book) table (c .before .before .before .before .before .args .body .now) (c .before .before .before .before .before .args .room)) (c .before .before .before .loop .i) (c .before .before .before .loop .inv .1 table) (c .before .before .loop-test .taken) (sym (c .before .fails .ensures table) ∙ c .if1 .left))
+    (omega arith, λ (table : List Pool). left-more (call (c .before .before .before .before .before .args .book) table (c .before .before .before .before .before .args .body .now) (c .before .before .before .before .before .args .room)) (c .before .before .before .loop .i) (c .before .before .before .loop .inv .1 table) (omega (arith, c .before .before .loop-test .taken)) (sym (c .before .fails .ensures table) ∙ c .if1 .left))
 
 returns-2 : tie.Need-returns-2 Inv-loop μ-loop
-returns-2 c = λ (table : List Pool). left-done (call (c .before .before .before .args .book) table (c .before .before .before .args .body .now) (c .before .before .before .args .room)) (c .before .loop .i) (c .before .loop .inv .1 table) (c .loop-test .left)
+returns-2 c = λ (table : List Pool). left-done (call (c .before .before .before .args .book) table (c .before .before .before .args .body .now) (c .before .before .before .args .room)) (c .before .loop .i) (c .before .loop .inv .1 table) (omega (arith, c .loop-test .left))
 
 pub first-of-sender-spec : {M : Type 1} → statement M
 first-of-sender-spec =
