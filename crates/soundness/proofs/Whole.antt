@@ -48,7 +48,7 @@ module _ (v : Values) where
         few-millions r (and-right face kind past),
       )
 
-  light : (ns ks : List (List ℕ)) (live : ℕ) → live ≤ length ns → v .count ≤ tradesMax → all (recordFine v) (take live (tableOf ns ks)) ≡ true → Light ns live
+  pub light : (ns ks : List (List ℕ)) (live : ℕ) → live ≤ length ns → v .count ≤ tradesMax → all (recordFine v) (take live (tableOf ns ks)) ≡ true → Light ns live
   light ns ks live l few e i h =
       let z : i ≡ 0 + i = omega arith in
       let p : recordFine v (recordAt ns ks i) ≡ true =
