@@ -3,7 +3,7 @@ use book::Book;
 use book::Values;
 ghost use Rattle.opened.specs.Opening.{Opens};
 
-// The book, and whether opening passes. The book of a refused opening is refused with 42 by every later call, since its values or its table still fail.
+// The book, and whether opening passes. With the same table, every call refuses the book of a refused opening with 42: its values or that table still fail.
 pub struct Opened {
     pub fine: bool,
     pub book: Book,
