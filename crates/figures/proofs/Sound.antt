@@ -9,7 +9,6 @@ use lib.Seq.{getD-take, length-take-le}
 use lib.Dec.{eqb, leb, ltb}
 use borrow.Author.Tests.{lt-ltb, le-ltb, leb-true, not-true, not-false}
 use Rattle.lists.proofs.Tests.{and-left, and-right}
-use Rattle.book.specs.declared.Trade.{Trade}
 use Rattle.book.specs.declared.Book.{Book}
 use Rattle.book.specs.Records.{standingMillions}
 use Rattle.book.specs.Trades.{tradesOf}

@@ -1,5 +1,5 @@
 -- Standing millions in one pass: each record's share joins the sum, which grows by at most 99 a record.
-use mathlib.Core.Path.{_≡_, refl, sym, ap, _∙_}
+use mathlib.Core.Path.{_≡_, sym, ap, _∙_}
 use mathlib.Core.List.{List, []}
 use mathlib.Core.Bool.{Bool, true, false, cond, not, _&&_}
 use Prim.Native.Nat.{ℕ, _+_, _-_, _≤_, _<_}
