@@ -22,7 +22,7 @@ returns c =
 returns-2 : tie.Need-returns-2
 returns-2 c =
     let a = c .before .before .before .before .args in
-    not-opened (a .book) (a .numbers .now) (a .keys .now) (a .trade) _ (c .before .before .is-sound .ensures) (c .before .if1 .left) (sixty-four (c .before .before .before .before)) (c .if2 .taken)
+    not-opened (a .book) (a .numbers .now) (a .keys .now) (a .trade) _ (c .before .before .is-sound .ensures) (c .before .if1 .left) (sixty-four (c .before .before .before .before)) (omega arith)
 
 mul-t : tie.Need-mul-t
 mul-t c =
