@@ -1,2 +1,5 @@
 pub mod Refusing
 pub mod Answering
+pub mod Bounds
+pub mod Accepting
+pub mod Stepping

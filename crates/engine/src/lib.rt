@@ -8,10 +8,13 @@ use trader::Decision;
 ghost use mathlib.Core.Path.{_≡_};
 ghost use mathlib.Core.Bool.{true, false};
 ghost use Prim.Native.Nat.{ℕ, _+_, _-_, _≤_, _<_};
-ghost use lib.ListN.{length, set, getD};
+ghost use lib.ListN.{length, take, set, getD};
+ghost use mathlib.Core.List.{_++_};
+ghost use Rattle.moves.specs.Moves.{remaining, bringing, filled, Movable};
 ghost use Rattle.layout.specs.Columns.{headerWidth};
 ghost use Rattle.book.specs.declared.Verdict.the-variants.{Passes};
 ghost use Rattle.book.specs.Messages.{typeOf};
+ghost use Rattle.book.specs.Opening.{tradesMax, recordsMax};
 ghost use Rattle.book.specs.Checks.{noTrade, refusal, firstFailing};
 ghost use Rattle.book.specs.Step.{isSilent, withLeft, outputFor};
 ghost use Rattle.table.specs.Rows.{tableOf};
@@ -57,7 +60,7 @@ fn moved_trades(
     off: u64,
     brought: u64,
 ) -> [Trade; book::TRADES_MAX]
-    requires { ⌜ (trade < length trades) × (getD trades trade noTrade .left + off ≤ 9000000000000000000) × (brought ≤ getD trades trade noTrade .left + off) ⌝ }
+    requires { ⌜ (trade < tradesMax) × (getD trades trade noTrade .left + off ≤ 9000000000000000000) × (brought ≤ getD trades trade noTrade .left + off) ⌝ }
     ensures { λ r. ⌜ r ≡ set trades trade (withLeft (getD trades trade noTrade) ((getD trades trade noTrade .left + off) - brought)) ⌝ }
 {
     let mut moved = trades;
@@ -65,6 +68,32 @@ fn moved_trades(
     t.left = t.left + off - brought;
     moved[trade] = t;
     moved
+}
+
+// Moves the table by the marks of a decision.
+fn move_by(
+    numbers: &mut [[u64; 6]],
+    keys: &mut [[u8; 22]],
+    live: usize,
+    body: &[u8],
+    marks: [u8; book::RECORDS_MAX],
+    message: u64,
+    trade: u64,
+) -> usize
+    requires { ⌜ (length marks ≡ recordsMax → Movable (now body) (now numbers) (now keys) live marks) ⌝ }
+    requires { ⌜ length (remaining (now body) (take live (tableOf (now numbers) (now keys))) ++ bringing (now body) message trade) ≤ length (now numbers) ⌝ }
+    ensures { λ r. ⌜ (r ≡ length (remaining (now (body .entry)) (take live (tableOf (now (numbers .entry)) (now (keys .entry)))) ++ bringing (now (body .entry)) message trade))
+        × (tableOf (now (numbers .exit)) (now (keys .exit)) ≡ filled (length (now (numbers .entry))) (remaining (now (body .entry)) (take live (tableOf (now (numbers .entry)) (now (keys .entry)))) ++ bringing (now (body .entry)) message trade)) ⌝ }
+{
+    moves::move_table(
+        &mut *numbers,
+        &mut *keys,
+        live,
+        body,
+        &marks,
+        message,
+        trade,
+    )
 }
 
 // An accepted frame: the table and the trades move, then the answer goes out.
@@ -89,12 +118,12 @@ fn accept(
     let answer = Answer::Accepted(message);
     let moved = moved_trades(trades, trade, decision.off, decision.brought);
     let counted = reply::with_counters(book, number, answer);
-    let live = moves::move_table(
+    let live = move_by(
         &mut *numbers,
         &mut *keys,
         book.live,
         body,
-        &marks,
+        marks,
         message,
         trade as u64,
     );

@@ -38,7 +38,7 @@ module _ (v : Values) where
   unfolding valuesFine
   few-trades e = leb-true (v .count) tradesMax (and-left _ _ (and-left _ _ e))
 
-  record-light : (r : Pool) → recordFine v r ≡ true → (r .trade < v .count) × (r .current ≤ elevenDigitsMax) × (r .millions ≤ 99)
+  pub record-light : (r : Pool) → recordFine v r ≡ true → (r .trade < v .count) × (r .current ≤ elevenDigitsMax) × (r .millions ≤ 99)
   record-light r e =
       let kind = kindFine r in
       let face = leb (r .current) elevenDigitsMax in
