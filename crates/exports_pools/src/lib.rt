@@ -47,14 +47,14 @@ pub extern "C" fn rhoikandra_terminator(s: &[u8], out: &mut [u64])
 pub extern "C" fn rhoikandra_forms(body: &[u8], out: &mut [u64])
     ensures { λ _. ⌜ now (out .exit) ≡ pasted (now (out .entry)) 0 (formNumbers (details (now (body .entry)))) ⌝ }
 {
-    let on = terminator::lots_formed(body, false);
-    let cc = terminator::lots_formed(body, true);
-    let groups = terminator::groups_of(body);
+    let on = lots::lots_formed(body, false);
+    let cc = lots::lots_formed(body, true);
+    let judged = groups::groups_of(body);
     let four = [
         numbers::bit_of(on),
         numbers::bit_of(cc),
-        numbers::bit_of(groups.formed),
-        numbers::bit_of(groups.balanced),
+        numbers::bit_of(judged.formed),
+        numbers::bit_of(judged.balanced),
     ];
     numbers::put_numbers(&mut *out, &four);
 }
@@ -65,8 +65,8 @@ pub extern "C" fn rhoikandra_sums(body: &[u8], out: &mut [u64])
     ensures { λ _. ⌜ now (out .exit) ≡ pasted (now (out .entry)) 0 (sumNumbers (now (body .entry))) ⌝ }
 {
     let pools = layout::pool_count(body);
-    let replacements = terminator::replacement_count(body);
-    let millions = terminator::good_millions(body);
+    let replacements = lots::replacement_count(body);
+    let millions = lots::good_millions(body);
     let weight = faces::new_weight(body);
     let four = [pools as u64, replacements as u64, millions, weight];
     numbers::put_numbers(&mut *out, &four);
@@ -106,7 +106,7 @@ fn lot_numbers(l: LotRead) -> [u64; 6]
 pub extern "C" fn rhoikandra_lot_at(body: &[u8], first: usize, out: &mut [u64])
     ensures { λ _. ⌜ now (out .exit) ≡ pasted (now (out .entry)) 0 (lotNumbers (lotFrom (now (body .entry)) first)) ⌝ }
 {
-    let lot = terminator::lot_at(body, first);
+    let lot = lots::lot_at(body, first);
     let six = lot_numbers(lot);
     numbers::put_numbers(&mut *out, &six);
 }
@@ -122,8 +122,8 @@ pub extern "C" fn rhoikandra_faces(
 )
     ensures { λ _. ⌜ now (out .exit) ≡ pasted (now (out .entry)) 0 (faceNumbers least variance pools (details (now (body .entry)))) ⌝ }
 {
-    let faces = faces::faces_fail(body, least);
-    let lots = faces::lots_fail(body, variance, pools);
-    let two = [numbers::bit_of(faces), numbers::bit_of(lots)];
+    let faces_fail = faces::faces_fail(body, least);
+    let lots_fail = faces::lots_fail(body, variance, pools);
+    let two = [numbers::bit_of(faces_fail), numbers::bit_of(lots_fail)];
     numbers::put_numbers(&mut *out, &two);
 }

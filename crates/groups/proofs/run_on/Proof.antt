@@ -1,11 +1,11 @@
 -- A middle changes nothing; an end adds its lot to the group at hand, or closes that group and begins the next.
 use native.Mathlib.Omega.{arith}
 use mathlib.Core.Path.{ap, _∙_}
-use Rattle.terminator.specs.declared.Run.{Run}
-use Rattle.terminator.proofs.Runs.{run-middle, run-replacement, run-canceled, run-next}
+use Rattle.groups.specs.declared.Run.{Run}
+use Rattle.groups.proofs.Runs.{run-middle, run-replacement, run-canceled, run-next}
 use borrow.Author.Needs.{needs}
-use Rattle.terminator.proofs.run_on.Statement.{statement}
-use Rattle.terminator.proofs.run_on.Tie as tie
+use Rattle.groups.proofs.run_on.Statement.{statement}
+use Rattle.groups.proofs.run_on.Tie as tie
 
 returns : tie.Need-returns
 returns c = run-middle _ _ (c .if1 .taken)

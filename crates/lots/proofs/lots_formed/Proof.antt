@@ -3,11 +3,11 @@ use Prim.Native.Nat.{_≤_, _-_}
 use native.Mathlib.Omega.{arith}
 use mathlib.Core.Path.{ap, _∙_}
 use Rattle.layout.proofs.Passes.{Passed, pass-none, pass-more, pass-done}
-use Rattle.terminator.specs.Passes.{walkOn}
-use Rattle.terminator.proofs.Formed.{walkStep, start, ended, formed-pass}
+use Rattle.lots.specs.Walks.{walkOn}
+use Rattle.lots.proofs.Formed.{walkStep, start, ended, formed-pass}
 use borrow.Author.Needs.{needs}
-use Rattle.terminator.proofs.lots_formed.Statement.{statement}
-use Rattle.terminator.proofs.lots_formed.Tie as tie
+use Rattle.lots.proofs.lots_formed.Statement.{statement}
+use Rattle.lots.proofs.lots_formed.Tie as tie
 
 abbrev Inv-loop : tie.InvT-loop
 Inv-loop body cc n w₀ i₀ w i = (i ≤ n) × Passed (walkStep cc) body start n w i

@@ -6,10 +6,10 @@ use Prim.Native.Nat.{ℕ}
 use lib.Dec.{eqb}
 use Rattle.lists.proofs.Folds.{fold}
 use Rattle.layout.specs.declared.Detail.{Detail}
-use Rattle.terminator.specs.declared.Walk.{Walk}
+use Rattle.lots.specs.declared.Walk.{Walk}
 use Rattle.terminator.specs.Terminators.{isEnd, isWrong, isBad, one, term, markOf}
 use Rattle.terminator.specs.Lots.{goesOn, lotsFormed, firstOn, firstCc, formedFor}
-use Rattle.terminator.specs.Passes.{firstOf, walkOn}
+use Rattle.lots.specs.Walks.{firstOf, walkOn}
 
 abbrev pub walkStep : Bool → Walk → Detail → Walk
 walkStep cc w d = walkOn cc w (markOf d)

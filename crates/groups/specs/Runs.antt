@@ -1,27 +1,11 @@
--- The states of the passes over a message's pools: what the private functions promise. The checks themselves are in Lots and Groups.
+-- The pass of checks 20 and 21 over a message's pools: what the private functions promise. The checks themselves are in terminator's Groups.
 use Prim.Native.Nat.{ℕ, _+_, _*_, _≤_}
-use mathlib.Core.Bool.{Bool, true, false, cond, not, _&&_, _||_, Bool·beq}
+use mathlib.Core.Bool.{Bool, true, cond, not, _&&_, _||_}
 use lib.Dec.{eqb, leb, ltb}
 use Rattle.terminator.specs.declared.Mark.{Mark}
-use Rattle.terminator.specs.declared.Walk.{Walk}
-use Rattle.terminator.specs.declared.Run.{Run}
 use Rattle.terminator.specs.declared.Groups.{Groups}
 use Rattle.terminator.specs.Terminators.{digitCanceled}
-use Rattle.terminator.specs.Lots.{firstOn, firstCc}
-
--- position one as the type asks
-abbrev pub firstOf : Bool → ℕ → Bool
-firstOf cc b = (firstCc b && cc) || (firstOn b && not cc)
-
--- 19: the walk after one more pool
-abbrev pub walkOn : Bool → Walk → Mark → Walk
-walkOn cc w m =
-    record {
-      formed = w .formed && ((not (w .begun) || (eqb (w .one) (m .one) && Bool·beq (w .bad) (m .bad))) && (firstOf cc (m .one) && not (m .wrong)));
-      begun = not (m .end);
-      one = m .one;
-      bad = m .bad;
-    }
+use Rattle.groups.specs.declared.Run.{Run}
 
 -- 20 of the group at hand
 abbrev pub runFormed : Run → Bool

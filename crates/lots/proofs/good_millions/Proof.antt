@@ -4,11 +4,11 @@ use Prim.Native.Nat.{ℕ, _≤_, _*_, _-_, _+_}
 use native.Mathlib.Omega.{arith}
 use mathlib.Core.Path.{ap, _∙_}
 use Rattle.layout.proofs.Lengths.{count-max}
 use Rattle.terminator.proofs.Marks.{millions-small, mark-millions}
-use Rattle.terminator.proofs.Passes.{addMillions, millions-pass}
+use Rattle.lots.proofs.Passes.{addMillions, millions-pass}
 use borrow.Author.Needs.{needs}
-use Rattle.terminator.proofs.good_millions.Statement.{statement}
-use Rattle.terminator.proofs.good_millions.Tie as tie
+use Rattle.lots.proofs.good_millions.Statement.{statement}
+use Rattle.lots.proofs.good_millions.Tie as tie
 
 abbrev Inv-loop : tie.InvT-loop
 Inv-loop body n sum₀ i₀ sum i = (i ≤ n) × (sum ≤ 99 * i) × Passed addMillions body 0 n sum i

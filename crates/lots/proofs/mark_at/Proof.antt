@@ -1,9 +1,9 @@
 -- The pool that the reader gives, taken apart.
 use mathlib.Core.Path.{ap, _∙_}
 use Rattle.terminator.specs.Terminators.{markOf}
 use borrow.Author.Needs.{needs}
-use Rattle.terminator.proofs.mark_at.Statement.{statement}
-use Rattle.terminator.proofs.mark_at.Tie as tie
+use Rattle.lots.proofs.mark_at.Statement.{statement}
+use Rattle.lots.proofs.mark_at.Tie as tie
 
 pool-at-requires : tie.Need-pool-at-requires
 pool-at-requires c κs = search needs

@@ -5,14 +5,15 @@ use mathlib.Core.Path.{sym, ap, _∙_}
 use Rattle.layout.proofs.Lengths.{count-max}
 use Rattle.layout.proofs.Passes.{poolOf}
 use Rattle.layout.specs.declared.Detail.{Detail}
 use Rattle.terminator.specs.declared.LotRead.the-variants.{Found}
 use Rattle.terminator.specs.Lots.{currentCents, lotEnded}
 use Rattle.terminator.specs.Terminators.{markOf}
 use Rattle.terminator.proofs.Marks.{mark-end}
-use Rattle.terminator.proofs.Found.{cents-small, Sought, sought-none, sought-more, sought-found, sought-done}
+use Rattle.terminator.proofs.Found.{cents-small}
+use Rattle.lots.proofs.Sought.{Sought, sought-none, sought-more, sought-found, sought-done}
 use borrow.Author.Needs.{needs}
-use Rattle.terminator.proofs.lot_at.Statement.{statement}
-use Rattle.terminator.proofs.lot_at.Tie as tie
+use Rattle.lots.proofs.lot_at.Statement.{statement}
+use Rattle.lots.proofs.lot_at.Tie as tie
 
 abbrev Inv-loop : tie.InvT-loop
 Inv-loop body first n faces₀ i₀ faces i = (first ≤ i) × (faces ≤ 100000000000 * (i - first)) × Sought body first n faces i

@@ -3,11 +3,11 @@ use Prim.Native.Nat.{_≤_, _-_}
 use native.Mathlib.Omega.{arith}
 use mathlib.Core.Path.{sym, _∙_}
 use Rattle.layout.proofs.Passes.{poolOf, Passed, pass-none, pass-more, pass-done}
 use Rattle.terminator.proofs.Marks.{mark-one}
-use Rattle.terminator.proofs.Passes.{addReplacement, replacement-pass, replacement-more, replacement-same}
+use Rattle.lots.proofs.Passes.{addReplacement, replacement-pass, replacement-more, replacement-same}
 use borrow.Author.Needs.{needs}
-use Rattle.terminator.proofs.replacement_count.Statement.{statement}
-use Rattle.terminator.proofs.replacement_count.Tie as tie
+use Rattle.lots.proofs.replacement_count.Statement.{statement}
+use Rattle.lots.proofs.replacement_count.Tie as tie
 
 abbrev Inv-loop : tie.InvT-loop
 Inv-loop body n count₀ i₀ count i = (i ≤ n) × (count ≤ i) × Passed addReplacement body 0 n count i

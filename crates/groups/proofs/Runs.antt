@@ -11,15 +11,15 @@ use Rattle.lists.specs.Lists.{sumOf, all}
 use Rattle.lists.proofs.Tests.{sum-append, all-append}
 use Rattle.lists.proofs.Folds.{fold}
 use Rattle.layout.specs.declared.Detail.{Detail}
 use Rattle.terminator.specs.declared.Mark.{Mark}
-use Rattle.terminator.specs.declared.Run.{Run}
+use Rattle.groups.specs.declared.Run.{Run}
 use Rattle.terminator.specs.declared.Groups.{Groups}
 use Rattle.terminator.specs.declared.Kind.{Kind}
 use Rattle.terminator.specs.declared.Kind.the-variants.{Good, Odd, Bad}
 use Rattle.terminator.specs.Terminators.{digitCanceled, isEnd, isCanceled, one, term, markOf}
 use Rattle.terminator.specs.Lots.{Lot, lotKind, lotMillions, lotsFrom, lots}
 use Rattle.terminator.specs.Groups.{Group, groupsFrom, groups, sameKind, ofKind, groupFormed, groupBalanced, groupsFormed, groupsBalanced, groupsJudged}
-use Rattle.terminator.specs.Passes.{judged, emptyRun, withCanceled, withReplacement, runOn, Small}
+use Rattle.groups.specs.Runs.{judged, emptyRun, withCanceled, withReplacement, runOn, Small}
 
 -- ---- the ways through one pool
 module _ (g : Run) (m : Mark) where
