@@ -4,4 +4,3 @@ pub mod Faced
 pub mod Lotwise
 pub mod Checking
 pub mod Weighing
-pub mod Staging

@@ -1,4 +1,4 @@
-// Whether the faces of a message's new pools and lots are within their limits (checks 34 and 35), what its new lots weigh, and its pools staged before anything is stored.
+// Whether the faces of a message's new pools and lots are within their limits (checks 34 and 35), and what its new lots weigh.
 use fields::Field;
 use layout::Detail;
 use terminator::Terminator;
@@ -8,14 +8,11 @@ ghost use Prim.Native.Nat.{_+_, _-_, _*_, _≤_, _<_};
 ghost use Rattle.layout.specs.Details.{details, poolCount, poolsMax, detailAt, placeOf};
 ghost use Rattle.terminator.specs.Terminators.{isEnd, kindOf, millionsOf};
 ghost use Rattle.terminator.specs.Lots.{currentCents, valueOf, weightOf, millionCents};
-ghost use Rattle.faces.specs.Faces.{isNew, currentFails, originalFails, faceFails, facesFail, goodLotFails, lotsFail, newWeight, fourDigits, terminatorNumber, staged};
+ghost use Rattle.faces.specs.Faces.{isNew, currentFails, originalFails, faceFails, facesFail, goodLotFails, lotsFail, newWeight};
 ghost use Rattle.faces.specs.Runs.{faceLimit, millionsMost, endFails, checkPool, weighPool};
 
 // The highest original face, in whole dollars.
 pub const ORIGINAL_MOST: u64 = 50000000;
-
-// What a terminator is staged as where it is not four digits.
-pub const NO_TERMINATOR: u64 = 10000;
 
 fn is_new(d: Detail) -> bool
     ensures { λ r. ⌜ r ≡ isNew d ⌝ }
@@ -262,42 +259,4 @@ pub struct Staged {
     pub count: usize,
     pub faces: [u64; layout::POOLS_MAX],
     pub terminators: [u64; layout::POOLS_MAX],
-}
-
-fn four_digits(f: Field) -> u64
-    ensures { λ r. ⌜ r ≡ fourDigits f ⌝ }
-{
-    match f {
-        Field::Number(n) => n,
-        Field::NotDigits => NO_TERMINATOR,
-    }
-}
-
-fn terminator_number(d: Detail) -> u64
-    ensures { λ r. ⌜ r ≡ terminatorNumber d ⌝ }
-{
-    let bytes = d.terminator;
-    let f = fields::read_number(&bytes, 0, layout::TERMINATOR.width);
-    four_digits(f)
-}
-
-// Stages the pools of a message.
-pub fn stage(body: &[u8]) -> Staged
-    ensures { λ r. ⌜ r ≡ staged (details (now (body .entry))) ⌝ }
-{
-    let mut faces = [0u64; layout::POOLS_MAX];
-    let mut terminators = [0u64; layout::POOLS_MAX];
-    let n = layout::pool_count(body);
-    let mut i: usize = 0;
-    while i < n {
-        let d = layout::pool_at(body, i);
-        faces[i] = terminator::current_cents(d);
-        terminators[i] = terminator_number(d);
-        i += 1;
-    }
-    Staged {
-        count: n,
-        faces: faces,
-        terminators: terminators,
-    }
 }

@@ -1,9 +1,9 @@
 -- The field is read at its width and gives its number or the one that no four digits make.
 use mathlib.Core.Path.{ap, _∙_}
 use Rattle.faces.specs.Faces.{fourDigits, terminatorNumber}
 use borrow.Author.Needs.{needs}
-use Rattle.faces.proofs.terminator_number.Statement.{statement}
-use Rattle.faces.proofs.terminator_number.Tie as tie
+use Rattle.staging.proofs.terminator_number.Statement.{statement}
+use Rattle.staging.proofs.terminator_number.Tie as tie
 
 slice-aggregate-read-number : tie.Need-slice-aggregate-read-number
 slice-aggregate-read-number c = search needs

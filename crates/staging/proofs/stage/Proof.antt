@@ -6,11 +6,11 @@ use lib.ListN.{length, length-set, length-replicate}
 use Rattle.layout.specs.Details.{poolsMax}
 use Rattle.layout.proofs.Lengths.{count-max}
 use Rattle.terminator.specs.Lots.{currentCents}
 use Rattle.faces.specs.Faces.{terminatorNumber}
-use Rattle.faces.proofs.Staging.{Staging, staging-none, staging-more, staging-done, staged-is}
+use Rattle.staging.proofs.Staging.{Staging, staging-none, staging-more, staging-done, staged-is}
 use borrow.Author.Needs.{needs}
-use Rattle.faces.proofs.stage.Statement.{statement}
-use Rattle.faces.proofs.stage.Tie as tie
+use Rattle.staging.proofs.stage.Statement.{statement}
+use Rattle.staging.proofs.stage.Tie as tie
 
 abbrev Inv-loop : tie.InvT-loop
 Inv-loop body faces₀ terminators₀ n i₀ faces terminators i =
