@@ -67,7 +67,7 @@ pub extern "C" fn rhoikandra_sums(body: &[u8], out: &mut [u64])
     let pools = layout::pool_count(body);
     let replacements = lots::replacement_count(body);
     let millions = lots::good_millions(body);
-    let weight = faces::new_weight(body);
+    let weight = new_lots::new_weight(body);
     let four = [pools as u64, replacements as u64, millions, weight];
     numbers::put_numbers(&mut *out, &four);
 }
@@ -123,7 +123,7 @@ pub extern "C" fn rhoikandra_faces(
     ensures { λ _. ⌜ now (out .exit) ≡ pasted (now (out .entry)) 0 (faceNumbers least variance pools (details (now (body .entry)))) ⌝ }
 {
     let faces_fail = faces::faces_fail(body, least);
-    let lots_fail = faces::lots_fail(body, variance, pools);
+    let lots_fail = new_lots::lots_fail(body, variance, pools);
     let two = [numbers::bit_of(faces_fail), numbers::bit_of(lots_fail)];
     numbers::put_numbers(&mut *out, &two);
 }

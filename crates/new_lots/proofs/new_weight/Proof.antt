@@ -4,12 +4,12 @@ use native.Mathlib.Omega.{arith}
 use mathlib.Core.Path.{ap, _∙_}
 use Rattle.layout.proofs.Lengths.{count-max}
 use Rattle.layout.proofs.Passes.{poolOf, Passed, pass-none, pass-more, pass-done}
-use Rattle.faces.specs.declared.Weighed.{Weighed}
-use Rattle.faces.specs.Runs.{faceLimit, weighPool}
-use Rattle.faces.proofs.Weighing.{noneWeighed, weighed-sums, weighed-pass}
+use Rattle.new_lots.specs.declared.Weighed.{Weighed}
+use Rattle.new_lots.specs.Runs.{faceLimit, weighPool}
+use Rattle.new_lots.proofs.Weighing.{noneWeighed, weighed-sums, weighed-pass}
 use borrow.Author.Needs.{needs}
-use Rattle.faces.proofs.new_weight.Statement.{statement}
-use Rattle.faces.proofs.new_weight.Tie as tie
+use Rattle.new_lots.proofs.new_weight.Statement.{statement}
+use Rattle.new_lots.proofs.new_weight.Tie as tie
 
 abbrev Inv-loop : tie.InvT-loop
 Inv-loop body n s₀ i₀ s i = (i ≤ n) × (s .cents + s .weight ≤ i * faceLimit) × Passed weighPool body noneWeighed n s i

@@ -3,10 +3,10 @@ use native.Mathlib.Omega.{arith}
 use mathlib.Core.Path.{sym, _∙_}
 use borrow.Author.Tests.{not-true, not-false}
 use Rattle.terminator.proofs.Found.{cents-small}
-use Rattle.faces.proofs.Checking.{check-middle, check-end}
+use Rattle.new_lots.proofs.Checking.{check-middle, check-end}
 use borrow.Author.Needs.{needs}
-use Rattle.faces.proofs.check_pool.Statement.{statement}
-use Rattle.faces.proofs.check_pool.Tie as tie
+use Rattle.new_lots.proofs.check_pool.Statement.{statement}
+use Rattle.new_lots.proofs.check_pool.Tie as tie
 
 current-cents-requires : tie.Need-current-cents-requires
 current-cents-requires c κs = search needs

@@ -5,10 +5,10 @@ use borrow.Author.Tests.{not-true, not-false}
 use Rattle.terminator.specs.Terminators.{millionsOf}
 use Rattle.terminator.proofs.Marks.{millions-small}
 use Rattle.terminator.proofs.Found.{cents-small}
-use Rattle.faces.proofs.Weighing.{end-small, weigh-middle, weigh-canceled, weigh-new}
+use Rattle.new_lots.proofs.Weighing.{end-small, weigh-middle, weigh-canceled, weigh-new}
 use borrow.Author.Needs.{needs}
-use Rattle.faces.proofs.weigh_pool.Statement.{statement}
-use Rattle.faces.proofs.weigh_pool.Tie as tie
+use Rattle.new_lots.proofs.weigh_pool.Statement.{statement}
+use Rattle.new_lots.proofs.weigh_pool.Tie as tie
 
 current-cents-requires : tie.Need-current-cents-requires
 current-cents-requires c κs = search needs

@@ -13,11 +13,11 @@ use Rattle.terminator.specs.declared.Terminator.the-variants.{Middle, BadMiddle
 use Rattle.terminator.specs.Terminators.{isEnd, kindOf, millionsOf, term}
 use Rattle.terminator.specs.Lots.{Lot, currentCents, weightOf, lotWeight, lots}
 use Rattle.terminator.proofs.Marks.{millions-small}
-use Rattle.faces.specs.declared.Weighed.{Weighed}
+use Rattle.new_lots.specs.declared.Weighed.{Weighed}
 use Rattle.faces.specs.Faces.{isNew, isNewLot, newWeight}
-use Rattle.faces.specs.Runs.{faceLimit, millionsMost, weighPool}
+use Rattle.new_lots.specs.Runs.{faceLimit, millionsMost, weighPool}
 use Rattle.faces.proofs.Kept.{addKept, fold-kept}
-use Rattle.faces.proofs.Lotwise.{lotOf, lotwise, cents-snoc}
+use Rattle.new_lots.proofs.Lotwise.{lotOf, lotwise, cents-snoc}
 use Rattle.terminator.proofs.Found.{cents-small}
 
 abbrev pub noneWeighed : Weighed

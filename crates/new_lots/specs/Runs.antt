@@ -5,9 +5,9 @@ use Rattle.layout.specs.declared.Detail.{Detail}
 use Rattle.terminator.specs.declared.Terminator.{Terminator}
 use Rattle.terminator.specs.Terminators.{isEnd, isGood, kindOf, millionsOf, term}
 use Rattle.terminator.specs.Lots.{currentCents, weightOf}
-use Rattle.faces.specs.declared.Checked.{Checked}
-use Rattle.faces.specs.declared.Weighed.{Weighed}
+use Rattle.new_lots.specs.declared.Checked.{Checked}
+use Rattle.new_lots.specs.declared.Weighed.{Weighed}
 use Rattle.faces.specs.Faces.{isNew, goodLotFails}
 
 -- more cents than any current face holds
 abbrev pub faceLimit : ℕ

@@ -4,12 +4,12 @@ use native.Mathlib.Omega.{arith}
 use mathlib.Core.Path.{ap, _∙_}
 use Rattle.layout.proofs.Lengths.{count-max}
 use Rattle.layout.proofs.Passes.{poolOf, Passed, pass-none, pass-more, pass-done}
-use Rattle.faces.specs.declared.Checked.{Checked}
-use Rattle.faces.specs.Runs.{faceLimit, checkPool}
-use Rattle.faces.proofs.Checking.{noneChecked, checked-cents, checked-pools, checked-pass}
+use Rattle.new_lots.specs.declared.Checked.{Checked}
+use Rattle.new_lots.specs.Runs.{faceLimit, checkPool}
+use Rattle.new_lots.proofs.Checking.{noneChecked, checked-cents, checked-pools, checked-pass}
 use borrow.Author.Needs.{needs}
-use Rattle.faces.proofs.lots_fail.Statement.{statement}
-use Rattle.faces.proofs.lots_fail.Tie as tie
+use Rattle.new_lots.proofs.lots_fail.Statement.{statement}
+use Rattle.new_lots.proofs.lots_fail.Tie as tie
 
 abbrev Inv-loop : tie.InvT-loop
 Inv-loop body variance pools-a-million n s₀ i₀ s i = (i ≤ n) × (s .cents ≤ i * faceLimit) × (s .pools ≤ i) × Passed (checkPool variance pools-a-million) body noneChecked n s i

@@ -12,11 +12,11 @@ use Rattle.terminator.specs.declared.Terminator.{Terminator}
 use Rattle.terminator.specs.declared.Terminator.the-variants.{GoodEnd}
 use Rattle.terminator.specs.Terminators.{isEnd, term}
 use Rattle.terminator.specs.Lots.{Lot, currentCents, lots}
-use Rattle.faces.specs.declared.Checked.{Checked}
+use Rattle.new_lots.specs.declared.Checked.{Checked}
 use Rattle.faces.specs.Faces.{isNew, isNewLot, goodLotFails, lotFails, lotsFail}
-use Rattle.faces.specs.Runs.{faceLimit, endFails, checkPool}
+use Rattle.new_lots.specs.Runs.{faceLimit, endFails, checkPool}
 use Rattle.faces.proofs.Kept.{orKept, fold-any}
-use Rattle.faces.proofs.Lotwise.{lotOf, lotwise, cents-snoc, length-snoc}
+use Rattle.new_lots.proofs.Lotwise.{lotOf, lotwise, cents-snoc, length-snoc}
 use Rattle.terminator.proofs.Found.{cents-small}
 
 pub end-good : (t : Terminator) (millions sum pools variance most : ℕ) (f : Bool) → t ≡ GoodEnd millions → f ≡ goodLotFails sum pools millions variance most
