@@ -1,15 +1,15 @@
 -- Staging: the numbers written, those of the pools still to come and the zeros after them are always the whole array.
-use mathlib.Core.Path.{_≡_, refl, sym, ap, _∙_}
-use mathlib.Core.List.{List, _∷_, _++_, map}
+use mathlib.Core.Path.{_≡_, sym, ap, _∙_}
+use mathlib.Core.List.{List, _++_, map}
 use mathlib.Core.Bool.{true}
-use Prim.Native.Nat.{ℕ, zero, suc, _+_, _-_, _≤_, _<_}
+use Prim.Native.Nat.{ℕ, zero, _+_, _-_, _≤_, _<_}
 use native.Mathlib.Nat.{zero-add}
 use native.Mathlib.Omega.{arith}
 use lib.ListN.{length, drop, set, replicate, length-replicate, replicate-append-replicate}
 use lib.Seq.{drop-at}
 use Rattle.lists.specs.Lists.{within, tab, pasted}
 use Rattle.lists.proofs.Parts.{in-within}
-use Rattle.lists.proofs.Tables.{length-tab, getD-tab}
+use Rattle.lists.proofs.Tables.{length-tab, getD-tab, map-tab}
 use Rattle.lists.proofs.Pasting.{Pasting, pasting-none, pasting-more, pasting-done, paste-in}
 use Rattle.layout.specs.declared.Detail.{Detail}
 use Rattle.layout.specs.Details.{details, poolCount}
@@ -34,10 +34,6 @@ paste-zeros most xs h =
     paste-in (replicate most 0) 0 xs w
     ∙ ap (λ (n : ℕ). xs ++ drop {A = ℕ} n (replicate most 0)) (zero-add (length xs))
     ∙ ap (λ (ys : List ℕ). xs ++ ys) (drop-replicate most (length xs) h)
-
-map-tab : {A B : Type 0} (f : A → B) (g : ℕ → A) (n i : ℕ) → map f (tab g n i) ≡ tab (λ (k : ℕ). f (g k)) n i
-map-tab f g zero i = refl
-map-tab {A} {B} f g (suc n) i = ap (λ (l : List B). f (g i) ∷ l) (map-tab f g n (i + 1))
 
 -- an array that takes the number f of each pool
 module _ (most : ℕ) (f : Detail → ℕ) (body : List ℕ) (n : ℕ) where
