@@ -12,26 +12,45 @@ use reference::values::Limits;
 /// A lent slice is a pointer and a length.
 mod exported {
     extern "C" {
-        pub fn rhoikandra_column_at(i: usize) -> usize;
-        pub fn rhoikandra_column_width(i: usize) -> usize;
-        pub fn rhoikandra_is_number(s: *const u8, len: usize, at: usize, width: usize) -> bool;
-        pub fn rhoikandra_number(s: *const u8, len: usize, at: usize, width: usize) -> u64;
+        pub fn rhoikandra_column(i: usize, out: *mut u64, out_len: usize);
+        pub fn rhoikandra_number(
+            s: *const u8,
+            len: usize,
+            at: usize,
+            width: usize,
+            out: *mut u64,
+            out_len: usize,
+        );
+        pub fn rhoikandra_date(
+            n: u64,
+            holidays: *const u32,
+            len: usize,
+            out: *mut u64,
+            out_len: usize,
+        );
+        pub fn rhoikandra_trade_id(special: *const u8, len: usize, out: *mut u64, out_len: usize);
+        pub fn rhoikandra_prices_agree(a: u64, b: u64) -> bool;
 
-        pub fn rhoikandra_frame_found(tape: *const u8, len: usize, at: usize) -> bool;
-        pub fn rhoikandra_frame_start(tape: *const u8, len: usize, at: usize) -> usize;
-        pub fn rhoikandra_frame_end(tape: *const u8, len: usize, at: usize) -> usize;
-        pub fn rhoikandra_frame_next(tape: *const u8, len: usize, at: usize) -> usize;
-        pub fn rhoikandra_frame_dropped(tape: *const u8, len: usize, at: usize) -> usize;
+        pub fn rhoikandra_frame(
+            tape: *const u8,
+            len: usize,
+            at: usize,
+            out: *mut u64,
+            out_len: usize,
+        ) -> usize;
+        pub fn rhoikandra_line(
+            any: bool,
+            last: u32,
+            expected: u32,
+            number: u32,
+            out: *mut u64,
+            out_len: usize,
+        );
+        pub fn rhoikandra_outbound(last: u32, out: *mut u64, out_len: usize);
 
-        pub fn rhoikandra_terminator(s: *const u8, len: usize) -> u64;
-        pub fn rhoikandra_terminator_millions(s: *const u8, len: usize) -> u64;
-
-        pub fn rhoikandra_pool_count(body: *const u8, len: usize) -> usize;
-        pub fn rhoikandra_lots_formed(body: *const u8, len: usize, cc: bool) -> bool;
-        pub fn rhoikandra_groups_formed(body: *const u8, len: usize) -> bool;
-        pub fn rhoikandra_groups_balanced(body: *const u8, len: usize) -> bool;
-        pub fn rhoikandra_replacement_count(body: *const u8, len: usize) -> usize;
-        pub fn rhoikandra_good_millions(body: *const u8, len: usize) -> u64;
+        pub fn rhoikandra_terminator(s: *const u8, len: usize, out: *mut u64, out_len: usize);
+        pub fn rhoikandra_forms(body: *const u8, len: usize, out: *mut u64, out_len: usize);
+        pub fn rhoikandra_sums(body: *const u8, len: usize, out: *mut u64, out_len: usize);
         pub fn rhoikandra_lot_at(
             body: *const u8,
             len: usize,
@@ -39,30 +58,17 @@ mod exported {
             out: *mut u64,
             out_len: usize,
         );
+        pub fn rhoikandra_faces(
+            body: *const u8,
+            len: usize,
+            least: u64,
+            variance: u64,
+            pools: u64,
+            out: *mut u64,
+            out_len: usize,
+        );
 
-        pub fn rhoikandra_faces_fail(body: *const u8, len: usize, least: u64) -> bool;
-        pub fn rhoikandra_lots_fail(body: *const u8, len: usize, variance: u64, pools: u64)
-            -> bool;
-        pub fn rhoikandra_new_weight(body: *const u8, len: usize) -> u64;
-
-        pub fn rhoikandra_is_date(n: u64) -> bool;
-        pub fn rhoikandra_business_date(n: u64, holidays: *const u32, len: usize) -> bool;
-
-        pub fn rhoikandra_arrival(any: bool, last: u32, expected: u32, number: u32) -> u64;
-        pub fn rhoikandra_received_after(any: bool, last: u32, expected: u32, number: u32) -> bool;
-        pub fn rhoikandra_last_after(any: bool, last: u32, expected: u32, number: u32) -> u32;
-        pub fn rhoikandra_expected_after(any: bool, last: u32, expected: u32, number: u32) -> u32;
-        pub fn rhoikandra_sound_line(any: bool, last: u32, expected: u32) -> bool;
-        pub fn rhoikandra_next_outbound(last: u32) -> u32;
-        pub fn rhoikandra_outbound_spent(last: u32) -> bool;
-
-        pub fn rhoikandra_tally_raise(cells: *mut u32, len: usize, kind: u64, outcome: u64);
-
-        pub fn rhoikandra_trade_id(special: *const u8, len: usize) -> u64;
-        pub fn rhoikandra_trade_id_place(special: *const u8, len: usize) -> usize;
-        pub fn rhoikandra_trade_id_length(special: *const u8, len: usize) -> usize;
-        pub fn rhoikandra_prices_agree(a: u64, b: u64) -> bool;
-
+        pub fn rhoikandra_tally_raise(rows: *mut [u32; 3], len: usize, kind: u64, outcome: u64);
         pub fn rhoikandra_put_aa(
             out: *mut u8,
             out_len: usize,
@@ -91,75 +97,98 @@ use exported::*;
 // Every call below is safe: the leaves ask nothing of their callers, read only what a slice
 // lends, and write only within one that is lent for writing.
 
+/// The N numbers that a leaf writes at the head of the slice that it is lent.
+fn numbers<const N: usize>(leaf: impl FnOnce(*mut u64, usize)) -> [u64; N] {
+    let mut numbers = [0; N];
+    leaf(numbers.as_mut_ptr(), N);
+    numbers
+}
+
+/// An answer, which a leaf writes as 1 or 0.
+fn yes(bit: u64) -> bool {
+    assert!(bit <= 1, "no answer has the number {bit}");
+    bit == 1
+}
+
 /// The first byte and the width of a column of the header, by its place in their order.
 pub fn column(i: usize) -> (usize, usize) {
-    unsafe { (rhoikandra_column_at(i), rhoikandra_column_width(i)) }
+    let [at, width] = numbers(|out, len| unsafe { rhoikandra_column(i, out, len) });
+    (at as usize, width as usize)
 }
 
 /// The number in the width digits from a place on, if they are digits.
 pub fn number(s: &[u8], at: usize, width: usize) -> Option<u64> {
-    unsafe {
-        rhoikandra_is_number(s.as_ptr(), s.len(), at, width)
-            .then(|| rhoikandra_number(s.as_ptr(), s.len(), at, width))
-    }
+    let [found, number] =
+        numbers(|out, len| unsafe { rhoikandra_number(s.as_ptr(), s.len(), at, width, out, len) });
+    yes(found).then_some(number)
 }
 
 pub fn next_frame(tape: &[u8], at: usize) -> Found {
-    let (bytes, len) = (tape.as_ptr(), tape.len());
-    unsafe {
-        let frame = rhoikandra_frame_found(bytes, len, at).then(|| Frame {
-            start: rhoikandra_frame_start(bytes, len, at),
-            end: rhoikandra_frame_end(bytes, len, at),
-            after: rhoikandra_frame_next(bytes, len, at),
-        });
-        Found { frame, dropped: rhoikandra_frame_dropped(bytes, len, at) }
-    }
+    let mut dropped = 0;
+    let [found, start, end, after] = numbers(|out, len| unsafe {
+        dropped = rhoikandra_frame(tape.as_ptr(), tape.len(), at, out, len)
+    });
+    let frame = Frame { start: start as usize, end: end as usize, after: after as usize };
+    Found { frame: yes(found).then_some(frame), dropped }
 }
 
 /// What positions two to four of a terminator say; bytes that are not four are wrong.
 pub fn position(terminator: &[u8]) -> Position {
-    let (bytes, len) = (terminator.as_ptr(), terminator.len());
-    let (case, millions) =
-        unsafe { (rhoikandra_terminator(bytes, len), rhoikandra_terminator_millions(bytes, len)) };
-    match (case, millions) {
-        (0, 0) => Position::GoodOrOddMiddle,
-        (1, 0) => Position::BadMiddle,
-        (2, millions) => Position::GoodEnd { millions },
-        (3, 0) => Position::OddEnd,
-        (4, 0) => Position::BadEnd,
-        (5, 0) => Position::Wrong,
+    let numbers = numbers(|out, len| unsafe {
+        rhoikandra_terminator(terminator.as_ptr(), terminator.len(), out, len)
+    });
+    match numbers {
+        [0, 0] => Position::GoodOrOddMiddle,
+        [1, 0] => Position::BadMiddle,
+        [2, millions] => Position::GoodEnd { millions },
+        [3, 0] => Position::OddEnd,
+        [4, 0] => Position::BadEnd,
+        [5, 0] => Position::Wrong,
         other => panic!("no terminator has the numbers {other:?}"),
     }
 }
 
-pub fn pool_count(body: &[u8]) -> usize {
-    unsafe { rhoikandra_pool_count(body.as_ptr(), body.len()) }
+/// Whether lots and groups are formed.
+#[derive(Clone, Copy, Debug)]
+pub struct Forms {
+    /// Whether an ON's lots pass check 19.
+    pub on: bool,
+    /// Whether a CC's lots pass it.
+    pub cc: bool,
+    /// Whether a CC's groups pass check 20.
+    pub groups: bool,
+    /// Whether they pass check 21.
+    pub balanced: bool,
 }
 
-/// Whether a CC's lots, or an ON's, pass check 19.
-pub fn lots_formed(body: &[u8], cc: bool) -> bool {
-    unsafe { rhoikandra_lots_formed(body.as_ptr(), body.len(), cc) }
+pub fn forms(body: &[u8]) -> Forms {
+    let [on, cc, groups, balanced] =
+        numbers(|out, len| unsafe { rhoikandra_forms(body.as_ptr(), body.len(), out, len) });
+    Forms { on: yes(on), cc: yes(cc), groups: yes(groups), balanced: yes(balanced) }
 }
 
-/// Whether a CC's groups pass check 20.
-pub fn groups_formed(body: &[u8]) -> bool {
-    unsafe { rhoikandra_groups_formed(body.as_ptr(), body.len()) }
+/// What is counted and summed over a body.
+#[derive(Clone, Copy, Debug)]
+pub struct Sums {
+    pub pools: usize,
+    pub replacements: usize,
+    pub good_millions: u64,
+    /// The weight of the new lots.
+    pub new_weight_cents: u64,
 }
 
-/// Whether they pass check 21.
-pub fn groups_balanced(body: &[u8]) -> bool {
-    unsafe { rhoikandra_groups_balanced(body.as_ptr(), body.len()) }
+pub fn sums(body: &[u8]) -> Sums {
+    let [pools, replacements, good_millions, new_weight_cents] =
+        numbers(|out, len| unsafe { rhoikandra_sums(body.as_ptr(), body.len(), out, len) });
+    Sums {
+        pools: pools as usize,
+        replacements: replacements as usize,
+        good_millions,
+        new_weight_cents,
+    }
 }
 
-pub fn replacement_count(body: &[u8]) -> usize {
-    unsafe { rhoikandra_replacement_count(body.as_ptr(), body.len()) }
-}
-
-pub fn good_millions(body: &[u8]) -> u64 {
-    unsafe { rhoikandra_good_millions(body.as_ptr(), body.len()) }
-}
-
-/// The six numbers of the lot that begins at a pool, into any slice.
+/// The six numbers of the lot that begins at a pool, at the head of any slice.
 pub fn put_lot(body: &[u8], first: usize, out: &mut [u64]) {
     unsafe { rhoikandra_lot_at(body.as_ptr(), body.len(), first, out.as_mut_ptr(), out.len()) }
 }
@@ -169,7 +198,7 @@ pub fn lot_at(body: &[u8], first: usize) -> Option<(Lot, u64)> {
     let mut numbers = [0; 6];
     put_lot(body, first, &mut numbers);
     let [found, one, kind, millions, last, weight_cents] = numbers;
-    if found == 0 {
+    if !yes(found) {
         return None;
     }
     let kind = match kind {
@@ -183,89 +212,78 @@ pub fn lot_at(body: &[u8], first: usize) -> Option<(Lot, u64)> {
     Some((Lot { first, pools, position_one, kind, millions }, weight_cents))
 }
 
-/// Whether a new pool of a body fails check 34.
-pub fn faces_fail(body: &[u8], limits: &Limits) -> bool {
-    unsafe { rhoikandra_faces_fail(body.as_ptr(), body.len(), limits.least_face_dollars) }
+/// Whether a new pool of a body fails check 34, and whether a new lot fails check 35.
+pub fn faces_and_lots_fail(body: &[u8], limits: &Limits) -> (bool, bool) {
+    let Limits { least_face_dollars, variance_cents_a_million, pools_a_million, .. } = *limits;
+    let (bytes, len) = (body.as_ptr(), body.len());
+    let [faces, lots] = numbers(|out, out_len| unsafe {
+        rhoikandra_faces(
+            bytes,
+            len,
+            least_face_dollars,
+            variance_cents_a_million,
+            pools_a_million,
+            out,
+            out_len,
+        )
+    });
+    (yes(faces), yes(lots))
 }
 
-/// Whether a new lot of a body fails check 35.
-pub fn lots_fail(body: &[u8], limits: &Limits) -> bool {
-    let Limits { variance_cents_a_million, pools_a_million, .. } = *limits;
-    unsafe {
-        rhoikandra_lots_fail(body.as_ptr(), body.len(), variance_cents_a_million, pools_a_million)
-    }
+/// Whether a number is a date, and whether it is a business date with these holidays.
+pub fn date(mmddyyyy: u64, holidays: &[u32]) -> (bool, bool) {
+    let [date, business] = numbers(|out, len| unsafe {
+        rhoikandra_date(mmddyyyy, holidays.as_ptr(), holidays.len(), out, len)
+    });
+    (yes(date), yes(business))
 }
 
-/// The weight of the new lots of a body, in cents.
-pub fn new_weight_cents(body: &[u8]) -> u64 {
-    unsafe { rhoikandra_new_weight(body.as_ptr(), body.len()) }
+/// What a number is to a line.
+#[derive(Clone, Copy, Debug)]
+pub struct Arrived {
+    /// None where check 11 refuses it.
+    pub judged: Option<Judgement>,
+    pub after: Inbound,
+    /// Whether the line before it can have come about (42).
+    pub sound: bool,
 }
 
-pub fn is_date(mmddyyyy: u64) -> bool {
-    unsafe { rhoikandra_is_date(mmddyyyy) }
-}
-
-pub fn business_date(mmddyyyy: u64, holidays: &[u32]) -> bool {
-    unsafe { rhoikandra_business_date(mmddyyyy, holidays.as_ptr(), holidays.len()) }
-}
-
-/// What a number is to a line; none where check 11 refuses it.
-pub fn judge(line: Inbound, sequence: u32) -> Option<Judgement> {
-    let (any, last, expected) = numbers_of(line);
-    match unsafe { rhoikandra_arrival(any, last, expected, sequence) } {
+pub fn arrive(line: Inbound, sequence: u32) -> Arrived {
+    let (any, last) = (line.received.is_some(), line.received.unwrap_or(0));
+    let [arrival, received, last, expected, sound] = numbers(|out, len| unsafe {
+        rhoikandra_line(any, last, line.expected, sequence, out, len)
+    });
+    let judged = match arrival {
         0 => None,
         1 => Some(Judgement::Duplicate),
         2 => Some(Judgement::AsExpected),
         3 => Some(Judgement::Gap),
         other => panic!("no arrival has the number {other}"),
-    }
+    };
+    let received = yes(received).then_some(last as u32);
+    Arrived { judged, after: Inbound { received, expected: expected as u32 }, sound: yes(sound) }
 }
 
-/// The line after a number.
-pub fn line_after(line: Inbound, sequence: u32) -> Inbound {
-    let (any, last, expected) = numbers_of(line);
-    unsafe {
-        Inbound {
-            received: rhoikandra_received_after(any, last, expected, sequence)
-                .then(|| rhoikandra_last_after(any, last, expected, sequence)),
-            expected: rhoikandra_expected_after(any, last, expected, sequence),
-        }
-    }
+/// The outbound number after the last one used, and whether fewer than two are left (43).
+pub fn outbound(last: u32) -> (u32, bool) {
+    let [next, spent] = numbers(|out, len| unsafe { rhoikandra_outbound(last, out, len) });
+    (next as u32, yes(spent))
 }
 
-pub fn line_is_sound(line: Inbound) -> bool {
-    let (any, last, expected) = numbers_of(line);
-    unsafe { rhoikandra_sound_line(any, last, expected) }
-}
-
-fn numbers_of(line: Inbound) -> (bool, u32, u32) {
-    (line.received.is_some(), line.received.unwrap_or(0), line.expected)
-}
-
-pub fn next_outbound(last: u32) -> u32 {
-    unsafe { rhoikandra_next_outbound(last) }
-}
-
-pub fn outbound_spent(last: u32) -> bool {
-    unsafe { rhoikandra_outbound_spent(last) }
-}
-
-/// Raises a cell among twelve; a slice of another length stays.
-pub fn tally_raise(cells: &mut [u32], kind: u64, outcome: u64) {
-    unsafe { rhoikandra_tally_raise(cells.as_mut_ptr(), cells.len(), kind, outcome) }
+/// Raises a cell among four rows; a slice of another length stays.
+pub fn tally_raise(rows: &mut [[u32; 3]], kind: u64, outcome: u64) {
+    unsafe { rhoikandra_tally_raise(rows.as_mut_ptr(), rows.len(), kind, outcome) }
 }
 
 pub fn trade_id(special: &[u8]) -> TradeId {
-    let (bytes, len) = (special.as_ptr(), special.len());
-    unsafe {
-        let place = rhoikandra_trade_id_place(bytes, len);
-        let length = rhoikandra_trade_id_length(bytes, len);
-        match (rhoikandra_trade_id(bytes, len), place, length) {
-            (0, place, length) => TradeId::Whole { place, length },
-            (1, 0, 0) => TradeId::Broken,
-            (2, 0, 0) => TradeId::Absent,
-            other => panic!("no trade ID has the numbers {other:?}"),
-        }
+    let numbers = numbers(|out, len| unsafe {
+        rhoikandra_trade_id(special.as_ptr(), special.len(), out, len)
+    });
+    match numbers {
+        [0, place, length] => TradeId::Whole { place: place as usize, length: length as usize },
+        [1, 0, 0] => TradeId::Broken,
+        [2, 0, 0] => TradeId::Absent,
+        other => panic!("no trade ID has the numbers {other:?}"),
     }
 }
 

@@ -21,8 +21,7 @@ fn compare(text: &[u8; 8], holidays: &[[u8; 8]]) {
     let numbers: Vec<u32> = holidays.iter().map(|text| number(text).unwrap() as u32).collect();
     let read = proved::number(text, 0, 8);
     assert_eq!(read, number(text), "{text:?}");
-    let is_date = read.is_some_and(proved::is_date);
-    let business = read.is_some_and(|n| proved::business_date(n, &numbers));
+    let (is_date, business) = read.map_or((false, false), |n| proved::date(n, &numbers));
     assert_eq!(is_date, date(text).is_some(), "{text:?}");
     assert_eq!(business, business_date(text, holidays), "{text:?} with {holidays:?}");
 }

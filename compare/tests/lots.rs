@@ -2,7 +2,7 @@
 
 use compare::bodies::body;
 use compare::cases::Cases;
-use compare::proved;
+use compare::proved::{self, Forms};
 use reference::faces::{lot_passes_35, pool_passes_34};
 use reference::generator::{day, Random};
 use reference::groups::{groups, replacement_count, sums_agree};
@@ -42,33 +42,35 @@ fn limits(random: &mut Random) -> Limits {
 
 /// All that both say of one body.
 fn compare(body: &[u8], limits: &Limits, met: &mut Met) {
+    let sums = proved::sums(body);
     let Some(message) = Message::read(body) else {
         met.wrong_length += 1;
-        assert_eq!(proved::pool_count(body), 0);
-        assert_eq!(proved::replacement_count(body), 0);
+        assert_eq!(sums.pools, 0);
+        assert_eq!(sums.replacements, 0);
         return;
     };
     let details = message.details();
-    assert_eq!(proved::pool_count(body), details.len());
-    assert_eq!(proved::replacement_count(body), replacement_count(&details));
+    assert_eq!(sums.pools, details.len());
+    assert_eq!(sums.replacements, replacement_count(&details));
 
     let (on, cc) = (lots_of_on(&details), lots_of_cc(&details));
-    assert_eq!(proved::lots_formed(body, false), on.is_some());
-    assert_eq!(proved::lots_formed(body, true), cc.is_some());
+    let forms = proved::forms(body);
+    assert_eq!(forms.on, on.is_some());
+    assert_eq!(forms.cc, cc.is_some());
     met.on_formed += u32::from(on.is_some());
     met.cc_formed += u32::from(cc.is_some());
     met.unformed += u32::from(on.is_none() && cc.is_none());
 
     if let Some(lots) = &on {
-        assert_eq!(proved::good_millions(body), good_millions(lots));
+        assert_eq!(sums.good_millions, good_millions(lots));
         each_lot(body, &details, lots_of_on, met);
         new_lots(body, &details, lots, limits, met);
     }
     if let Some(lots) = &cc {
-        assert_eq!(proved::good_millions(body), good_millions(lots));
+        assert_eq!(sums.good_millions, good_millions(lots));
         each_lot(body, &details, lots_of_cc, met);
         new_lots(body, &details, lots, limits, met);
-        each_group(body, lots, met);
+        each_group(forms, lots, met);
     }
 }
 
@@ -104,32 +106,33 @@ fn new_lots(body: &[u8], details: &[PoolDetail], lots: &[Lot], limits: &Limits, 
     new.retain(|lot| lot.position_one != PositionOne::Canceled);
     let pools = new.iter().flat_map(|lot| lot.of(details));
     let passed_34 = pools.into_iter().all(|pool| pool_passes_34(pool, limits));
-    assert_eq!(proved::faces_fail(body, limits), !passed_34);
+    let (faces_fail, lots_fail) = proved::faces_and_lots_fail(body, limits);
+    assert_eq!(faces_fail, !passed_34);
     met.passed_34 += u32::from(passed_34);
     met.failed_34 += u32::from(!passed_34);
     let Some(weight_cents) = weight_cents(&new, details) else {
         return;
     };
-    assert_eq!(proved::new_weight_cents(body), weight_cents);
+    assert_eq!(proved::sums(body).new_weight_cents, weight_cents);
     if !passed_34 {
         return;
     }
     let passed_35 = new.iter().all(|lot| lot_passes_35(lot, details, limits));
-    assert_eq!(proved::lots_fail(body, limits), !passed_35);
+    assert_eq!(lots_fail, !passed_35);
     met.passed_35 += u32::from(passed_35);
     met.failed_35 += u32::from(!passed_35);
 }
 
-fn each_group(body: &[u8], lots: &[Lot], met: &mut Met) {
+fn each_group(forms: Forms, lots: &[Lot], met: &mut Met) {
     let groups = groups(lots);
-    assert_eq!(proved::groups_formed(body), groups.is_some());
+    assert_eq!(forms.groups, groups.is_some());
     let Some(groups) = groups else {
         met.ungrouped += 1;
         return;
     };
     met.grouped += 1;
     let balanced = sums_agree(&groups);
-    assert_eq!(proved::groups_balanced(body), balanced);
+    assert_eq!(forms.balanced, balanced);
     met.balanced += u32::from(balanced);
     met.unbalanced += u32::from(!balanced);
 }
@@ -179,13 +182,19 @@ fn bodies_of_days() {
 }
 
 #[test]
-fn a_lot_is_written_into_six_numbers_alone() {
+fn a_lot_is_written_where_six_numbers_fit() {
     let mut cases = Cases::of("numbers of a lot");
     for length in (0..20).filter(|length| *length != 6) {
         let body = body(&mut cases.random);
+        let mut six = [0; 6];
+        proved::put_lot(&body, 0, &mut six);
         let mut numbers = vec![7; length];
         proved::put_lot(&body, 0, &mut numbers);
-        assert_eq!(numbers, vec![7; length]);
+        let mut after = vec![7; length];
+        if length > 6 {
+            after[..6].copy_from_slice(&six);
+        }
+        assert_eq!(numbers, after);
         cases.count();
     }
 }

@@ -27,8 +27,10 @@ fn compare(line: Inbound, sequence: u32) -> Inbound {
         None | Some(Judgement::Duplicate) => line,
         Some(Judgement::AsExpected | Judgement::Gap) => Inbound::after(sequence),
     };
-    assert_eq!(proved::judge(line, sequence), judged, "{line:?} {sequence}");
-    assert_eq!(proved::line_after(line, sequence), after, "{line:?} {sequence}");
+    let arrived = proved::arrive(line, sequence);
+    assert_eq!(arrived.judged, judged, "{line:?} {sequence}");
+    assert_eq!(arrived.after, after, "{line:?} {sequence}");
+    assert_eq!(arrived.sound, line.is_sound(), "{line:?}");
     after
 }
 
@@ -40,7 +42,7 @@ fn days_of_numbers() {
         for _ in 0..50 {
             let sequence = near(&mut cases.random, line);
             line = compare(line, sequence);
-            assert!(proved::line_is_sound(line));
+            assert!(proved::arrive(line, sequence).sound);
             cases.count();
         }
     }
@@ -56,7 +58,6 @@ fn any_line() {
         let beside = [last.wrapping_add(1), last, 0, 1, last.wrapping_sub(1)];
         let received = random.percent(80).then_some(last);
         let line = Inbound { received, expected: random.pick(&beside) };
-        assert_eq!(proved::line_is_sound(line), line.is_sound(), "{line:?}");
         let sequence = near(random, line);
         compare(line, sequence);
         cases.count();
@@ -68,12 +69,12 @@ fn any_line() {
 fn outbound_numbers() {
     let mut cases = Cases::of("outbound numbers");
     for last in (0..2_000).chain(998_000..=999_997) {
-        assert_eq!(proved::next_outbound(last), last + 1);
-        assert!(!proved::outbound_spent(last));
+        assert_eq!(proved::outbound(last), (last + 1, false));
         cases.count();
     }
     for last in [999_998, 999_999, 1_000_000, u32::MAX] {
-        assert!(proved::outbound_spent(last));
+        let (_, spent) = proved::outbound(last);
+        assert!(spent);
         cases.count();
     }
 }

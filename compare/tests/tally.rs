@@ -22,20 +22,20 @@ fn tallies() {
             *cell = random.pick(&[0, 1, 7, u32::MAX - 1, u32::MAX, random.clone().number() as u32]);
         }
         let after = TYPES[kind].map_or(before, |of| raise(before, of, ANSWERS[outcome]));
-        let mut cells = before.concat();
-        proved::tally_raise(&mut cells, kind as u64, outcome as u64);
-        assert_eq!(cells, after.concat(), "{before:?} {kind} {outcome}");
+        let mut rows = before;
+        proved::tally_raise(&mut rows, kind as u64, outcome as u64);
+        assert_eq!(rows, after, "{before:?} {kind} {outcome}");
         cases.count();
     }
 }
 
 #[test]
-fn cells_that_are_not_twelve_stay() {
-    let mut cases = Cases::of("cells that are not twelve");
-    for length in (0..40).filter(|length| *length != 12) {
-        let mut cells = vec![7; length];
-        proved::tally_raise(&mut cells, 0, 0);
-        assert_eq!(cells, vec![7; length]);
+fn rows_that_are_not_four_stay() {
+    let mut cases = Cases::of("rows that are not four");
+    for length in (0..40).filter(|length| *length != 4) {
+        let mut rows = vec![[7; 3]; length];
+        proved::tally_raise(&mut rows, 0, 0);
+        assert_eq!(rows, vec![[7; 3]; length]);
         cases.count();
     }
 }

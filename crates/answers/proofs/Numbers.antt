@@ -1,12 +1,11 @@
 -- What the numbers of the reasons say: which are silent, and which are the trader's.
 use Prim.Native.Nat.{ℕ}
-use mathlib.Core.Path.{_≡_, refl, sym}
-use mathlib.Core.Bool.{Bool, true, false, cond, not, _&&_, _||_}
+use mathlib.Core.Path.{_≡_, refl}
+use mathlib.Core.Bool.{Bool, true, false, not, _&&_, _||_}
 use lib.Dec.{leb}
 use Rattle.tally.specs.declared.MessageType.{MessageType}
 use Rattle.book.specs.declared.Reason.{Reason}
 use Rattle.book.specs.declared.Reason.the-variants as reason
-use Rattle.book.specs.declared.Answer.{Answer}
 use Rattle.book.specs.declared.Answer.the-variants.{Rejected, Dked}
 use Rattle.book.specs.Reasons.{numberOf}
 use Rattle.book.specs.Checks.{isDk, refusal}

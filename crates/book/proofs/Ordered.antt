@@ -53,6 +53,14 @@ follows-is q r e = go (or-split (ltb (q .message) (r .message)) (eqb (q .message
           lot-follows-is q r (and-right (eqb (q .trade) (r .trade)) (lotFollows q r) k),
         )
 
+-- what follows has no smaller message ID
+pub follows-message : (q r : Pool) → follows q r ≡ true → q .message ≤ r .message
+follows-message q r e = go (follows-is q r e)
+  where
+    go : After q r → q .message ≤ r .message
+    go (inl a) = omega (arith, a)
+    go (inr a) = omega (arith, a .0)
+
 is-lot-follows : (q r : Pool) → LotAfter q r → lotFollows q r ≡ true
 is-lot-follows q r (inl a) = rw (lt-ltb (q .ordinal) (r .ordinal) a)
 is-lot-follows q r (inr (a, b, d)) =

@@ -1,4 +1,4 @@
-// Lends frames and sequence numbers to Rust and C: each exported function takes numbers and lent slices, and gives a number.
+// Lends frames and sequence numbers to Rust and C: each exported function writes its numbers at the head of a lent slice.
 use framing::Frame;
 use sequence::Arrival;
 use sequence::Inbound;
@@ -8,108 +8,29 @@ use sequence::Received;
 ghost use mathlib.Core.Path.{_≡_};
 ghost use Prim.Native.Nat.{_-_, _≤_};
 ghost use lib.ListN.{length};
+ghost use Rattle.lists.specs.Lists.{pasted};
 ghost use Rattle.framing.specs.Framing.{nextFrame};
-ghost use Rattle.sequence.specs.Sequence.{inbound, outbound, arrivalOf, lineAfter, soundLine, nextOutbound, outboundSpent};
-ghost use Rattle.exports_line.specs.Numbers.{isFrame, startOf, endOf, nextOf, lineOf, isReceived, lastOf, arrivalNumber};
+ghost use Rattle.sequence.specs.Sequence.{inbound, outbound};
+ghost use Rattle.exports_line.specs.Numbers.{frameNumbers, lineOf, anyReceived, lastReceived, arrivalNumber, lineNumbers, outboundNumbers};
 
-fn is_frame(f: Frame) -> bool
-    ensures { λ r. ⌜ r ≡ isFrame f ⌝ }
+fn frame_numbers(f: Frame) -> [u64; 4]
+    ensures { λ r. ⌜ r ≡ frameNumbers f ⌝ }
 {
     match f {
-        Frame::Body {
-            start: _,
-            end: _,
-            next: _,
-        } => true,
-        Frame::Nothing => false,
+        Frame::Body { start, end, next } => [1, start as u64, end as u64, next as u64],
+        Frame::Nothing => [0, 0, 0, 0],
     }
 }
 
-fn start_of(f: Frame) -> usize
-    ensures { λ r. ⌜ r ≡ startOf f ⌝ }
-{
-    match f {
-        Frame::Body {
-            start,
-            end: _,
-            next: _,
-        } => start,
-        Frame::Nothing => 0,
-    }
-}
-
-fn end_of(f: Frame) -> usize
-    ensures { λ r. ⌜ r ≡ endOf f ⌝ }
-{
-    match f {
-        Frame::Body {
-            start: _,
-            end,
-            next: _,
-        } => end,
-        Frame::Nothing => 0,
-    }
-}
-
-fn next_of(f: Frame) -> usize
-    ensures { λ r. ⌜ r ≡ nextOf f ⌝ }
-{
-    match f {
-        Frame::Body {
-            start: _,
-            end: _,
-            next,
-        } => next,
-        Frame::Nothing => 0,
-    }
-}
-
-// Whether a whole frame stands on the tape from a place on.
+// Writes the frame that stands on the tape from a place on, and gives the count of bytes dropped on the way to it; the paper gives that a bound alone.
 #[no_mangle]
-pub extern "C" fn rhoikandra_frame_found(tape: &[u8], at: usize) -> bool
-    ensures { λ r. ⌜ r ≡ isFrame (nextFrame (now (tape .entry)) at) ⌝ }
+pub extern "C" fn rhoikandra_frame(tape: &[u8], at: usize, out: &mut [u64]) -> usize
+    ensures { λ r. ⌜ (now (out .exit) ≡ pasted (now (out .entry)) 0 (frameNumbers (nextFrame (now (tape .entry)) at))) × (r ≤ length (now (tape .entry)) - at) ⌝ }
 {
     let found = framing::next_frame(tape, at);
     let frame = found.frame;
-    is_frame(frame)
-}
-
-// Where its body starts.
-#[no_mangle]
-pub extern "C" fn rhoikandra_frame_start(tape: &[u8], at: usize) -> usize
-    ensures { λ r. ⌜ r ≡ startOf (nextFrame (now (tape .entry)) at) ⌝ }
-{
-    let found = framing::next_frame(tape, at);
-    let frame = found.frame;
-    start_of(frame)
-}
-
-// Where its body ends.
-#[no_mangle]
-pub extern "C" fn rhoikandra_frame_end(tape: &[u8], at: usize) -> usize
-    ensures { λ r. ⌜ r ≡ endOf (nextFrame (now (tape .entry)) at) ⌝ }
-{
-    let found = framing::next_frame(tape, at);
-    let frame = found.frame;
-    end_of(frame)
-}
-
-// The place after it.
-#[no_mangle]
-pub extern "C" fn rhoikandra_frame_next(tape: &[u8], at: usize) -> usize
-    ensures { λ r. ⌜ r ≡ nextOf (nextFrame (now (tape .entry)) at) ⌝ }
-{
-    let found = framing::next_frame(tape, at);
-    let frame = found.frame;
-    next_of(frame)
-}
-
-// The count of bytes dropped on the way to it; the paper gives it a bound alone.
-#[no_mangle]
-pub extern "C" fn rhoikandra_frame_dropped(tape: &[u8], at: usize) -> usize
-    ensures { λ r. ⌜ r ≤ length (now (tape .entry)) - at ⌝ }
-{
-    let found = framing::next_frame(tape, at);
+    let four = frame_numbers(frame);
+    numbers::put_numbers(&mut *out, &four);
     found.dropped
 }
 
@@ -140,91 +61,57 @@ fn arrival_number(a: Arrival) -> u64
     }
 }
 
-fn is_received(r: Received) -> bool
-    ensures { λ b. ⌜ b ≡ isReceived r ⌝ }
-{
-    match r {
-        Received::Nothing => false,
-        Received::Last(_) => true,
-    }
-}
-
-fn last_of(r: Received) -> u32
-    ensures { λ n. ⌜ n ≡ lastOf r ⌝ }
+fn any_received(r: Received) -> u64
+    ensures { λ n. ⌜ n ≡ anyReceived r ⌝ }
 {
     match r {
         Received::Nothing => 0,
-        Received::Last(last) => last.0,
+        Received::Last(_) => 1,
     }
 }
 
-// What a number is to a line.
-#[no_mangle]
-pub extern "C" fn rhoikandra_arrival(any: bool, last: u32, expected: u32, number: u32) -> u64
-    ensures { λ r. ⌜ r ≡ arrivalNumber (arrivalOf (lineOf any last expected) (inbound number)) ⌝ }
+fn last_received(r: Received) -> u64
+    ensures { λ n. ⌜ n ≡ lastReceived r ⌝ }
 {
-    let line = line_of(any, last, expected);
-    arrival_number(sequence::judge(line, Inbound(number)))
+    match r {
+        Received::Nothing => 0,
+        Received::Last(last) => last.0 as u64,
+    }
 }
 
-// Whether the line after a number has one received.
-#[no_mangle]
-pub extern "C" fn rhoikandra_received_after(
-    any: bool,
-    last: u32,
-    expected: u32,
-    number: u32,
-) -> bool
-    ensures { λ r. ⌜ r ≡ isReceived (lineAfter (lineOf any last expected) (inbound number) .received) ⌝ }
+fn line_numbers(line: Line, number: Inbound) -> [u64; 5]
+    ensures { λ r. ⌜ r ≡ lineNumbers line number ⌝ }
 {
-    let line = line_of(any, last, expected);
-    let after = sequence::after(line, Inbound(number));
+    let arrival = sequence::judge(line, number);
+    let after = sequence::after(line, number);
     let received = after.received;
-    is_received(received)
+    let sound = sequence::sound(line);
+    [
+        arrival_number(arrival),
+        any_received(received),
+        last_received(received),
+        after.expected.0 as u64,
+        numbers::bit_of(sound),
+    ]
 }
 
-// The last number that it has received.
+// Writes what a number is to a line, what the line is after it, and whether the line can have come about (42).
 #[no_mangle]
-pub extern "C" fn rhoikandra_last_after(any: bool, last: u32, expected: u32, number: u32) -> u32
-    ensures { λ r. ⌜ r ≡ lastOf (lineAfter (lineOf any last expected) (inbound number) .received) ⌝ }
+pub extern "C" fn rhoikandra_line(any: bool, last: u32, expected: u32, number: u32, out: &mut [u64])
+    ensures { λ _. ⌜ now (out .exit) ≡ pasted (now (out .entry)) 0 (lineNumbers (lineOf any last expected) (inbound number)) ⌝ }
 {
     let line = line_of(any, last, expected);
-    let after = sequence::after(line, Inbound(number));
-    let received = after.received;
-    last_of(received)
+    let five = line_numbers(line, Inbound(number));
+    numbers::put_numbers(&mut *out, &five);
 }
 
-// The number that it expects.
+// Writes the outbound number after the last one used, and whether fewer than two are left (43).
 #[no_mangle]
-pub extern "C" fn rhoikandra_expected_after(any: bool, last: u32, expected: u32, number: u32) -> u32
-    ensures { λ r. ⌜ r ≡ lineAfter (lineOf any last expected) (inbound number) .expected .0 ⌝ }
-{
-    let line = line_of(any, last, expected);
-    let after = sequence::after(line, Inbound(number));
-    after.expected.0
-}
-
-// Whether a line can have come about (42).
-#[no_mangle]
-pub extern "C" fn rhoikandra_sound_line(any: bool, last: u32, expected: u32) -> bool
-    ensures { λ r. ⌜ r ≡ soundLine (lineOf any last expected) ⌝ }
-{
-    sequence::sound(line_of(any, last, expected))
-}
-
-// The outbound number after the last one used.
-#[no_mangle]
-pub extern "C" fn rhoikandra_next_outbound(last: u32) -> u32
-    ensures { λ r. ⌜ r ≡ nextOutbound (outbound last) .0 ⌝ }
+pub extern "C" fn rhoikandra_outbound(last: u32, out: &mut [u64])
+    ensures { λ _. ⌜ now (out .exit) ≡ pasted (now (out .entry)) 0 (outboundNumbers (outbound last)) ⌝ }
 {
     let next = sequence::next(Outbound(last));
-    next.0
-}
-
-// Whether fewer than two outbound numbers are left (43).
-#[no_mangle]
-pub extern "C" fn rhoikandra_outbound_spent(last: u32) -> bool
-    ensures { λ r. ⌜ r ≡ outboundSpent (outbound last) ⌝ }
-{
-    sequence::spent(Outbound(last))
+    let spent = sequence::spent(Outbound(last));
+    let two = [next.0 as u64, numbers::bit_of(spent)];
+    numbers::put_numbers(&mut *out, &two);
 }

@@ -1,2 +1,2 @@
-mod Cells
+mod Rows
 mod Said

@@ -9,11 +9,8 @@ ghost use mathlib.Core.Path.{_≡_};
 ghost use Prim.Native.Nat.{_+_, _≤_};
 ghost use lib.ListN.{length};
 ghost use Rattle.lists.specs.Lists.{part};
-ghost use Rattle.exports_output.specs.Cells.{typeOf, outcomeOf, tallyOf, cellsOf, cellsRaised};
+ghost use Rattle.exports_output.specs.Rows.{typeOf, outcomeOf, rowsRaised};
 ghost use Rattle.exports_output.specs.Said.{aaSaid, txSaid, withAa, withTx, stamped};
-
-// The cells of a tally: four types by three answers.
-const CELLS: usize = 12;
 
 // What an AA is told: subscriber, connection, internal ID, time bytes and original sequence.
 const AA_SAID: usize = 36;
@@ -78,47 +75,34 @@ fn outcome_of(n: u64) -> Outcome
     }
 }
 
-fn tally_of(cells: &[u32]) -> Tally
-    requires { ⌜ length (now cells) ≡ 12 ⌝ }
-    ensures { λ r. ⌜ r ≡ tallyOf (now (cells .entry)) ⌝ }
+fn tally_of(rows: &[[u32; 3]]) -> Tally
+    requires { ⌜ length (now rows) ≡ 4 ⌝ }
+    ensures { λ r. ⌜ r ≡ now (rows .entry) ⌝ }
 {
-    [
-        [cells[0], cells[1], cells[2]],
-        [cells[3], cells[4], cells[5]],
-        [cells[6], cells[7], cells[8]],
-        [cells[9], cells[10], cells[11]],
-    ]
+    [rows[0], rows[1], rows[2], rows[3]]
 }
 
-fn put_cells(cells: &mut [u32], t: Tally)
-    requires { ⌜ length (now cells) ≡ 12 ⌝ }
-    ensures { λ _. ⌜ now (cells .exit) ≡ cellsOf t ⌝ }
+fn put_rows(rows: &mut [[u32; 3]], t: Tally)
+    requires { ⌜ length (now rows) ≡ 4 ⌝ }
+    ensures { λ _. ⌜ now (rows .exit) ≡ t ⌝ }
 {
-    cells[0] = t[0][0];
-    cells[1] = t[0][1];
-    cells[2] = t[0][2];
-    cells[3] = t[1][0];
-    cells[4] = t[1][1];
-    cells[5] = t[1][2];
-    cells[6] = t[2][0];
-    cells[7] = t[2][1];
-    cells[8] = t[2][2];
-    cells[9] = t[3][0];
-    cells[10] = t[3][1];
-    cells[11] = t[3][2];
+    rows[0] = t[0];
+    rows[1] = t[1];
+    rows[2] = t[2];
+    rows[3] = t[3];
 }
 
-// Raises the cell of a type and an answer among twelve.
+// Raises the cell of a type and an answer among four rows.
 #[no_mangle]
-pub extern "C" fn rhoikandra_tally_raise(cells: &mut [u32], kind: u64, outcome: u64)
-    ensures { λ _. ⌜ now (cells .exit) ≡ cellsRaised (now (cells .entry)) kind outcome ⌝ }
+pub extern "C" fn rhoikandra_tally_raise(rows: &mut [[u32; 3]], kind: u64, outcome: u64)
+    ensures { λ _. ⌜ now (rows .exit) ≡ rowsRaised (now (rows .entry)) kind outcome ⌝ }
 {
-    if cells.len() != CELLS {
+    if rows.len() != tally::TYPES {
         return;
     }
-    let before = tally_of(cells);
+    let before = tally_of(rows);
     let after = tally::raise(before, type_of(kind), outcome_of(outcome));
-    put_cells(&mut *cells, after);
+    put_rows(&mut *rows, after);
 }
 
 // Writes an AA from at and gives the number that it is stamped with.

@@ -1,43 +1,24 @@
-// Lends the pools of a message to Rust and C, its terminators, lots, groups and faces: each exported function takes numbers and lent slices, and gives a number.
+// Lends the pools of a message to Rust and C, its terminators, lots, groups and faces: each exported function writes its numbers at the head of a lent slice.
 use terminator::Kind;
 use terminator::LotRead;
 use terminator::Terminator;
 ghost use mathlib.Core.Path.{_≡_};
-ghost use lib.ListN.{length};
-ghost use Rattle.layout.specs.Details.{details, poolCount};
-ghost use Rattle.terminator.specs.Lots.{formedFor, replacementCount, goodMillions};
-ghost use Rattle.terminator.specs.Groups.{groupsFormed, groupsBalanced};
-ghost use Rattle.faces.specs.Faces.{facesFail, lotsFail, newWeight};
-ghost use Rattle.exports_pools.specs.Numbers.{terminatorNumber, endMillions, terminatorIn, kindNumber, lotNumbers, withLot};
+ghost use Rattle.lists.specs.Lists.{pasted};
+ghost use Rattle.layout.specs.Details.{details};
+ghost use Rattle.exports_pools.specs.Numbers.{terminatorNumbers, terminatorIn, kindNumber, lotNumbers, lotFrom, formNumbers, sumNumbers, faceNumbers};
 
 const TERMINATOR_WIDTH: usize = 4;
 
-// The numbers of a lot.
-const LOT_NUMBERS: usize = 6;
-
-fn terminator_number(t: Terminator) -> u64
-    ensures { λ r. ⌜ r ≡ terminatorNumber t ⌝ }
+fn terminator_numbers(t: Terminator) -> [u64; 2]
+    ensures { λ r. ⌜ r ≡ terminatorNumbers t ⌝ }
 {
     match t {
-        Terminator::Middle => 0,
-        Terminator::BadMiddle => 1,
-        Terminator::GoodEnd(_) => 2,
-        Terminator::OddEnd => 3,
-        Terminator::BadEnd => 4,
-        Terminator::Wrong => 5,
-    }
-}
-
-fn end_millions(t: Terminator) -> u64
-    ensures { λ r. ⌜ r ≡ endMillions t ⌝ }
-{
-    match t {
-        Terminator::Middle => 0,
-        Terminator::BadMiddle => 0,
-        Terminator::GoodEnd(n) => n,
-        Terminator::OddEnd => 0,
-        Terminator::BadEnd => 0,
-        Terminator::Wrong => 0,
+        Terminator::Middle => [0, 0],
+        Terminator::BadMiddle => [1, 0],
+        Terminator::GoodEnd(n) => [2, n],
+        Terminator::OddEnd => [3, 0],
+        Terminator::BadEnd => [4, 0],
+        Terminator::Wrong => [5, 0],
     }
 }
 
@@ -51,82 +32,44 @@ fn terminator_in(s: &[u8]) -> Terminator
     terminator::terminator_of(four)
 }
 
-// What the terminator in some bytes says.
+// Writes what the terminator in some bytes says, and the millions of the good lot that it ends.
 #[no_mangle]
-pub extern "C" fn rhoikandra_terminator(s: &[u8]) -> u64
-    ensures { λ r. ⌜ r ≡ terminatorNumber (terminatorIn (now (s .entry))) ⌝ }
+pub extern "C" fn rhoikandra_terminator(s: &[u8], out: &mut [u64])
+    ensures { λ _. ⌜ now (out .exit) ≡ pasted (now (out .entry)) 0 (terminatorNumbers (terminatorIn (now (s .entry)))) ⌝ }
 {
-    terminator_number(terminator_in(s))
+    let terminator = terminator_in(s);
+    let two = terminator_numbers(terminator);
+    numbers::put_numbers(&mut *out, &two);
 }
 
-// The millions of the good lot that it ends.
+// Writes whether the lots of a body are formed as an ON's and as a CC's (19), and whether a CC's groups are formed (20) and balanced (21).
 #[no_mangle]
-pub extern "C" fn rhoikandra_terminator_millions(s: &[u8]) -> u64
-    ensures { λ r. ⌜ r ≡ endMillions (terminatorIn (now (s .entry))) ⌝ }
+pub extern "C" fn rhoikandra_forms(body: &[u8], out: &mut [u64])
+    ensures { λ _. ⌜ now (out .exit) ≡ pasted (now (out .entry)) 0 (formNumbers (details (now (body .entry)))) ⌝ }
 {
-    end_millions(terminator_in(s))
+    let on = lots::lots_formed(body, false);
+    let cc = lots::lots_formed(body, true);
+    let judged = groups::groups_of(body);
+    let four = [
+        numbers::bit_of(on),
+        numbers::bit_of(cc),
+        numbers::bit_of(judged.formed),
+        numbers::bit_of(judged.balanced),
+    ];
+    numbers::put_numbers(&mut *out, &four);
 }
 
-// The number of pools of a body, 0 where its length fails 10.
+// Writes the number of pools of a body, 0 where its length fails 10, the number of replacement pools (22), the sum of the good millions (33) and the weight of the new lots in cents (38).
 #[no_mangle]
-pub extern "C" fn rhoikandra_pool_count(body: &[u8]) -> usize
-    ensures { λ r. ⌜ r ≡ poolCount (now (body .entry)) ⌝ }
+pub extern "C" fn rhoikandra_sums(body: &[u8], out: &mut [u64])
+    ensures { λ _. ⌜ now (out .exit) ≡ pasted (now (out .entry)) 0 (sumNumbers (now (body .entry))) ⌝ }
 {
-    layout::pool_count(body)
-}
-
-// Whether the lots of a body are formed (19), as a CC's or as an ON's.
-#[no_mangle]
-pub extern "C" fn rhoikandra_lots_formed(body: &[u8], cc: bool) -> bool
-    ensures { λ r. ⌜ r ≡ formedFor cc (details (now (body .entry))) ⌝ }
-{
-    terminator::lots_formed(body, cc)
-}
-
-// Whether a CC's groups are formed (20).
-#[no_mangle]
-pub extern "C" fn rhoikandra_groups_formed(body: &[u8]) -> bool
-    ensures { λ r. ⌜ r ≡ groupsFormed (details (now (body .entry))) ⌝ }
-{
-    let groups = terminator::groups_of(body);
-    groups.formed
-}
-
-// Whether they are balanced (21).
-#[no_mangle]
-pub extern "C" fn rhoikandra_groups_balanced(body: &[u8]) -> bool
-    ensures { λ r. ⌜ r ≡ groupsBalanced (details (now (body .entry))) ⌝ }
-{
-    let groups = terminator::groups_of(body);
-    groups.balanced
-}
-
-// The number of replacement pools (22).
-#[no_mangle]
-pub extern "C" fn rhoikandra_replacement_count(body: &[u8]) -> usize
-    ensures { λ r. ⌜ r ≡ replacementCount (details (now (body .entry))) ⌝ }
-{
-    terminator::replacement_count(body)
-}
-
-// The sum of the good millions (33).
-#[no_mangle]
-pub extern "C" fn rhoikandra_good_millions(body: &[u8]) -> u64
-    ensures { λ r. ⌜ r ≡ goodMillions (details (now (body .entry))) ⌝ }
-{
-    terminator::good_millions(body)
-}
-
-fn wide(x: u8) -> u64
-    ensures { λ r. ⌜ r ≡ x ⌝ }
-{
-    x as u64
-}
-
-fn wide_index(x: usize) -> u64
-    ensures { λ r. ⌜ r ≡ x ⌝ }
-{
-    x as u64
+    let pools = layout::pool_count(body);
+    let replacements = lots::replacement_count(body);
+    let millions = lots::good_millions(body);
+    let weight = new_lots::new_weight(body);
+    let four = [pools as u64, replacements as u64, millions, weight];
+    numbers::put_numbers(&mut *out, &four);
 }
 
 fn kind_number(k: Kind) -> u64
@@ -147,10 +90,10 @@ fn lot_numbers(l: LotRead) -> [u64; 6]
             let kind = lot.kind;
             [
                 1,
-                wide(lot.one),
+                lot.one as u64,
                 kind_number(kind),
                 lot.millions,
-                wide_index(lot.last),
+                lot.last as u64,
                 lot.weight,
             ]
         }
@@ -158,50 +101,29 @@ fn lot_numbers(l: LotRead) -> [u64; 6]
     }
 }
 
-fn put_six(out: &mut [u64], n: [u64; 6])
-    requires { ⌜ length (now out) ≡ 6 ⌝ }
-    ensures { λ _. ⌜ now (out .exit) ≡ n ⌝ }
-{
-    out[0] = n[0];
-    out[1] = n[1];
-    out[2] = n[2];
-    out[3] = n[3];
-    out[4] = n[4];
-    out[5] = n[5];
-}
-
-// Writes the six numbers of the lot that begins at a pool.
+// Writes the lot that begins at a pool.
 #[no_mangle]
 pub extern "C" fn rhoikandra_lot_at(body: &[u8], first: usize, out: &mut [u64])
-    ensures { λ _. ⌜ now (out .exit) ≡ withLot (now (out .entry)) (now (body .entry)) first ⌝ }
+    ensures { λ _. ⌜ now (out .exit) ≡ pasted (now (out .entry)) 0 (lotNumbers (lotFrom (now (body .entry)) first)) ⌝ }
 {
-    if out.len() != LOT_NUMBERS {
-        return;
-    }
-    let lot = terminator::lot_at(body, first);
-    put_six(&mut *out, lot_numbers(lot));
+    let lot = lots::lot_at(body, first);
+    let six = lot_numbers(lot);
+    numbers::put_numbers(&mut *out, &six);
 }
 
-// Whether a new pool's faces fail 34.
+// Writes whether a new pool's faces fail 34, and whether a new lot fails 35.
 #[no_mangle]
-pub extern "C" fn rhoikandra_faces_fail(body: &[u8], least: u64) -> bool
-    ensures { λ r. ⌜ r ≡ facesFail least (details (now (body .entry))) ⌝ }
+pub extern "C" fn rhoikandra_faces(
+    body: &[u8],
+    least: u64,
+    variance: u64,
+    pools: u64,
+    out: &mut [u64],
+)
+    ensures { λ _. ⌜ now (out .exit) ≡ pasted (now (out .entry)) 0 (faceNumbers least variance pools (details (now (body .entry)))) ⌝ }
 {
-    faces::faces_fail(body, least)
-}
-
-// Whether a new lot fails 35.
-#[no_mangle]
-pub extern "C" fn rhoikandra_lots_fail(body: &[u8], variance: u64, pools: u64) -> bool
-    ensures { λ r. ⌜ r ≡ lotsFail variance pools (details (now (body .entry))) ⌝ }
-{
-    faces::lots_fail(body, variance, pools)
-}
-
-// The weight of the new lots, in cents (38).
-#[no_mangle]
-pub extern "C" fn rhoikandra_new_weight(body: &[u8]) -> u64
-    ensures { λ r. ⌜ r ≡ newWeight (details (now (body .entry))) ⌝ }
-{
-    faces::new_weight(body)
+    let faces_fail = faces::faces_fail(body, least);
+    let lots_fail = new_lots::lots_fail(body, variance, pools);
+    let two = [numbers::bit_of(faces_fail), numbers::bit_of(lots_fail)];
+    numbers::put_numbers(&mut *out, &two);
 }

@@ -1,1 +1,2 @@
 mod HeaderColumns
+mod Written

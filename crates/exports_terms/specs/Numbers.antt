@@ -1,11 +1,13 @@
--- Columns, fields of digits and trade IDs by their numbers: an enum's cases in its order, counted from 0, and what a case holds, 0 where it holds nothing.
+-- Columns, fields of digits, dates and trade IDs by their numbers: an enum's cases in its order, counted from 0, and what a case holds, 0 where it holds nothing.
 use Prim.Native.Nat.{ℕ}
-use mathlib.Core.Bool.{Bool, true, false}
+use mathlib.Core.List.{List, [], _∷_}
 use lib.ListN.{getD}
+use Rattle.numbers.specs.Bit.{bit}
 use Rattle.layout.specs.declared.Column.{Column}
 use Rattle.layout.specs.Columns.{column, header}
 use Rattle.fields.specs.declared.Field.{Field}
 use Rattle.fields.specs.declared.Field.the-variants.{Number, NotDigits}
+use Rattle.calendar.specs.Calendar.{isDate, businessDate}
 use Rattle.trade_id.specs.declared.TradeId.{TradeId}
 use Rattle.trade_id.specs.declared.TradeId.the-variants.{Whole, Broken, Absent}
 
@@ -13,27 +15,20 @@ use Rattle.trade_id.specs.declared.TradeId.the-variants.{Whole, Broken, Absent}
 unfoldable pub columnOf : ℕ → Column
 columnOf i = getD header i (column 0 0)
 
--- ---- a field of digits
-abbrev pub isNumber : Field → Bool
-isNumber (Number n) = true
-isNumber NotDigits = false
+abbrev pub columnNumbers : Column → List ℕ
+columnNumbers c = c .at ∷ c .width ∷ []
 
-abbrev pub numberOf : Field → ℕ
-numberOf (Number n) = n
-numberOf NotDigits = 0
+-- ---- a field of digits: whether it is one, and its number
+abbrev pub fieldNumbers : Field → List ℕ
+fieldNumbers (Number n) = 1 ∷ n ∷ []
+fieldNumbers NotDigits = 0 ∷ 0 ∷ []
+
+-- ---- whether a number is a date, and whether a business date
+unfoldable pub dateNumbers : ℕ → List ℕ → List ℕ
+dateNumbers n holidays = bit (isDate n) ∷ bit (businessDate n holidays) ∷ []
 
 -- ---- a trade ID: its case, and where a whole one stands
-abbrev pub tradeIdNumber : TradeId → ℕ
-tradeIdNumber (Whole place length) = 0
-tradeIdNumber Broken = 1
-tradeIdNumber Absent = 2
-
-abbrev pub placeOfId : TradeId → ℕ
-placeOfId (Whole place length) = place
-placeOfId Broken = 0
-placeOfId Absent = 0
-
-abbrev pub lengthOfId : TradeId → ℕ
-lengthOfId (Whole place length) = length
-lengthOfId Broken = 0
-lengthOfId Absent = 0
+abbrev pub tradeIdNumbers : TradeId → List ℕ
+tradeIdNumbers (Whole place length) = 0 ∷ place ∷ length ∷ []
+tradeIdNumbers Broken = 1 ∷ 0 ∷ 0 ∷ []
+tradeIdNumbers Absent = 2 ∷ 0 ∷ 0 ∷ []

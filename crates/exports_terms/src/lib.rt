@@ -1,14 +1,13 @@
-// Lends the header's columns, fields of digits, dates, trade IDs and prices to Rust and C: each exported function takes numbers and lent slices, and gives a number.
+// Lends the header's columns, fields of digits, dates, trade IDs and prices to Rust and C: each exported function but the last writes its numbers at the head of a lent slice.
 use fields::Field;
 use layout::Column;
 use trade_id::TradeId;
 ghost use mathlib.Core.Path.{_≡_};
+ghost use Rattle.lists.specs.Lists.{pasted};
 ghost use Rattle.fields.specs.Fields.{readNumber};
-ghost use Rattle.layout.specs.Columns.{column, header};
-ghost use Rattle.calendar.specs.Calendar.{isDate, businessDate};
 ghost use Rattle.trade_id.specs.SpecialInstructions.{tradeIdOf};
 ghost use Rattle.trade_id.specs.Prices.{pricesAgree};
-ghost use Rattle.exports_terms.specs.Numbers.{columnOf, isNumber, numberOf, tradeIdNumber, placeOfId, lengthOfId};
+ghost use Rattle.exports_terms.specs.Numbers.{columnOf, columnNumbers, fieldNumbers, dateNumbers, tradeIdNumbers};
 
 const HEADER_COLUMNS: usize = 25;
 
@@ -23,129 +22,64 @@ fn column_of(i: usize) -> Column
     columns[i]
 }
 
-// The first byte of a column of the header.
+// Writes the first byte of a column of the header and its width.
 #[no_mangle]
-pub extern "C" fn rhoikandra_column_at(i: usize) -> usize
-    ensures { λ r. ⌜ r ≡ columnOf i .at ⌝ }
+pub extern "C" fn rhoikandra_column(i: usize, out: &mut [u64])
+    ensures { λ _. ⌜ now (out .exit) ≡ pasted (now (out .entry)) 0 (columnNumbers (columnOf i)) ⌝ }
 {
     let column = column_of(i);
-    column.at
+    let two = [column.at as u64, column.width as u64];
+    numbers::put_numbers(&mut *out, &two);
 }
 
-// Its width.
-#[no_mangle]
-pub extern "C" fn rhoikandra_column_width(i: usize) -> usize
-    ensures { λ r. ⌜ r ≡ columnOf i .width ⌝ }
-{
-    let column = column_of(i);
-    column.width
-}
-
-fn is_number(f: Field) -> bool
-    ensures { λ r. ⌜ r ≡ isNumber f ⌝ }
+fn field_numbers(f: Field) -> [u64; 2]
+    ensures { λ r. ⌜ r ≡ fieldNumbers f ⌝ }
 {
     match f {
-        Field::Number(_) => true,
-        Field::NotDigits => false,
+        Field::Number(n) => [1, n],
+        Field::NotDigits => [0, 0],
     }
 }
 
-fn number_of(f: Field) -> u64
-    ensures { λ r. ⌜ r ≡ numberOf f ⌝ }
-{
-    match f {
-        Field::Number(n) => n,
-        Field::NotDigits => 0,
-    }
-}
-
-// Whether the width bytes from at are digits.
+// Writes whether the width bytes from at are digits, and their number.
 #[no_mangle]
-pub extern "C" fn rhoikandra_is_number(s: &[u8], at: usize, width: usize) -> bool
-    ensures { λ r. ⌜ r ≡ isNumber (readNumber (now (s .entry)) at width) ⌝ }
+pub extern "C" fn rhoikandra_number(s: &[u8], at: usize, width: usize, out: &mut [u64])
+    ensures { λ _. ⌜ now (out .exit) ≡ pasted (now (out .entry)) 0 (fieldNumbers (readNumber (now (s .entry)) at width)) ⌝ }
 {
-    is_number(fields::read_number(s, at, width))
+    let field = fields::read_number(s, at, width);
+    let two = field_numbers(field);
+    numbers::put_numbers(&mut *out, &two);
 }
 
-// Their number.
+// Writes whether a number, read mmddyyyy, is a date, and whether it is a business date, with these holidays.
 #[no_mangle]
-pub extern "C" fn rhoikandra_number(s: &[u8], at: usize, width: usize) -> u64
-    ensures { λ r. ⌜ r ≡ numberOf (readNumber (now (s .entry)) at width) ⌝ }
+pub extern "C" fn rhoikandra_date(n: u64, holidays: &[u32], out: &mut [u64])
+    ensures { λ _. ⌜ now (out .exit) ≡ pasted (now (out .entry)) 0 (dateNumbers n (now (holidays .entry))) ⌝ }
 {
-    number_of(fields::read_number(s, at, width))
+    let date = calendar::is_date(n);
+    let business = calendar::business_date(n, holidays);
+    let two = [numbers::bit_of(date), numbers::bit_of(business)];
+    numbers::put_numbers(&mut *out, &two);
 }
 
-// Whether a number, read mmddyyyy, is a date.
-#[no_mangle]
-pub extern "C" fn rhoikandra_is_date(n: u64) -> bool
-    ensures { λ r. ⌜ r ≡ isDate n ⌝ }
-{
-    calendar::is_date(n)
-}
-
-// Whether it is a business date, with these holidays.
-#[no_mangle]
-pub extern "C" fn rhoikandra_business_date(n: u64, holidays: &[u32]) -> bool
-    ensures { λ r. ⌜ r ≡ businessDate n (now (holidays .entry)) ⌝ }
-{
-    calendar::business_date(n, holidays)
-}
-
-fn trade_id_number(t: TradeId) -> u64
-    ensures { λ r. ⌜ r ≡ tradeIdNumber t ⌝ }
+fn trade_id_numbers(t: TradeId) -> [u64; 3]
+    ensures { λ r. ⌜ r ≡ tradeIdNumbers t ⌝ }
 {
     match t {
-        TradeId::Whole {
-            place: _,
-            length: _,
-        } => 0,
-        TradeId::Broken => 1,
-        TradeId::Absent => 2,
+        TradeId::Whole { place, length } => [0, place as u64, length as u64],
+        TradeId::Broken => [1, 0, 0],
+        TradeId::Absent => [2, 0, 0],
     }
 }
 
-fn place_of_id(t: TradeId) -> usize
-    ensures { λ r. ⌜ r ≡ placeOfId t ⌝ }
-{
-    match t {
-        TradeId::Whole { place, length: _ } => place,
-        TradeId::Broken => 0,
-        TradeId::Absent => 0,
-    }
-}
-
-fn length_of_id(t: TradeId) -> usize
-    ensures { λ r. ⌜ r ≡ lengthOfId t ⌝ }
-{
-    match t {
-        TradeId::Whole { place: _, length } => length,
-        TradeId::Broken => 0,
-        TradeId::Absent => 0,
-    }
-}
-
-// What special instructions hold.
+// Writes what special instructions hold, and where a whole trade ID stands.
 #[no_mangle]
-pub extern "C" fn rhoikandra_trade_id(special: &[u8]) -> u64
-    ensures { λ r. ⌜ r ≡ tradeIdNumber (tradeIdOf (now (special .entry))) ⌝ }
+pub extern "C" fn rhoikandra_trade_id(special: &[u8], out: &mut [u64])
+    ensures { λ _. ⌜ now (out .exit) ≡ pasted (now (out .entry)) 0 (tradeIdNumbers (tradeIdOf (now (special .entry)))) ⌝ }
 {
-    trade_id_number(trade_id::find_trade_id(special))
-}
-
-// Where a whole trade ID starts.
-#[no_mangle]
-pub extern "C" fn rhoikandra_trade_id_place(special: &[u8]) -> usize
-    ensures { λ r. ⌜ r ≡ placeOfId (tradeIdOf (now (special .entry))) ⌝ }
-{
-    place_of_id(trade_id::find_trade_id(special))
-}
-
-// Its length.
-#[no_mangle]
-pub extern "C" fn rhoikandra_trade_id_length(special: &[u8]) -> usize
-    ensures { λ r. ⌜ r ≡ lengthOfId (tradeIdOf (now (special .entry))) ⌝ }
-{
-    length_of_id(trade_id::find_trade_id(special))
+    let found = trade_id::find_trade_id(special);
+    let three = trade_id_numbers(found);
+    numbers::put_numbers(&mut *out, &three);
 }
 
 // Whether two prices of nine implied decimals agree.

@@ -1,7 +1,3 @@
 pub mod Limits
 pub mod Kept
 pub mod Faced
-pub mod Lotwise
-pub mod Checking
-pub mod Weighing
-pub mod Staging

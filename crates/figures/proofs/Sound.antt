@@ -1,5 +1,5 @@
 -- What a sound book gives to the figures: rows that are light enough to sum, a trade that is there, and the answer of each way.
-use mathlib.Core.Path.{_≡_, refl, sym, ap, _∙_}
+use mathlib.Core.Path.{_≡_, sym, ap, _∙_}
 use mathlib.Core.List.{List}
 use mathlib.Core.Bool.{Bool, true, false, not, _&&_}
 use Prim.Native.Nat.{ℕ, _≤_, _<_}
@@ -19,13 +19,9 @@ use Rattle.book.proofs.Reached.{is-sound}
 use Rattle.table.specs.Rows.{tableOf}
 use Rattle.table.proofs.Rows.{length-table}
 use Rattle.soundness.specs.Parts.{Light}
-use Rattle.soundness.proofs.Whole.{few-trades, light}
+use Rattle.soundness.proofs.Whole.{and-fails, few-trades, light}
 use Rattle.figures.specs.Saying.{unknown, figuresOf}
 use Rattle.figures.specs.declared.Figures.{Figures}
-
-and-unless : (a b c : Bool) → (a && b) ≡ false → (a && (b && c)) ≡ false
-and-unless true b c e = rw e
-and-unless false b c e = refl
 
 module _ (b : Book) (ns ks : List (List ℕ)) (trade : ℕ) (sound : Bool) (is : sound ≡ (eqb (length ks) (length ns) && isSound b (tableOf ns ks))) where
   abbrev pub Answer : Figures → Type 0
@@ -34,7 +30,7 @@ module _ (b : Book) (ns ks : List (List ℕ)) (trade : ℕ) (sound : Bool) (is :
   pub unsound : not sound ≡ true → Answer unknown
   unfolding figuresOf
   unsound n =
-      rw (and-unless (eqb (length ks) (length ns)) (isSound b (tableOf ns ks)) (ltb trade (length (tradesOf (b .values)))) (sym is ∙ not-true sound n))
+      rw (and-fails (eqb (length ks) (length ns)) (isSound b (tableOf ns ks)) (ltb trade (length (tradesOf (b .values)))) (sym is ∙ not-true sound n))
 
   module _ (n : not sound ≡ false) where
     holds : (eqb (length ks) (length ns) && isSound b (tableOf ns ks)) ≡ true

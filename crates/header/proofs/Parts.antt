@@ -10,10 +10,9 @@ use lib.Seq.{take-all, take-nil}
 use lib.Dec.{leb, eqb}
 use Rattle.lists.specs.Lists.{within, part, same}
 use Rattle.lists.proofs.Parts.{in-within}
-use Rattle.lists.proofs.Tests.{and-left, and-right, clash}
+use Rattle.lists.proofs.Tests.{and-left, and-right, clash, same-unlike}
 use Rattle.fields.specs.Fields.{samePart}
 use Rattle.layout.specs.Details.{lengthFits, poolCount, pools, poolsMax, placeOf}
-use Rattle.opening.proofs.Names.{same-unlike}
 
 -- a part that does not stand whole in the list has not as many elements as asked
 part-short : (s : List ℕ) (at n : ℕ) → 1 ≤ n → within s at n ≡ false → length (part s at n) ≡ n → ⊥

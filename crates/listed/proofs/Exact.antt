@@ -1,12 +1,12 @@
 -- Numbered lists of the target's rows, marked: fine marks are distinct fields, a mark is that of a record taken off, and even marks are whole lots.
-use Prim.Native.Nat.{ℕ, zero, suc, _≤_, _<_}
+use Prim.Native.Nat.{ℕ, zero, _≤_, _<_}
 use mathlib.Core.Path.{_≡_, refl, sym, ap, _∙_}
 use mathlib.Core.Logic.{_⊎_, inl, inr}
 use mathlib.Core.List.{List, map, map-map, Memᴰ·cast}
 use mathlib.Core.Bool.{true, not}
 use native.Mathlib.Omega.{arith}
 use lib.Dec.{eqb}
-use lib.ListN.{length, getD, replicate, length-replicate}
+use lib.ListN.{length, length-replicate}
 use borrow.Author.Tests.{eq-eqb, ne-eqb}
 use Rattle.lists.specs.Lists.{tab}
 use Rattle.lists.proofs.Tests.{_∈_, un-true}
@@ -17,6 +17,7 @@ use Rattle.book.specs.Messages.{under}
 use Rattle.book.specs.Opening.{recordsMax}
 use Rattle.book.specs.Soundness.{inOrder, fieldsOnce}
 use Rattle.book.specs.Checks.{isTaken}
+use Rattle.places.proofs.Cells.{getD-zeros}
 use Rattle.listed.specs.declared.Listed.{Listed}
 use Rattle.listed.specs.Marks.{Entry, markAll, unmarked}
 use Rattle.listed.proofs.Indexed.{alike}
@@ -24,11 +25,6 @@ use Rattle.listed.proofs.Taken.{fieldsAt, Within, taken-in, taken-out, 
 use Rattle.listed.proofs.Marking.{markAt, mark-from, Fits, mark-of, fine-distinct, distinct-fine, Apart}
 use Rattle.listed.proofs.Numbered.{entry, numbered, rowsIn, rows-numbered, list-of, number-of, rows-out, rows-in}
 use Rattle.listed.proofs.Evenness.{Even, even-closed, closed-even}
-
-getD-zeros : (n i : ℕ) → getD {A = ℕ} (replicate n 0) i 0 ≡ 0
-getD-zeros zero i = refl
-getD-zeros (suc n) zero = refl
-getD-zeros (suc n) (suc i) = getD-zeros n i
 
 none-marked : (i : ℕ) → markAt unmarked i ≡ 0
 unfolding unmarked

@@ -18,11 +18,11 @@ use Rattle.book.specs.Messages.{typeOf, targetOf, under}
 use Rattle.book.specs.Soundness.{inOrder, fieldsOnce}
 use Rattle.book.proofs.Matched.{fields-equal}
 use Rattle.table.specs.Rows.{recordAt, tableOf}
+use Rattle.table.proofs.Rows.{take-table}
 use Rattle.places.specs.declared.Run.{Run}
 use Rattle.places.specs.declared.Places.{Places}
 use Rattle.places.specs.Runs.{ahead, runOf}
 use Rattle.places.specs.Finding.{lists, Finds}
-use Rattle.places.proofs.Running.{live-tab}
 use Rattle.places.proofs.Ascending.{run-within, run-under, run-only}
 use Rattle.listed.specs.Marks.{Rows}
 use Rattle.listed.proofs.Indexed.{tab-from}
@@ -56,7 +56,7 @@ module _ (body : List ℕ) (ns ks : List (List ℕ)) (live : ℕ) (few : live �
   at = recordAt ns ks
 
   pub rows-are : rs ≡ tab at live 0
-  rows-are = live-tab ns ks live few
+  rows-are = take-table ns ks live few
 
   pub order-at : inOrder (tab at live 0) ≡ true
   order-at = rw rows-are at ordered

@@ -3,3 +3,4 @@ pub mod Tables
 pub mod Tests
 pub mod Folds
 pub mod Pasting
+pub mod Looking

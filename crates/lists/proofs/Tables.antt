@@ -1,6 +1,6 @@
 -- Laws of lists that are made by a function of the index.
 use mathlib.Core.Path.{_≡_, refl, sym, ap, _∙_}
-use mathlib.Core.List.{List, [], _∷_}
+use mathlib.Core.List.{List, [], _∷_, map}
 use Prim.Native.Nat.{ℕ, zero, suc, _+_, _-_, _≤_, _<_}
 use native.Mathlib.Nat.{add-zero, sub-zero}
 use native.Mathlib.Omega.{arith}
@@ -64,3 +64,8 @@ module _ {A : Type 0} where
   table-of d s n e =
       ext-getD d s (tab (λ (i : ℕ). getD s i d) n 0) (e ∙ sym (length-tab (λ (i : ℕ). getD s i d) n 0))
       (λ (i : ℕ) h. sym (getD-tab (λ (j : ℕ). getD s j d) n 0 i d (omega (arith, e, h)) ∙ ap (λ (k : ℕ). getD s k d) (omega arith)))
+
+-- a function of each element of a table
+pub map-tab : {A B : Type 0} (f : A → B) (g : ℕ → A) (n i : ℕ) → map f (tab g n i) ≡ tab (λ (k : ℕ). f (g k)) n i
+map-tab f g zero i = refl
+map-tab {A} {B} f g (suc n) i = ap (λ (l : List B). f (g i) ∷ l) (map-tab f g n (i + 1))

@@ -2,10 +2,10 @@
 use mathlib.Core.Path.{_≡_, refl, sym, ap, ap₂, _∙_}
 use mathlib.Core.Logic.{_⊎_, inl, inr}
 use mathlib.Core.List.{List, [], _∷_, _++_, map, List·Memᴰ, List·Memᴰ·head, List·Memᴰ·tail, List·Memᴰ·cases-cons, List·Memᴰ·not-nil}
-use mathlib.Core.Bool.{Bool, true, false, not, cond, _&&_, _||_, true≢false, false≢true}
+use mathlib.Core.Bool.{Bool, true, false, not, cond, _&&_, _||_, true≢false, false≢true, and-false}
 use Prim.Native.Nat.{ℕ, zero, suc, _+_}
 use native.Mathlib.Omega.{arith}
-use lib.ListN.{take}
+use lib.ListN.{length, take}
 use lib.Dec.{eqb}
 use borrow.Author.Tests.{eq-eqb, eqb-true}
 use Rattle.lists.specs.Lists.{keep, any, all, sumOf, same}
@@ -177,3 +177,12 @@ same-equal [] (y ∷ ys) e = absurd (false≢true e)
 same-equal (x ∷ xs) [] e = absurd (false≢true e)
 same-equal (x ∷ xs) (y ∷ ys) e =
     ap₂ (λ (a : ℕ) (l : List ℕ). a ∷ l) (eqb-true x y (and-left (eqb x y) (same xs ys) e)) (same-equal xs ys (and-right (eqb x y) (same xs ys) e))
+
+-- lists of unlike length are unlike
+pub same-unlike : (a b : List ℕ) → (length a ≡ length b → ⊥) → false ≡ same a b
+same-unlike [] [] h = absurd (h refl)
+same-unlike [] (y ∷ ys) h = refl
+same-unlike (x ∷ xs) [] h = refl
+same-unlike (x ∷ xs) (y ∷ ys) h =
+    let e : same xs ys ≡ false = sym (same-unlike xs ys (λ l. h (ap suc l))) in
+    rw (e, and-false)

@@ -1,50 +1,30 @@
 -- Records taken off and brought: the unmarked ones stay, zeros follow, and new records stand in the place of the first zeros.
-use Prim.Native.Nat.{ℕ, zero, suc, _+_, _-_, _≤_, _<_}
+use Prim.Native.Nat.{ℕ, zero, suc, _+_, _-_, _≤_}
 use native.Mathlib.Omega.{arith}
 use native.Mathlib.Nat.{sub-zero, suc-sub-suc}
 use mathlib.Core.Path.{_≡_, refl, sym, ap, _∙_}
-use mathlib.Core.List.{List, [], _∷_, _++_, map, append-assoc}
-use mathlib.Core.Bool.{Bool, true, false, cond, not, _&&_, true≢false}
-use lib.ListN.{length, take, drop, getD, replicate, length-append, length-replicate, replicate-append-replicate, take-append-drop}
-use lib.Dec.{eqb}
-use lib.Seq.{length-take-le, take-append-seam, drop-append-add, drop-append-seam}
-use Rattle.lists.specs.Lists.{keep, pasted, within}
+use mathlib.Core.List.{List, [], _++_, map, append-assoc}
+use mathlib.Core.Bool.{Bool, true, false, not, true≢false, and-false}
+use lib.ListN.{length, take, drop, replicate, length-append, length-replicate, replicate-append-replicate, take-append-drop}
+use lib.Seq.{length-take-le, take-append-seam, drop-append-add}
+use Rattle.lists.specs.Lists.{pasted, within}
 use Rattle.lists.proofs.Parts.{in-within}
 use Rattle.lists.proofs.Pasting.{paste-in}
 use Rattle.lists.proofs.Tests.{keep-all}
-use Rattle.lists.proofs.Tables.{length-tab}
 use Rattle.layout.specs.Details.{details}
 use Rattle.tally.specs.declared.MessageType.{MessageType}
 use Rattle.tally.specs.declared.MessageType.the-variants.{On, Cc, Dk, Cx, Other}
 use Rattle.book.specs.declared.Pool.{Pool}
 use Rattle.book.specs.Records.{fieldsOf, noPool, recordsOf}
 use Rattle.faces.specs.Faces.{newLots}
-use Rattle.book.specs.Messages.{typeOf, targetOf, under, listed, listedOf, brought, broughtBy}
+use Rattle.book.specs.Messages.{typeOf, targetOf, listed, listedOf, brought, broughtBy}
 use Rattle.book.specs.Checks.{isTaken, onOrCc, ccOrDk}
-use Rattle.table.specs.Rows.{recordAt, tableOf}
+use Rattle.book.proofs.ListLaws.{length-keep}
+use Rattle.table.specs.Rows.{tableOf}
 use Rattle.table.specs.Closed.{unmarked}
+use Rattle.table.proofs.Rows.{length-table}
+use Rattle.places.proofs.Weighing.{unmarked-keep}
 use Rattle.moves.specs.Moves.{remaining, bringing, filled, Movable}
-
--- marks that tell a test leave what does not pass it
-pub unmarked-keep : (p : Pool → Bool) (ms : List ℕ) (rs : List Pool) → length rs ≤ length ms
-    → ((i : ℕ) → i < length rs → eqb (getD ms i 0) 0 ≡ not (p (getD rs i noPool)))
-    → unmarked ms rs ≡ keep (λ (r : Pool). not (p r)) rs
-unmarked-keep p [] [] h t = refl
-unmarked-keep p (m ∷ ms) [] h t = refl
-unmarked-keep p [] (r ∷ rs) h t = absurd (omega (arith, h))
-unmarked-keep p (m ∷ ms) (r ∷ rs) h t =
-    let e : eqb m 0 ≡ not (p r) = t 0 (omega arith) in
-    let below : unmarked ms rs ≡ keep (λ (r : Pool). not (p r)) rs = unmarked-keep p ms rs (omega (arith, h)) (λ i g. t (suc i) (omega (arith, g))) in
-    rw (e, below)
-
--- at most as many stay as there were
-pub keep-most : {A : Type 0} (p : A → Bool) (xs : List A) → length (keep p xs) ≤ length xs
-keep-most p [] = omega arith
-keep-most {A} p (x ∷ xs) = go (p x) (keep-most p xs)
-  where
-    go : (b : Bool) → length (keep p xs) ≤ length xs → length (cond b (x ∷ keep p xs) (keep p xs)) ≤ suc (length xs)
-    go true h = omega (arith, h)
-    go false h = omega (arith, h)
 
 -- zeros after zeros
 pub closed-filled : (rs t : List Pool) (live n : ℕ) → length rs ≤ live → live ≤ n → drop live t ≡ replicate (n - live) noPool
@@ -57,11 +37,7 @@ closed-filled rs t live n h l z =
 
 -- a message that lists nothing leaves every record
 nothing-taken : (body : List ℕ) (rs : List Pool) → listed body ≡ [] → remaining body rs ≡ rs
-nothing-taken body rs e = keep-all (λ (r : Pool). not (isTaken (targetOf body) (listed body) r)) rs (λ r m. rw (e, and-none (under (targetOf body) r)))
-  where
-    and-none : (b : Bool) → (b && false) ≡ false
-    and-none true = refl
-    and-none false = refl
+nothing-taken body rs e = keep-all (λ (r : Pool). not (isTaken (targetOf body) (listed body) r)) rs (λ r m. rw (e, and-false))
 
 -- a type that is no CC or DK lists nothing
 pub lists-nothing : (k : MessageType) (body : List ℕ) → k ≡ typeOf body → ccOrDk k ≡ false → listed body ≡ []
@@ -76,22 +52,18 @@ lists-nothing k body e f = rw (sym e) (go k f)
     go Other g = refl
 
 module _ (body : List ℕ) (ns ks : List (List ℕ)) (live : ℕ) (ms : List ℕ) (m : Movable body ns ks live ms) where
-  rows : length (tableOf ns ks) ≡ length ns
-  unfolding tableOf
-  rows = length-tab (recordAt ns ks) (length ns) 0
-
   size : length (take live (tableOf ns ks)) ≡ live
-  size = length-take-le live (tableOf ns ks) (rw rows (m .within))
+  size = length-take-le live (tableOf ns ks) (rw (length-table ns ks) (m .within))
 
   stays : unmarked ms (take live (tableOf ns ks)) ≡ remaining body (take live (tableOf ns ks))
-  stays = unmarked-keep (isTaken (targetOf body) (listed body)) ms (take live (tableOf ns ks)) (omega (arith, size, m .marks)) (λ i h. m .told i (omega (arith, size, h)))
+  stays = unmarked-keep (isTaken (targetOf body) (listed body)) ms (take live (tableOf ns ks)) (omega (arith, size, m .marks), λ (i : ℕ) h. m .told i (omega (arith, size, h)))
 
   -- closed up by the marks
   pub taken-off : (r : ℕ) (after : List Pool) → r ≡ length (unmarked ms (take live (tableOf ns ks)))
       → after ≡ unmarked ms (take live (tableOf ns ks)) ++ (replicate (live - length (unmarked ms (take live (tableOf ns ks)))) noPool ++ drop live (tableOf ns ks))
       → (r ≡ length (remaining body (take live (tableOf ns ks)))) × (after ≡ filled (length ns) (remaining body (take live (tableOf ns ks))))
   taken-off r after er ea =
-      let h : length (remaining body (take live (tableOf ns ks))) ≤ length (take live (tableOf ns ks)) = keep-most _ (take live (tableOf ns ks)) in
+      let h : length (remaining body (take live (tableOf ns ks))) ≤ length (take live (tableOf ns ks)) = omega (arith, length-keep (isTaken (targetOf body) (listed body)) (take live (tableOf ns ks))) in
       let f = closed-filled (remaining body (take live (tableOf ns ks))) (tableOf ns ks) live (length ns) (omega (arith, h, size)) (m .within) (m .zeros) in
       (er ∙ ap length stays, rw stays at ea ∙ f)
 

@@ -62,8 +62,3 @@ module _ (body : List ℕ) (s : Common) (first n at : ℕ) (t₀ : List Pool) wh
 
     pub putting-done : n ≤ k → k ≤ n → at + n ≤ length t₀ → t ≡ pasted t₀ at (recordsFrom body s first n)
     putting-done h g l = pasting-done t₀ at (recordsFrom body s first n) n length-records t k inv h g (omega arith) (omega arith)
-
--- ---- the records of a lot
-pub map-tab : {A B : Type 0} (f : A → B) (g : ℕ → A) (n i : ℕ) → map f (tab g n i) ≡ tab (λ (k : ℕ). f (g k)) n i
-map-tab f g zero i = refl
-map-tab {A} {B} f g (suc n) i = ap (λ (l : List B). f (g i) ∷ l) (map-tab f g n (i + 1))

@@ -9,6 +9,7 @@ use lib.ListN.{length, drop, length-append, take-append-drop, drop-of-length-le}
 use lib.Dec.{eqb}
 use borrow.Author.Tests.{eq-eqb, ne-eqb}
 use Rattle.lists.specs.Lists.{tab, keep, within, pasted}
+use Rattle.lists.proofs.Tables.{map-tab}
 use Rattle.lists.proofs.Pasting.{paste-in, paste-out, paste-more}
 use Rattle.layout.specs.Details.{details, poolCount}
 use Rattle.layout.proofs.Passes as passes
@@ -21,7 +22,7 @@ use Rattle.book.specs.declared.Pool.{Pool}
 use Rattle.book.specs.Records.{kindNumber, poolOf, recordsOf}
 use Rattle.new_pools.specs.declared.Common.{Common}
 use Rattle.new_pools.specs.Stored.{commonOf, recordFrom, recordsFrom}
-use Rattle.new_pools.proofs.Pools.{length-records, map-tab}
+use Rattle.new_pools.proofs.Pools.{length-records}
 use Rattle.new_pools.proofs.Heads.{Heads}
 
 paste-nil : {A : Type 0} (t : List A) (at : ℕ) → pasted t at [] ≡ t

@@ -103,14 +103,14 @@ pub fn put_lots(
     ensures { λ r. ⌜ (r ≡ at + length (recordsOf message trade 1 (newLots (details (now (body .entry))))))
         × (tableOf (now (numbers .exit)) (now (keys .exit)) ≡ pasted (tableOf (now (numbers .entry)) (now (keys .entry))) at (recordsOf message trade 1 (newLots (details (now (body .entry)))))) ⌝ }
 {
-    let staged = faces::stage(body);
+    let staged = staging::stage(body);
     let faces = staged.faces;
     let mut place = at;
     let mut ordinal: u64 = 1;
     let mut next: usize = 0;
     while next < staged.count {
         let first = next;
-        let found = terminator::lot_at(body, first);
+        let found = lots::lot_at(body, first);
         match found {
             LotRead::Found(l) => {
                 next = l.last + 1;

@@ -9,7 +9,7 @@ use lib.ListN.{length, getD, take, replicate, getD-replicate, length-append, len
 use lib.Seq.{getD-take}
 use Rattle.lists.specs.Lists.{tab, keep, any, same}
 use Rattle.lists.proofs.Parts.{length-part}
-use Rattle.lists.proofs.Tables.{take-tab, table-of}
+use Rattle.lists.proofs.Tables.{take-tab, table-of, map-tab}
 use Rattle.lists.proofs.Tests.{_∈_, keep-in, both}
 use Rattle.layout.specs.declared.Detail.{Detail}
 use Rattle.layout.specs.Details.{details, detailAt, placeOf, poolCount, poolsMax}
@@ -39,10 +39,6 @@ place-in {A} f (suc n) i x m = go (List·Memᴰ·cases-cons m) (place-in f n (i 
     go : (x ≡ f i) ⊎ (x ∈ tab f n (i + 1)) → (x ∈ tab f n (i + 1) → (k : ℕ) × (k < i + 1 + n) × (x ≡ f k)) → (k : ℕ) × (k < i + suc n) × (x ≡ f k)
     go (inl p) below = (i, omega arith, p)
     go (inr p) below = let w = below p in (w .0, omega (arith, w .1), w .2)
-
-map-tab : {A B : Type 0} (f : A → B) (g : ℕ → A) (n i : ℕ) → map f (tab g n i) ≡ tab (λ (k : ℕ). f (g k)) n i
-map-tab f g zero i = refl
-map-tab {A} {B} f g (suc n) i = ap (λ (l : List B). f (g i) ∷ l) (map-tab f g n (i + 1))
 
 module _ {A B : Type 0} (p : A → A → Bool) (q : B → B → Bool) (f : ℕ → A) (g : ℕ → B) where
   any-same : (k n i : ℕ) → ((m : ℕ) → m < i + n → p (f k) (f m) ≡ q (g k) (g m)) → any (p (f k)) (tab f n i) ≡ any (q (g k)) (tab g n i)

@@ -1,29 +1,17 @@
 -- Records in order: a message's follow one another, so that a record's twin can only stand in its own run.
 use mathlib.Core.Path.{_≡_, refl, sym, ap, _∙_}
-use mathlib.Core.Logic.{_⊎_, inl, inr}
-use mathlib.Core.Bool.{Bool, true, false, cond, _&&_, _||_}
+use mathlib.Core.Bool.{Bool, true, false, cond}
 use Prim.Native.Nat.{ℕ, zero, suc, _+_, _-_, _≤_, _<_}
 use native.Mathlib.Nat.{add-zero}
 use native.Mathlib.Omega.{arith}
 use native.Mathlib.Decide.{ℕ-discrete, decLt}
-use lib.Dec.{eqb, ltb}
-use borrow.Author.Tests.{ltb-true, eqb-true, eqb-false}
+use lib.Dec.{eqb}
+use borrow.Author.Tests.{eqb-true, eqb-false}
 use Rattle.lists.specs.Lists.{tab}
 use Rattle.lists.proofs.Tests.{and-left, and-right}
 use Rattle.book.specs.declared.Pool.{Pool}
 use Rattle.book.specs.Soundness.{follows, inOrder}
-use Rattle.book.proofs.ListLaws.{or-split}
-
--- what a record that follows another in the same message meets besides
-abbrev alikeFollows : Pool → Pool → Bool
-alikeFollows q r = eqb (q .trade) (r .trade) && (ltb (q .ordinal) (r .ordinal) || (eqb (q .ordinal) (r .ordinal) && (eqb (q .kind) (r .kind) && eqb (q .millions) (r .millions))))
-
-follows-message : (q r : Pool) → follows q r ≡ true → q .message ≤ r .message
-follows-message q r e = go (or-split (ltb (q .message) (r .message)) (eqb (q .message) (r .message) && alikeFollows q r) e)
-  where
-    go : (ltb (q .message) (r .message) ≡ true) ⊎ ((eqb (q .message) (r .message) && alikeFollows q r) ≡ true) → q .message ≤ r .message
-    go (inl a) = omega (arith, ltb-true (q .message) (r .message) a)
-    go (inr a) = omega (arith, eqb-true (q .message) (r .message) (and-left (eqb (q .message) (r .message)) (alikeFollows q r) a))
+use Rattle.book.proofs.Ordered.{follows-message}
 
 module _ (f : ℕ → Pool) where
   next-message : (n i k : ℕ) → inOrder (tab f n i) ≡ true → i ≤ k → suc k < i + n → f k .message ≤ f (k + 1) .message

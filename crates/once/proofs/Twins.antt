@@ -9,12 +9,12 @@ use lib.ListN.{length, take}
 use lib.Dec.{eqb}
 use borrow.Author.Tests.{eq-eqb, ne-eqb}
 use Rattle.lists.specs.Lists.{tab, any, same}
-use Rattle.lists.proofs.Tables.{take-tab}
 use Rattle.lists.proofs.Tests.{same-equal, same-refl, un-true, clash}
 use Rattle.book.specs.declared.Pool.{Pool}
 use Rattle.book.specs.Records.{liveFields, sameFields}
 use Rattle.book.specs.Soundness.{inOrder, fieldsOnce}
 use Rattle.table.specs.Rows.{keyAt, recordAt, tableOf}
+use Rattle.table.proofs.Rows.{take-table}
 use Rattle.keys.proofs.Rows.{records-same}
 use Rattle.once.proofs.Pairs.{some-of, place-of, apart, apart-all, apart-not}
 use Rattle.once.proofs.Runs.{Rising, rises, Run, run-none, runOf, run-more, run-same, run-lower}
@@ -34,12 +34,8 @@ module _ (ns ks : List (List ℕ)) (live : ℕ) where
   abbrev recordOf : ℕ → Pool
   recordOf = recordAt ns ks
 
-  live-tab : live ≤ length ns → take live (tableOf ns ks) ≡ tab recordOf live 0
-  unfolding tableOf
-  live-tab h = take-tab recordOf live (length ns) 0 h
-
   pub live-rises : live ≤ length ns → inOrder (take live (tableOf ns ks)) ≡ true → Rising recordOf live
-  live-rises h e = rises recordOf live (sym (ap inOrder (live-tab h)) ∙ e)
+  live-rises h e = rises recordOf live (sym (ap inOrder (take-table ns ks live h)) ∙ e)
 
   -- the first i records, of which those from start on are the last message's
   pub record Once (start i : ℕ) : Type 0 where
@@ -99,8 +95,8 @@ module _ (ns ks : List (List ℕ)) (live : ℕ) where
         let m : eqb (recordOf k .message) (recordOf i .message) ≡ true = eq-eqb (recordOf k .message) (recordOf i .message) (run-same recordOf s i k at-run a (omega arith)) in
         let f : sameFields (liveFields (recordOf k)) (liveFields (recordOf i)) ≡ true = records-same ns ks k i (all-wide k (omega arith)) w ∙ same-back (keyAt ks i) (keyAt ks k) (p .3) in
         let y : twins (recordOf k) (recordOf i) ≡ true = ap₂ (λ (x z : Bool). x && z) m f in
-        sym (ap fieldsOnce (live-tab l) ∙ once-apart (tab recordOf live 0) ∙ apart-not twins recordOf live 0 k i (omega arith) d (omega arith) y)
+        sym (ap fieldsOnce (take-table ns ks live l) ∙ once-apart (tab recordOf live 0) ∙ apart-not twins recordOf live 0 k i (omega arith) d (omega arith) y)
 
   pub once-done : live ≤ length ns → (start i : ℕ) → Once start i → live ≤ i → true ≡ fieldsOnce (take live (tableOf ns ks))
   once-done l start i o h =
-      sym (ap fieldsOnce (live-tab l) ∙ once-apart (tab recordOf live 0) ∙ apart-all twins recordOf live 0 (λ (k m : ℕ) a b d. o .once k m b (omega arith)))
+      sym (ap fieldsOnce (take-table ns ks live l) ∙ once-apart (tab recordOf live 0) ∙ apart-all twins recordOf live 0 (λ (k m : ℕ) a b d. o .once k m b (omega arith)))

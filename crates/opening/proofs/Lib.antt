@@ -1,4 +1,3 @@
-pub mod Looking
 pub mod Names
 pub mod Rules
 pub mod Opened

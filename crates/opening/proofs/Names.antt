@@ -1,8 +1,8 @@
--- IDs: lists of unlike length are unlike, and names repeat where the first stands among the rest or the rest repeat.
-use mathlib.Core.Path.{_≡_, refl, sym, ap, _∙_}
-use mathlib.Core.List.{List, [], _∷_}
-use mathlib.Core.Bool.{true, false, and-false}
-use Prim.Native.Nat.{ℕ, suc, _≤_}
+-- IDs: whole lists compared as parts, and names repeat where the first stands among the rest or the rest repeat.
+use mathlib.Core.Path.{_≡_, sym, ap, _∙_}
+use mathlib.Core.List.{List, _∷_}
+use mathlib.Core.Bool.{true, false}
+use Prim.Native.Nat.{ℕ, _≤_}
 use native.Mathlib.Omega.{arith}
 use lib.ListN.{length, take}
 use lib.Seq.{take-all, take-length}
@@ -10,14 +10,6 @@ use Rattle.lists.specs.Lists.{part, same, any}
 use Rattle.lists.proofs.Parts.{in-within}
 use Rattle.fields.specs.Fields.{samePart}
 use Rattle.book.specs.Opening.{namesRepeat}
-
-pub same-unlike : (a b : List ℕ) → (length a ≡ length b → ⊥) → false ≡ same a b
-same-unlike [] [] h = absurd (h refl)
-same-unlike [] (y ∷ ys) h = refl
-same-unlike (x ∷ xs) [] h = refl
-same-unlike (x ∷ xs) (y ∷ ys) h =
-    let e : same xs ys ≡ false = sym (same-unlike xs ys (λ l. h (ap suc l))) in
-    rw (e, and-false)
 
 -- two lists as long as each other are compared as parts of that length
 pub same-whole : (a b : List ℕ) → length a ≡ length b → samePart a 0 b 0 (length a) ≡ same a b

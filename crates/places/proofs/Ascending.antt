@@ -1,6 +1,5 @@
 -- The target's run says what the checks ask of the target: whether some record is under it, its trade and, in an ordered table, all its records.
 use mathlib.Core.Path.{_≡_, refl, sym, ap, _∙_}
-use mathlib.Core.Logic.{_⊎_, inl, inr}
 use mathlib.Core.List.{List, [], _∷_}
 use mathlib.Core.Bool.{Bool, true, false, cond, _&&_, _||_, false≢true}
 use Prim.Native.Nat.{ℕ, zero, suc, _+_, _-_, _≤_, _<_}
@@ -19,7 +18,8 @@ use Rattle.book.specs.Records.{noPool}
 use Rattle.book.specs.Messages.{targetOf, under}
 use Rattle.book.specs.Soundness.{follows, inOrder}
 use Rattle.book.specs.Checks.{firstUnder, targetTrade}
-use Rattle.book.proofs.ListLaws.{or-split, all-implied}
+use Rattle.book.proofs.ListLaws.{all-implied}
+use Rattle.book.proofs.Ordered.{follows-message}
 use Rattle.places.specs.Runs.{ahead, leading, runOf}
 use Rattle.places.proofs.Running.{ahead-most, leading-most}
 
@@ -77,18 +77,6 @@ module _ {A : Type 0} (p : A → Bool) where
       go false e below (suc j) l = below j (omega arith)
 
 -- ---- ordered records
-rises : (a b : ℕ) (rest : Bool) → (ltb a b || (eqb a b && rest)) ≡ true → a ≤ b
-rises a b rest e = go (or-split (ltb a b) (eqb a b && rest) e)
-  where
-    go : (ltb a b ≡ true) ⊎ ((eqb a b && rest) ≡ true) → a ≤ b
-    go (inl h) = omega (arith, ltb-true a b h)
-    go (inr h) = omega (arith, eqb-true a b (and-left (eqb a b) rest h))
-
-follows-rises : (q r : Pool) → follows q r ≡ true → q .message ≤ r .message
-follows-rises q r e =
-    rises (q .message) (r .message)
-    (eqb (q .trade) (r .trade) && (ltb (q .ordinal) (r .ordinal) || (eqb (q .ordinal) (r .ordinal) && (eqb (q .kind) (r .kind) && eqb (q .millions) (r .millions))))) e
-
 order-tail : (q : Pool) (rs : List Pool) → inOrder (q ∷ rs) ≡ true → inOrder rs ≡ true
 order-tail q [] e = refl
 order-tail q (r ∷ rs) e = and-right (follows q r) (inOrder (r ∷ rs)) e
@@ -99,7 +87,7 @@ atLeast id s = leb id (s .message)
 order-rises : (q : Pool) (rs : List Pool) → inOrder (q ∷ rs) ≡ true → all (atLeast (q .message)) rs ≡ true
 order-rises q [] e = refl
 order-rises q (r ∷ rs) e =
-    let near : q .message ≤ r .message = follows-rises q r (and-left (follows q r) (inOrder (r ∷ rs)) e) in
+    let near : q .message ≤ r .message = follows-message q r (and-left (follows q r) (inOrder (r ∷ rs)) e) in
     both (atLeast (q .message) r) (all (atLeast (q .message)) rs) (le-leb (q .message) (r .message) near)
     (all-implied (atLeast (r .message)) (atLeast (q .message)) (λ (s : Pool) h. le-leb (q .message) (s .message) (omega (arith, near, leb-true (r .message) (s .message) h))) rs
     (order-rises r rs (and-right (follows q r) (inOrder (r ∷ rs)) e)))

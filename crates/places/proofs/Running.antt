@@ -70,11 +70,7 @@ module _ {A : Type 0} (p : A → Bool) where
         omega (arith, inv, a)
 
 -- ---- the run from its two ends
--- the live records of a table
-pub live-tab : (ns ks : List (List ℕ)) (n : ℕ) → n ≤ length ns → take n (tableOf ns ks) ≡ tab (recordAt ns ks) n 0
-live-tab ns ks n l = take-table ns ks n l
-
--- what is left of them at i
+-- what is left of the live records of a table at i
 live-from : (ns ks : List (List ℕ)) (n i : ℕ) → drop i (tab (recordAt ns ks) n 0) ≡ tab (recordAt ns ks) (n - i) i
 live-from ns ks n i =
     let e : 0 + i ≡ i = omega arith in
@@ -88,7 +84,7 @@ module _ (ns ks : List (List ℕ)) (live : ℕ) (l : live ≤ length ns) where
   run-found f id start stop is a b =
       ap {B = Run} (λ (s : ℕ). record { start = start; stop = s }) (b ∙ ap (λ (xs : List Pool). start + leading (under (Number id)) xs) (sym (live-from ns ks live start)))
       ∙ ap {B = Run} (λ (s : ℕ). record { start = s; stop = s + leading (under (Number id)) (drop s (tab (recordAt ns ks) live 0)) }) a
-      ∙ rw (is, live-tab ns ks live l)
+      ∙ rw (is, take-table ns ks live l)
 
   ahead-none : (f : ℕ → Pool) (n i : ℕ) → ahead (under NotDigits) (tab f n i) ≡ n
   ahead-none f zero i = refl
@@ -99,4 +95,4 @@ module _ (ns ks : List (List ℕ)) (live : ℕ) (l : live ≤ length ns) where
   run-none f is =
       let a : ahead (under NotDigits) (tab (recordAt ns ks) live 0) ≡ live = ahead-none (recordAt ns ks) live 0 in
       let b : leading (under NotDigits) (drop live (tab (recordAt ns ks) live 0)) ≡ 0 = ap (leading (under NotDigits)) (live-from ns ks live live ∙ tab-end (recordAt ns ks) live live (omega arith)) in
-      rw (is, live-tab ns ks live l, a, b, add-zero live)
+      rw (is, take-table ns ks live l, a, b, add-zero live)

@@ -23,12 +23,12 @@ use Rattle.book.specs.Soundness.{inOrder}
 use Rattle.book.specs.Checks.{allLive}
 use Rattle.book.proofs.ListLaws.{all-of-map}
 use Rattle.table.specs.Rows.{keyAt, recordAt, tableOf}
+use Rattle.table.proofs.Rows.{take-table}
 use Rattle.keys.specs.Keys.{keyOf}
 use Rattle.places.specs.declared.Run.{Run}
 use Rattle.places.specs.declared.Places.{Places}
 use Rattle.places.specs.Runs.{ahead, runOf}
 use Rattle.places.specs.Finding.{rowFields, lists, runRecords, standsIn, Finds}
-use Rattle.places.proofs.Running.{live-tab}
 use Rattle.places.proofs.Ascending.{ahead-fail, run-rises, run-within, run-keep}
 use Rattle.places.proofs.Comparing.{pool-fields}
 use Rattle.places.proofs.Cells.{Filled, filled-none, filled-skip, filled-more, getD-zeros, any-tab-in, any-tab-out, all-kept-in, all-kept-out}
@@ -204,7 +204,7 @@ module _ (body : List ℕ) (ns ks : List (List ℕ)) (live : ℕ) (l : live ≤ 
 
   run-records : runRecords ns ks run ≡ keep (under (targetOf body)) rs
   run-records =
-      let e : rs ≡ tab (recordAt ns ks) live 0 = live-tab ns ks live l in
+      let e : rs ≡ tab (recordAt ns ks) live 0 = take-table ns ks live l in
       let m : run .stop ≤ live = omega (arith, run-within (targetOf body) rs, ap (λ (xs : List Pool). length xs) e, length-tab (recordAt ns ks) live 0) in
       sym (run-keep (targetOf body) rs o ∙ ap (λ (xs : List Pool). part xs (run .start) (run .stop - run .start)) e
       ∙ part-tab (recordAt ns ks) live (run .start) (run .stop) (run-rises (targetOf body) rs) m)

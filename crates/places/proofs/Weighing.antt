@@ -12,12 +12,11 @@ use Rattle.lists.proofs.Parts.{drop-turn}
 use Rattle.lists.proofs.Tables.{tab-turn, tab-end, tab-all}
 use Rattle.terminator.specs.Lots.{millionCents}
 use Rattle.book.specs.declared.Pool.{Pool}
-use Rattle.book.specs.Records.{noPool, kindGood, runSum, weightShare, weightOfRecords}
-use Rattle.book.specs.Opening.{elevenDigitsMax}
+use Rattle.book.specs.Records.{noPool, runSum, weightShare, weightOfRecords}
 use Rattle.table.specs.Rows.{recordAt, tableOf}
 use Rattle.table.specs.Closed.{unmarked}
+use Rattle.table.proofs.Rows.{take-table}
 use Rattle.places.specs.Marks.{marked, rowShare}
-use Rattle.places.proofs.Running.{live-tab}
 
 -- ---- the share of one record
 -- whether a row begins a lot, after a record of a message and an ordinal
@@ -55,7 +54,7 @@ module _ (ns : List (List ℕ)) (ms : List ℕ) (live : ℕ) (ks : List (List �
     weighed-done h l m k =
         let none : left i ≡ [] = ap (marked (drop i ms)) (tab-end (recordAt ns ks) live i h) ∙ marked-nil (drop i ms) in
         let e : sum + runSum weightShare message ordinal (left i) ≡ sum = omega (arith, ap (runSum weightShare message ordinal) none) in
-        sym e ∙ inv ∙ ap (λ (rs : List Pool). weightOfRecords (marked ms rs)) (sym (live-tab ns ks live l))
+        sym e ∙ inv ∙ ap (λ (rs : List Pool). weightOfRecords (marked ms rs)) (sym (take-table ns ks live l))
 
     module _ (h : i < live) (m : live ≤ length ms) where
       turn : left i ≡ cond (eqb (getD ms i 0) 0) (left (i + 1)) (recordAt ns ks i ∷ left (i + 1))

@@ -5,7 +5,7 @@ use mathlib.Core.List.{List}
 use mathlib.Core.Bool.{Bool, true, false, cond}
 use native.Mathlib.Omega.{arith}
 use lib.ListN.{length, replicate}
-use Rattle.lists.specs.Lists.{part, pasted}
+use Rattle.lists.specs.Lists.{pasted}
 use Rattle.output.specs.Output.{withPart}
 use Rattle.layout.specs.Columns.{headerWidth}
 use Rattle.layout.proofs.Reader.{copied}

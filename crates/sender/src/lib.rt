@@ -189,7 +189,7 @@ fn lots_fail(body: &[u8]) -> bool
     if !is_on_or_cc(kind) {
         return false;
     }
-    !terminator::lots_formed(body, is_cc(kind))
+    !lots::lots_formed(body, is_cc(kind))
 }
 
 // 20 of a CC: groups that are not formed.
@@ -199,7 +199,7 @@ fn groups_fail(body: &[u8]) -> bool
     if !is_cc(header::message_type(body)) {
         return false;
     }
-    let groups = terminator::groups_of(body);
+    let groups = groups::groups_of(body);
     !groups.formed
 }
 
@@ -210,7 +210,7 @@ fn sums_fail(body: &[u8]) -> bool
     if !is_cc(header::message_type(body)) {
         return false;
     }
-    let groups = terminator::groups_of(body);
+    let groups = groups::groups_of(body);
     !groups.balanced
 }
 

@@ -64,7 +64,7 @@ pub fn amounts_fail(ceiling: u64, body: &[u8]) -> bool
 pub fn replacements_fail(body: &[u8]) -> bool
     ensures { λ r. ⌜ r ≡ notNumber (eqb (replacementCount (details (now (body .entry))))) (numberIn (now (body .entry)) columns.numberOfPools) ⌝ }
 {
-    let count = wide(terminator::replacement_count(body));
+    let count = wide(lots::replacement_count(body));
     is_unlike(count, layout::number_in(body, layout::NUMBER_OF_POOLS))
 }
 
@@ -103,6 +103,6 @@ pub fn no_trade_id(body: &[u8]) -> bool
 pub fn millions_fail(body: &[u8]) -> bool
     ensures { λ r. ⌜ r ≡ notNumber (eqb (goodMillions (details (now (body .entry))))) (numberIn (now (body .entry)) columns.gdmm) ⌝ }
 {
-    let sum = terminator::good_millions(body);
+    let sum = lots::good_millions(body);
     is_unlike(sum, layout::number_in(body, layout::GDMM))
 }

@@ -15,8 +15,8 @@ use Rattle.book.specs.declared.Values.{Values}
 use Rattle.book.specs.Opening.{elevenDigitsMax, between}
 use Rattle.book.specs.Soundness.{kindFine, recordFine, follows, inOrder}
 use Rattle.table.specs.Rows.{keyAt, recordAt, tableOf}
+use Rattle.table.proofs.Rows.{take-table}
 use Rattle.soundness.specs.Parts.{recordOf, against}
-use Rattle.soundness.proofs.Rows.{live-tab}
 
 module _ (v : Values) where
   -- whether each record is fine and follows the one before it, the first of them q
@@ -70,7 +70,7 @@ module _ (count last : ℕ) (ns : List (List ℕ)) (live : ℕ) where
 
   module _ (l : live ≤ length ns) where
     answer : (ks : List (List ℕ)) → chained (against count last) (recordOf (replicate 6 0) []) (tab (recordAt ns ks) live 0) ≡ (all (recordFine (against count last)) (take live (tableOf ns ks)) && inOrder (take live (tableOf ns ks)))
-    answer ks = rw (live-tab ns ks live l) (chained-first (against count last) (recordOf (replicate 6 0) []) refl (tab (recordAt ns ks) live 0))
+    answer ks = rw (take-table ns ks live l) (chained-first (against count last) (recordOf (replicate 6 0) []) refl (tab (recordAt ns ks) live 0))
 
     module _ (row : List ℕ) (i : ℕ) (inv : Chained row i) where
       pub chained-done : live ≤ i → Answer true

@@ -7,7 +7,7 @@ use native.Mathlib.Omega.{arith}
 use lib.ListN.{length, getD, take, drop}
 use lib.Dec.{eqb}
 use borrow.Author.Tests.{eq-eqb, ne-eqb}
-use Rattle.opening.proofs.Looking.{first-turn, first-done}
+use Rattle.lists.proofs.Looking.{first-turn, first-done}
 use Rattle.book.specs.declared.Trade.{Trade}
 use Rattle.book.specs.Opening.{tradesMax}
 use Rattle.book.specs.Checks.{noTrade}

@@ -1,29 +1,11 @@
--- The live records of a table and what stands after them, as lists made by a function of the index; a test of every element, one after another.
+-- A test of every element of a list made by a function of the index, one after another.
 use mathlib.Core.Path.{_≡_, sym, ap, _∙_}
-use mathlib.Core.List.{List}
 use mathlib.Core.Bool.{Bool, true, false}
 use Prim.Native.Nat.{ℕ, zero, suc, _+_, _-_, _≤_, _<_}
 use native.Mathlib.Omega.{arith}
-use lib.ListN.{length, take, drop}
 use Rattle.lists.specs.Lists.{tab, all}
-use Rattle.lists.proofs.Tables.{length-tab, take-tab, drop-tab, tab-turn, tab-end}
+use Rattle.lists.proofs.Tables.{tab-turn, tab-end}
 use Rattle.lists.proofs.Tests.{and-left, and-right}
-use Rattle.table.specs.Rows.{recordAt, tableOf}
-
-module _ (ns ks : List (List ℕ)) where
-  pub length-table : length (tableOf ns ks) ≡ length ns
-  unfolding tableOf
-  length-table = length-tab (recordAt ns ks) (length ns) 0
-
-  pub live-tab : (n : ℕ) → n ≤ length ns → take n (tableOf ns ks) ≡ tab (recordAt ns ks) n 0
-  unfolding tableOf
-  live-tab n h = take-tab (recordAt ns ks) n (length ns) 0 h
-
-  pub rest-tab : (n : ℕ) → drop n (tableOf ns ks) ≡ tab (recordAt ns ks) (length ns - n) n
-  unfolding tableOf
-  rest-tab n =
-      let e : 0 + n ≡ n = omega arith in
-      drop-tab (recordAt ns ks) n (length ns) 0 ∙ ap (tab (recordAt ns ks) (length ns - n)) e
 
 -- a loop that tests the elements from a place on, one after another
 module _ {A : Type 0} (p : A → Bool) (f : ℕ → A) (n m : ℕ) where

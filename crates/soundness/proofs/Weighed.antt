@@ -15,8 +15,8 @@ use Rattle.book.specs.declared.Pool.{Pool}
 use Rattle.book.specs.Opening.{tradesMax, recordsMax, elevenDigitsMax}
 use Rattle.book.specs.Records.{kindGood, runSum, weightShare, shareOf, tradeWeight}
 use Rattle.table.specs.Rows.{numberAt, keyAt, recordAt, tableOf}
+use Rattle.table.proofs.Rows.{take-table}
 use Rattle.soundness.specs.Parts.{recordOf, Light}
-use Rattle.soundness.proofs.Rows.{live-tab}
 
 -- ---- one record's share
 module _ (begins : Bool) (row : List ℕ) where
@@ -62,7 +62,7 @@ module _ (ns : List (List ℕ)) (live : ℕ) where
       → (ks : List (List ℕ)) (t : ℕ) → t < tradesMax → getD sums t 0 ≡ tradeWeight t (take live (tableOf ns ks))
   unfolding tradeWeight
   weighed-done sums message ordinal i inv h l ks t k =
-      rw (live-tab ns ks live l) (omega (arith, inv ks t k, ap (runSum (shareOf t weightShare) message ordinal) (tab-end (recordAt ns ks) live i h)))
+      rw (take-table ns ks live l) (omega (arith, inv ks t k, ap (runSum (shareOf t weightShare) message ordinal) (tab-end (recordAt ns ks) live i h)))
 
   module _ (light : Light ns live) (few : live ≤ recordsMax) (sums : List ℕ) (message ordinal i : ℕ) (inv : Weighed sums message ordinal i) (h : i < live) (added : ℕ)
       (e : (key : List ℕ) → added ≡ weightShare (not (eqb (numberAt ns i 0) message && eqb (numberAt ns i 1) ordinal)) (recordOf (getD ns i []) key)) where

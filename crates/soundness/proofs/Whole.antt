@@ -18,11 +18,12 @@ use Rattle.book.specs.Trades.{tradesOf}
 use Rattle.book.specs.Opening.{tradesMax, recordsMax, elevenDigitsMax, between, valuesFine}
 use Rattle.book.specs.Soundness.{kindFine, recordFine, inOrder, fieldsOnce, isNone, parsFrom, isSound}
 use Rattle.table.specs.Rows.{recordAt, tableOf}
+use Rattle.table.proofs.Rows.{length-table, take-table}
 use Rattle.soundness.specs.Parts.{against, Light}
-use Rattle.soundness.proofs.Rows.{length-table, live-tab, all-at}
+use Rattle.soundness.proofs.Rows.{all-at}
 
 -- ---- what the facts give to those after them
-and-fails : (a b c : Bool) → (a && b) ≡ false → (a && (b && c)) ≡ false
+pub and-fails : (a b c : Bool) → (a && b) ≡ false → (a && (b && c)) ≡ false
 and-fails true b c e = rw e
 and-fails false b c e = refl
 
@@ -52,7 +53,7 @@ module _ (v : Values) where
   light ns ks live l few e i h =
       let z : i ≡ 0 + i = omega arith in
       let p : recordFine v (recordAt ns ks i) ≡ true =
-      ap (λ (j : ℕ). recordFine v (recordAt ns ks j)) z ∙ all-at (recordFine v) (recordAt ns ks) live 0 i (sym (ap (all (recordFine v)) (live-tab ns ks live l)) ∙ e) h in
+      ap (λ (j : ℕ). recordFine v (recordAt ns ks j)) z ∙ all-at (recordFine v) (recordAt ns ks) live 0 i (sym (ap (all (recordFine v)) (take-table ns ks live l)) ∙ e) h in
       let w = record-light (recordAt ns ks i) p in
       (omega (arith, w .0), w .1, w .2)
 

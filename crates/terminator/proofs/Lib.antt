@@ -1,5 +1,2 @@
 pub mod Marks
-pub mod Passes
-pub mod Formed
-pub mod Runs
 pub mod Found

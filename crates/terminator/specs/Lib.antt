@@ -1,4 +1,3 @@
 pub mod Terminators
 pub mod Lots
 pub mod Groups
-pub mod Passes

@@ -9,6 +9,7 @@ use lib.Dec.{leb}
 use borrow.Author.Tests.{leb-true, leb-false, not-true, not-false}
 use Rattle.lists.specs.Lists.{part, same}
 use Rattle.lists.proofs.Parts.{out-past, out-short, length-part}
+use Rattle.lists.proofs.Tests.{same-unlike}
 use Rattle.fields.specs.declared.Field.{Field}
 use Rattle.fields.specs.declared.Field.the-variants.{NotDigits}
 use Rattle.fields.specs.Fields.{readNumber, samePart}
@@ -20,7 +21,6 @@ use Rattle.book.specs.declared.Trade.{Trade}
 use Rattle.book.specs.Messages.{typeOf}
 use Rattle.book.specs.Trades.{sideOf, isNumber, priceIs, agrees}
 use Rattle.book.specs.Checks.{noTrade}
-use Rattle.opening.proofs.Names.{same-unlike}
 use Rattle.header.proofs.Parts.{column-same}
 use Rattle.terms.specs.declared.Stated.{Stated}
 use Rattle.terms.specs.Reading.{statedOf}

@@ -133,8 +133,8 @@ pub fn brought_weight(body: &[u8]) -> u64
 {
     let message = header::message_type(body);
     match message {
-        MessageType::On => faces::new_weight(body),
-        MessageType::Cc => faces::new_weight(body),
+        MessageType::On => new_lots::new_weight(body),
+        MessageType::Cc => new_lots::new_weight(body),
         MessageType::Dk => 0,
         MessageType::Cx => 0,
         MessageType::Other => 0,

@@ -3,9 +3,9 @@ use Prim.Native.Nat.{ℕ, _+_, _≤_, _<_}
 use native.Mathlib.Omega.{arith}
 use mathlib.Core.Path.{_≡_, refl, sym, ap, _∙_}
 use mathlib.Core.List.{List, [], map}
-use mathlib.Core.Bool.{Bool, true, false, cond, not, _&&_, _||_, true≢false}
+use mathlib.Core.Bool.{Bool, true, false, cond, not, _&&_, _||_, true≢false, and-false}
 use lib.ListN.{length, take, drop, getD, replicate, length-map, length-replicate}
-use lib.Dec.{eqb, leb, ltb}
+use lib.Dec.{leb, ltb}
 use lib.Seq.{length-take-le, getD-take}
 use borrow.Author.Tests.{leb-true, lt-ltb, le-ltb, not-true, not-false}
 use native.Mathlib.Decide.{decLt}
@@ -17,7 +17,6 @@ use Rattle.tally.specs.declared.MessageType.{MessageType}
 use Rattle.tally.specs.declared.MessageType.the-variants.{On, Cc, Dk, Cx, Other}
 use Rattle.book.specs.declared.Book.{Book}
 use Rattle.book.specs.declared.Pool.{Pool}
-use Rattle.book.specs.declared.Trade.{Trade}
 use Rattle.book.specs.declared.Reason.{Reason}
 use Rattle.book.specs.declared.Reason.the-variants as reason
 use Rattle.book.specs.declared.Verdict.the-variants.{Passes, Fails}
@@ -25,8 +24,8 @@ use Rattle.book.specs.Records.{fieldsOf, noPool, weightOfRecords}
 use Rattle.book.specs.Messages.{typeOf, targetOf, under, listed, listedOf}
 use Rattle.book.specs.Trades.{tradesOf, openPars, broughtWeight, tradeOfOn}
 use Rattle.book.specs.Opening.{recordsMax}
-use Rattle.book.specs.Soundness.{Sound, isSound}
-use Rattle.book.specs.Checks.{Check, live, trades, isOn, isCc, isDk, onOrCc, ccOrDk, targetTrade, tradeAt, concerned, concernedFor, isTaken, taken, listedFine, parFine, tableFine, checks, firstFailing}
+use Rattle.book.specs.Soundness.{Sound}
+use Rattle.book.specs.Checks.{Check, live, isOn, isCc, isDk, onOrCc, ccOrDk, targetTrade, tradeAt, concerned, concernedFor, isTaken, taken, listedFine, parFine, tableFine, checks, firstFailing}
 use Rattle.book.proofs.Reached.{is-sound}
 use Rattle.table.specs.Rows.{recordAt, numberAt, tableOf}
 use Rattle.table.proofs.Rows.{length-table, table-at}
@@ -42,7 +41,7 @@ use Rattle.soundness.proofs.Whole.{few-trades, light}
 use Rattle.moves.proofs.Taking.{lists-nothing}
 use Rattle.trader.specs.declared.Decision.{Decision}
 use Rattle.trader.specs.Decisions.{traderChecks, callOn, Ready, DecidedBy, Takes}
-use Rattle.trader.proofs.Firsts.{fails-not, first-late, first-early}
+use Rattle.trader.proofs.Firsts.{fails-not, first-late}
 
 -- a refused decision holds nothing else
 pub refused-by : (ks : List Check) (book : Book) (ns ks′ : List (List ℕ)) (body : List ℕ) (room : ℕ) (d : Decision) (r : Reason) → d .verdict ≡ Fails r
@@ -85,12 +84,8 @@ module _ (k : MessageType) (body : List ℕ) (cc dk : Bool) (ek : k ≡ typeOf b
       record {
         size = rw em (length-replicate {A = ℕ} n 0 ∙ en);
         fine = rw (ef, y);
-        marked = λ f i g. rw (em, l, none (under (targetOf body) (getD rs i noPool)), getD-zeros n i);
+        marked = λ f i g. rw (em, l, and-false, getD-zeros n i);
       }
-    where
-      none : (b : Bool) → (b && false) ≡ false
-      none true = refl
-      none false = refl
 
 -- ---- what soundness gives
 module _ (book : Book) (ns ks : List (List ℕ)) (body : List ℕ) (y : Ready book ns ks body) where

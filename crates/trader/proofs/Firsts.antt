@@ -1,6 +1,6 @@
 -- The first failing check of a list that is looked at in parts.
 use Prim.Native.Nat.{ℕ, zero, suc}
-use mathlib.Core.Path.{_≡_, refl, ap, sym, _∙_}
+use mathlib.Core.Path.{_≡_, refl, ap, sym}
 use mathlib.Core.List.{List, [], _∷_}
 use mathlib.Core.Bool.{Bool, true, false, cond, _&&_, false≢true}
 use lib.ListN.{take, drop}

@@ -1,15 +1,15 @@
 -- Numbers 38 and 40: what a trade's open par holds, and what a table holds.
 use Prim.Native.Nat.{ℕ, _+_, _-_, _≤_, _<_}
 use native.Mathlib.Omega.{arith}
-use mathlib.Core.Path.{_≡_, refl, sym, ap, _∙_}
+use mathlib.Core.Path.{_≡_, sym}
 use mathlib.Core.List.{List}
-use mathlib.Core.Bool.{Bool, true, false, cond, not, _&&_}
+use mathlib.Core.Bool.{Bool, true, false, cond, _&&_}
 use lib.ListN.{length, take, getD, length-take}
-use lib.Dec.{eqb, leb, ltb}
+use lib.Dec.{leb, ltb}
 use native.Mathlib.Decide.{decLt}
-use lib.Seq.{getD-take, length-take-le}
+use lib.Seq.{getD-take}
 use borrow.Author.Tests.{eq-eqb, ne-eqb, le-leb, lt-leb, lt-ltb, le-ltb}
-use Rattle.lists.specs.Lists.{keep, tab}
+use Rattle.lists.specs.Lists.{keep}
 use Rattle.lists.proofs.Folds.{fold, fold-count}
 use Rattle.lists.proofs.Tables.{length-tab}
 use Rattle.layout.specs.declared.Detail.{Detail}

@@ -1,6 +1,6 @@
 -- The first seven of the trader's checks, 30 to 36, as seven tests in a row, each with the type that it is for.
 use Prim.Native.Nat.{ℕ}
-use mathlib.Core.Path.{_≡_, refl, sym, _∙_}
+use mathlib.Core.Path.{_≡_, sym, _∙_}
 use mathlib.Core.List.{List, map}
 use mathlib.Core.Bool.{Bool, true, false, cond, not, _&&_, _||_}
 use lib.ListN.{take}
@@ -24,6 +24,7 @@ use Rattle.book.specs.Messages.{typeOf, idIn, targetOf, under}
 use Rattle.book.specs.Trades.{tradesOf}
 use Rattle.book.specs.Soundness.{liveOf}
 use Rattle.book.specs.Checks.{notNumber, isOn, isCc, isDk, onOrCc, ccOrDk, idFails, termsFail, targetTrade, checks, firstFailing}
+use Rattle.book.proofs.ListLaws.{neither-left}
 use Rattle.trader.specs.Decisions.{traderChecks}
 
 abbrev row : Bool → Bool → Bool → Bool → Bool → Bool → Bool → Verdict
@@ -78,12 +79,8 @@ module _ (v : Values) (body : List ℕ) (there : Bool) (target : ℕ) where
           no-more d =
               let q : (on || cc) ≡ false = not-true (on || cc) d in
               let n : onOrCc (typeOf body) ≡ false = rw (eo, ec, ek) at q in
-              let o : isOn (typeOf body) ≡ false = neither (isOn (typeOf body)) (isCc (typeOf body)) n in
+              let o : isOn (typeOf body) ≡ false = neither-left (isOn (typeOf body)) (isCc (typeOf body)) n in
               by-row Passes (rw (rw (ec, ed, ek) at a, sym ei ∙ b, sym et ∙ c, n, o))
-            where
-              neither : (x y : Bool) → (x || y) ≡ false → x ≡ false
-              neither true y e = e
-              neither false y e = refl
 
           module _ (d : not (on || cc) ≡ false) (m : Bool) (em : m ≡ millionsOff) where
             more : onOrCc (typeOf body) ≡ true

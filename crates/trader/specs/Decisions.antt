@@ -7,7 +7,6 @@ use lib.ListN.{length, drop, getD}
 use lib.Dec.{eqb}
 use Rattle.book.specs.declared.Book.{Book}
 use Rattle.book.specs.declared.Pool.{Pool}
-use Rattle.book.specs.declared.Verdict.{Verdict}
 use Rattle.book.specs.declared.Verdict.the-variants.{Passes}
 use Rattle.book.specs.Records.{noPool, weightOfRecords}
 use Rattle.layout.specs.Details.{details}

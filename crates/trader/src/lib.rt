@@ -102,7 +102,7 @@ fn first_of_terms(v: Values, body: &[u8], there: bool, target: usize) -> Verdict
     if faces::faces_fail(body, limits.least) {
         return Verdict::Fails(Reason::Faces);
     }
-    if faces::lots_fail(body, limits.variance, limits.pools) {
+    if new_lots::lots_fail(body, limits.variance, limits.pools) {
         return Verdict::Fails(Reason::Variance);
     }
     if once::repeated(body) {

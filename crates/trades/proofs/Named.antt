@@ -1,15 +1,13 @@
 -- A whole ID in special instructions against a trade's: unlike where the lengths are, and else compared where it stands in the body.
-use mathlib.Core.Path.{_≡_, refl, sym, ap, _∙_}
+use mathlib.Core.Path.{_≡_}
 use mathlib.Core.List.{List}
-use mathlib.Core.Bool.{Bool, true, false}
+use mathlib.Core.Bool.{false}
 use Prim.Native.Nat.{ℕ, min, _+_, _≤_, _<_}
 use native.Mathlib.Omega.{arith}
-use lib.ListN.{length, take, length-take}
-use lib.Seq.{take-all}
-use lib.Dec.{leb}
-use borrow.Author.Tests.{leb-true, leb-false}
+use lib.ListN.{length, length-take}
 use Rattle.lists.specs.Lists.{part}
 use Rattle.lists.proofs.Parts.{in-within, length-part}
+use Rattle.lists.proofs.Tests.{same-unlike}
 use Rattle.fields.specs.Fields.{samePart}
 use Rattle.layout.specs.Columns as columns
 use Rattle.layout.specs.Columns.{bytesIn}
@@ -18,21 +16,8 @@ use Rattle.trade_id.proofs.Found.{Characters, whole-characters}
 use Rattle.book.specs.declared.Trade.{Trade}
 use Rattle.book.specs.Messages.{idIn}
 use Rattle.book.specs.Trades.{tradeName, isNamedBy}
-use Rattle.opening.proofs.Names.{same-unlike}
+use Rattle.header.proofs.Joined.{take-lesser}
 use Rattle.trades.proofs.Compared.{part-most, part-end, part-part}
-
--- the first n of a list, where n is the lesser of a length asked for and the list's own
-take-lesser : (xs : List ℕ) (k n : ℕ) → n ≡ min k (length xs) → take n xs ≡ take k xs
-take-lesser xs k n e = go (leb k (length xs)) refl
-  where
-    go : (b : Bool) → leb k (length xs) ≡ b → take n xs ≡ take k xs
-    go true p =
-        let h = leb-true k (length xs) p in
-        let q : n ≡ k = omega arith in
-        ap (λ (m : ℕ). take m xs) q
-    go false p =
-        let h = leb-false k (length xs) p in
-        take-all n xs (omega arith) ∙ sym (take-all k xs (omega arith))
 
 module _ (body : List ℕ) (place n : ℕ) (id : idIn body ≡ Whole place n) where
   chars : Characters (bytesIn body columns.special) place n
@@ -54,7 +39,7 @@ module _ (body : List ℕ) (place n : ℕ) (id : idIn body ≡ Whole place n) wh
 
     part-name : m ≡ n → part (t .id) 0 n ≡ tradeName t
     unfolding part
-    part-name q = take-lesser (t .id) (t .length) n (omega (arith, q, e, long))
+    part-name q = take-lesser (t .id) (t .length) 16 long n (omega (arith, q, e))
 
     pub named-is : m ≡ n → samePart body (153 + place) (t .id) 0 n ≡ isNamedBy body (Whole place n) t
     unfolding samePart

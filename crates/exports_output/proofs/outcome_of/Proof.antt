@@ -1,6 +1,6 @@
 -- Each arm has the number that the definition asks for.
-use Rattle.exports_output.specs.Cells.{outcomeOf}
-use Rattle.exports_output.proofs.Cells.{dked}
+use Rattle.exports_output.specs.Rows.{outcomeOf}
+use Rattle.exports_output.proofs.Rows.{dked}
 use Rattle.exports_output.proofs.outcome_of.Statement.{statement}
 use Rattle.exports_output.proofs.outcome_of.Tie as tie
 

@@ -1,6 +1,6 @@
 -- Each arm has the number that the definition asks for.
-use Rattle.exports_output.specs.Cells.{typeOf}
-use Rattle.exports_output.proofs.Cells.{other-type}
+use Rattle.exports_output.specs.Rows.{typeOf}
+use Rattle.exports_output.proofs.Rows.{other-type}
 use Rattle.exports_output.proofs.type_of.Statement.{statement}
 use Rattle.exports_output.proofs.type_of.Tie as tie
 

@@ -8,7 +8,7 @@ use borrow.Author.Needs.{needs}
 use Rattle.lists.proofs.Parts.{drop-turn}
 use Rattle.lists.specs.Lists.{all}
 use Rattle.calendar.specs.Calendar.{isDate}
-use Rattle.opening.proofs.Looking.{all-stop, all-more}
+use Rattle.lists.proofs.Looking.{all-stop, all-more}
 use Rattle.opening.proofs.all_dates.Statement.{statement}
 use Rattle.opening.proofs.all_dates.Tie as tie
 

@@ -8,7 +8,7 @@ use borrow.Author.Tests.{eq-eqb, ne-eqb}
 use borrow.Author.Needs.{needs}
 use Rattle.lists.proofs.Parts.{drop-turn}
 use Rattle.lists.specs.Lists.{any}
-use Rattle.opening.proofs.Looking.{any-stop, any-more}
+use Rattle.lists.proofs.Looking.{any-stop, any-more}
 use Rattle.opening.proofs.holds.Statement.{statement}
 use Rattle.opening.proofs.holds.Tie as tie
 

@@ -8,7 +8,7 @@ use borrow.Author.Needs.{needs}
 use Rattle.lists.specs.Lists.{any, same}
 use Rattle.book.specs.Trades.{tradeName}
 use Rattle.book.specs.Checks.{noTrade}
-use Rattle.opening.proofs.Looking.{first-turn, first-done, any-stop, any-more}
+use Rattle.lists.proofs.Looking.{first-turn, first-done, any-stop, any-more}
 use Rattle.opening.proofs.named_from.Statement.{statement}
 use Rattle.opening.proofs.named_from.Tie as tie
 

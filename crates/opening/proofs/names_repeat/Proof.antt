@@ -8,7 +8,7 @@ use borrow.Author.Needs.{needs}
 use Rattle.book.specs.Trades.{tradeName}
 use Rattle.book.specs.Opening.{namesRepeat}
 use Rattle.book.specs.Checks.{noTrade}
-use Rattle.opening.proofs.Looking.{first-turn, first-done}
+use Rattle.lists.proofs.Looking.{first-turn, first-done}
 use Rattle.opening.proofs.Names.{repeat-stop, repeat-more}
 use Rattle.opening.proofs.names_repeat.Statement.{statement}
 use Rattle.opening.proofs.names_repeat.Tie as tie

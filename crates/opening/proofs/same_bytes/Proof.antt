@@ -1,7 +1,8 @@
 -- Slices of unlike length are unlike; others are compared as parts of their whole length.
 use mathlib.Core.Path.{_∙_}
 use borrow.Author.Needs.{needs}
-use Rattle.opening.proofs.Names.{same-unlike, same-whole}
+use Rattle.lists.proofs.Tests.{same-unlike}
+use Rattle.opening.proofs.Names.{same-whole}
 use Rattle.opening.proofs.same_bytes.Statement.{statement}
 use Rattle.opening.proofs.same_bytes.Tie as tie
 

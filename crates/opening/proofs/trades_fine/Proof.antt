@@ -8,7 +8,7 @@ use borrow.Author.Needs.{needs}
 use Rattle.lists.specs.Lists.{all}
 use Rattle.book.specs.Opening.{tradeFine}
 use Rattle.book.specs.Checks.{noTrade}
-use Rattle.opening.proofs.Looking.{first-turn, first-done, all-stop, all-more}
+use Rattle.lists.proofs.Looking.{first-turn, first-done, all-stop, all-more}
 use Rattle.opening.proofs.trades_fine.Statement.{statement}
 use Rattle.opening.proofs.trades_fine.Tie as tie
 

@@ -8,7 +8,8 @@ use borrow.Author.Needs.{needs}
 use Rattle.lists.specs.Lists.{all}
 use Rattle.book.specs.Soundness.{isNone}
 use Rattle.table.specs.Rows.{recordAt}
-use Rattle.soundness.proofs.Rows.{rest-tab, Tested, tested-stop, tested-more, tested-done}
+use Rattle.table.proofs.Rows.{drop-table}
+use Rattle.soundness.proofs.Rows.{Tested, tested-stop, tested-more, tested-done}
 use Rattle.soundness.proofs.zeros_after.Tie as tie
 use Rattle.soundness.proofs.zeros_after.Statement.{statement}
 
@@ -44,7 +45,7 @@ returns c =
     let a = c .before .before .before .before .before .before .args in
     let l = c .before .before .before .before .before .loop in
     tested-stop isNone (recordAt (a .numbers .now) (a .keys .now)) (length (a .numbers .now)) (a .live) (l .i) (l .inv .1) (omega arith) (sym (c .before .row-none .ensures) ∙ not-true _ (c .if1 .taken))
-    ∙ ap (all isNone) (sym (rest-tab (a .numbers .now) (a .keys .now) (a .live)))
+    ∙ ap (all isNone) (sym (drop-table (a .numbers .now) (a .keys .now) (a .live)))
 
 loop-less : tie.Need-loop-less Inv-loop μ-loop
 loop-less c = omega arith
@@ -60,7 +61,7 @@ returns-2 c =
     let a = c .before .before .args in
     let l = c .before .loop in
     tested-done isNone (recordAt (a .numbers .now) (a .keys .now)) (length (a .numbers .now)) (a .live) (l .i) (l .inv .1) (omega arith)
-    ∙ ap (all isNone) (sym (rest-tab (a .numbers .now) (a .keys .now) (a .live)))
+    ∙ ap (all isNone) (sym (drop-table (a .numbers .now) (a .keys .now) (a .live)))
 
 pub zeros-after-spec : {M : Type 1} → statement M
 zeros-after-spec =

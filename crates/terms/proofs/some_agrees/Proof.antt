@@ -6,7 +6,7 @@ use lib.ListN.{length, length-map, drop}
 use borrow.Author.Needs.{needs}
 use Rattle.lists.specs.Lists.{any}
 use Rattle.book.specs.Trades.{tradesOf, agrees}
-use Rattle.opening.proofs.Looking.{any-stop, any-more}
+use Rattle.lists.proofs.Looking.{any-stop, any-more}
 use Rattle.terms.proofs.Searching.{trade-turn, trade-done}
 use Rattle.terms.proofs.some_agrees.Statement.{statement}
 use Rattle.terms.proofs.some_agrees.Tie as tie

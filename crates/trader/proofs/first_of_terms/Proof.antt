@@ -5,7 +5,7 @@ use Rattle.trader.proofs.first_of_terms.Tie as tie
 use Rattle.trader.proofs.first_of_terms.Reads as reads
 use Rattle.trader.proofs.first_of_terms.Lts as lts
 use Rattle.faces.proofs.faces_fail.Reads as faces-fail-reads
-use Rattle.faces.proofs.lots_fail.Reads as lots-fail-reads
+use Rattle.new_lots.proofs.lots_fail.Reads as lots-fail-reads
 use Rattle.header.proofs.message_type.Reads as message-type-reads
 use Rattle.once.proofs.repeated.Reads as repeated-reads
 use Rattle.sender_rules.proofs.millions_fail.Reads as millions-fail-reads

@@ -1,0 +1,3 @@
+pub mod Passes
+pub mod Formed
+pub mod Sought

@@ -1,0 +1,113 @@
+// The lots that the terminators of a message make: whether they are formed (19), the replacement pools (22), the good millions (33), and the lot that begins at a pool.
+use terminator::LotRead;
+use terminator::Mark;
+ghost use mathlib.Core.Path.{_≡_};
+ghost use Prim.Native.Nat.{_<_};
+ghost use lib.ListN.{drop};
+ghost use Rattle.layout.specs.Details.{details, poolCount, detailAt, placeOf};
+ghost use Rattle.terminator.specs.Terminators.{markOf};
+ghost use Rattle.terminator.specs.Lots.{replacementCount, goodMillions, formedFor, firstLot, lots};
+ghost use Rattle.lots.specs.Walks.{walkOn};
+
+// A walk over the pools: whether the lots are formed so far, and the lot that is begun, its position one and whether it is bad.
+struct Walk {
+    formed: bool,
+    begun: bool,
+    one: u8,
+    bad: bool,
+}
+
+// What the terminator of the i-th pool says.
+fn mark_at(body: &[u8], i: usize) -> Mark
+    requires { ⌜ i < poolCount (now body) ⌝ }
+    ensures { λ r. ⌜ r ≡ markOf (detailAt (now (body .entry)) (placeOf i)) ⌝ }
+{
+    let d = layout::pool_at(body, i);
+    terminator::mark_of(d)
+}
+
+// The number of replacement pools.
+pub fn replacement_count(body: &[u8]) -> usize
+    ensures { λ r. ⌜ r ≡ replacementCount (details (now (body .entry))) ⌝ }
+{
+    let n = layout::pool_count(body);
+    let mut count: usize = 0;
+    let mut i: usize = 0;
+    while i < n {
+        let m = mark_at(body, i);
+        i += 1;
+        if m.one == terminator::REPLACEMENT {
+            count += 1;
+        }
+    }
+    count
+}
+
+// The sum of the good millions of a message's lots.
+pub fn good_millions(body: &[u8]) -> u64
+    ensures { λ r. ⌜ r ≡ goodMillions (details (now (body .entry))) ⌝ }
+{
+    let n = layout::pool_count(body);
+    let mut sum: u64 = 0;
+    let mut i: usize = 0;
+    while i < n {
+        let m = mark_at(body, i);
+        i += 1;
+        sum += m.millions;
+    }
+    sum
+}
+
+fn walk_on(w: Walk, m: Mark, cc: bool) -> Walk
+    ensures { λ r. ⌜ r ≡ walkOn cc w m ⌝ }
+{
+    let first = (((m.one == terminator::CANCELED) | (m.one == terminator::REPLACEMENT)) & cc)
+        | ((m.one == terminator::NEW) & !cc);
+    let follows = !w.begun | ((w.one == m.one) & (w.bad == m.bad));
+    Walk {
+        formed: w.formed & (follows & (first & !m.wrong)),
+        begun: !m.end,
+        one: m.one,
+        bad: m.bad,
+    }
+}
+
+// Check 19: whether the pools of an ON, or of a CC, make whole lots.
+pub fn lots_formed(body: &[u8], cc: bool) -> bool
+    ensures { λ r. ⌜ r ≡ formedFor cc (details (now (body .entry))) ⌝ }
+{
+    let n = layout::pool_count(body);
+    let mut w = Walk {
+        formed: true,
+        begun: false,
+        one: terminator::NEW,
+        bad: false,
+    };
+    let mut i: usize = 0;
+    while i < n {
+        let m = mark_at(body, i);
+        w = walk_on(w, m, cc);
+        i += 1;
+    }
+    w.formed & !w.begun
+}
+
+// The lot that begins at a pool, or nothing where no end follows.
+pub fn lot_at(body: &[u8], first: usize) -> LotRead
+    ensures { λ r. ⌜ r ≡ firstLot first (lots (drop first (details (now (body .entry))))) ⌝ }
+{
+    let n = layout::pool_count(body);
+    let mut faces: u64 = 0;
+    let mut i = first;
+    while i < n {
+        let d = layout::pool_at(body, i);
+        let m = terminator::mark_of(d);
+        let last = i;
+        faces += terminator::current_cents(d);
+        i += 1;
+        if m.end {
+            return LotRead::Found(terminator::lot_ended(d, first, last, faces));
+        }
+    }
+    LotRead::Nothing
+}

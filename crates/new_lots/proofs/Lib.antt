@@ -1,0 +1,3 @@
+pub mod Lotwise
+pub mod Checking
+pub mod Weighing
