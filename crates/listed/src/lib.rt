@@ -7,7 +7,7 @@ ghost use mathlib.Core.Bool.{true};
 ghost use Prim.Native.Nat.{ℕ, _+_, _≤_, _<_};
 ghost use lib.ListN.{length, getD};
 ghost use Rattle.layout.specs.Details.{details, poolCount, poolsMax, detailAt, placeOf};
-ghost use Rattle.terminator.specs.Terminators.{kindOf, millionsOf, isCanceled};
+ghost use Rattle.terminator.specs.Terminators.{kindOf, isCanceled};
 ghost use Rattle.book.specs.Records.{kindNumber};
 ghost use Rattle.book.specs.Opening.{recordsMax};
 ghost use Rattle.book.specs.Checks.{isCc};
@@ -121,19 +121,6 @@ fn kind_number(t: Terminator) -> u64
     }
 }
 
-fn millions_of(t: Terminator) -> u64
-    ensures { λ r. ⌜ r ≡ millionsOf t ⌝ }
-{
-    match t {
-        Terminator::Middle => 0,
-        Terminator::BadMiddle => 0,
-        Terminator::GoodEnd(n) => n,
-        Terminator::OddEnd => 0,
-        Terminator::BadEnd => 0,
-        Terminator::Wrong => 0,
-    }
-}
-
 // Whether the record of a lot's last pool has the lot's kind and millions.
 fn last_fits(d: Detail, row: [u64; 6]) -> bool
     ensures { λ r. ⌜ r ≡ lastFits d row ⌝ }
@@ -141,7 +128,8 @@ fn last_fits(d: Detail, row: [u64; 6]) -> bool
     let bytes = d.terminator;
     let t = terminator::terminator_of(bytes);
     !(bytes[0] == terminator::CANCELED)
-        | ((row[table::KIND] == kind_number(t)) & (row[table::MILLIONS] == millions_of(t)))
+        | ((row[table::KIND] == kind_number(t))
+            & (row[table::MILLIONS] == terminator::millions_of(t)))
 }
 
 // One pool more.

@@ -7,7 +7,7 @@ use mathlib.Core.List.{List, [], _++_, map, append-assoc}
 use mathlib.Core.Bool.{Bool, true, false, not, true≢false, and-false}
 use lib.ListN.{length, take, drop, replicate, length-append, length-replicate, replicate-append-replicate, take-append-drop}
 use lib.Seq.{length-take-le, take-append-seam, drop-append-add}
-use Rattle.lists.specs.Lists.{pasted, within}
+use Rattle.lists.specs.Lists.{keep, pasted, within}
 use Rattle.lists.proofs.Parts.{in-within}
 use Rattle.lists.proofs.Pasting.{paste-in}
 use Rattle.lists.proofs.Tests.{keep-all}
@@ -25,6 +25,10 @@ use Rattle.table.specs.Closed.{unmarked}
 use Rattle.table.proofs.Rows.{length-table}
 use Rattle.places.proofs.Weighing.{unmarked-keep}
 use Rattle.moves.specs.Moves.{remaining, bringing, filled, Movable}
+
+-- at most as many stay as there were
+pub keep-most : {A : Type 0} (p : A → Bool) (xs : List A) → length (keep p xs) ≤ length xs
+keep-most p xs = omega (arith, length-keep p xs)
 
 -- zeros after zeros
 pub closed-filled : (rs t : List Pool) (live n : ℕ) → length rs ≤ live → live ≤ n → drop live t ≡ replicate (n - live) noPool
@@ -63,7 +67,7 @@ module _ (body : List ℕ) (ns ks : List (List ℕ)) (live : ℕ) (ms : List ℕ
       → after ≡ unmarked ms (take live (tableOf ns ks)) ++ (replicate (live - length (unmarked ms (take live (tableOf ns ks)))) noPool ++ drop live (tableOf ns ks))
       → (r ≡ length (remaining body (take live (tableOf ns ks)))) × (after ≡ filled (length ns) (remaining body (take live (tableOf ns ks))))
   taken-off r after er ea =
-      let h : length (remaining body (take live (tableOf ns ks))) ≤ length (take live (tableOf ns ks)) = omega (arith, length-keep (isTaken (targetOf body) (listed body)) (take live (tableOf ns ks))) in
+      let h : length (remaining body (take live (tableOf ns ks))) ≤ length (take live (tableOf ns ks)) = keep-most _ (take live (tableOf ns ks)) in
       let f = closed-filled (remaining body (take live (tableOf ns ks))) (tableOf ns ks) live (length ns) (omega (arith, h, size)) (m .within) (m .zeros) in
       (er ∙ ap length stays, rw stays at ea ∙ f)
 

@@ -142,7 +142,8 @@ fn kind_of(t: Terminator) -> Kind
     }
 }
 
-fn millions_of(t: Terminator) -> u64
+// The millions of a good lot, and 0 of any other.
+pub fn millions_of(t: Terminator) -> u64
     ensures { λ r. ⌜ r ≡ millionsOf t ⌝ }
 {
     match t {

@@ -6,7 +6,7 @@ use Rattle.listed.proofs.last_fits.Tie as tie
 use Rattle.listed.proofs.last_fits.Reads as reads
 use Rattle.listed.proofs.last_fits.Lts as lts
 use Rattle.listed.proofs.kind_number.Reads as kind-number-reads
-use Rattle.listed.proofs.millions_of.Reads as millions-of-reads
+use Rattle.terminator.proofs.millions_of.Reads as millions-of-reads
 use Rattle.terminator.proofs.terminator_of.Reads as terminator-of-reads
 
 terminator-of-requires : tie.Need-terminator-of-requires
