@@ -1,0 +1,4 @@
+pub mod Looking
+pub mod Filling
+pub mod Fits
+pub mod Rows
