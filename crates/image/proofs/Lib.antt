@@ -2,3 +2,5 @@ pub mod Looking
 pub mod Filling
 pub mod Fits
 pub mod Rows
+pub mod Rest
+pub mod Whole

@@ -376,3 +376,163 @@ pub fn read_book(words: &[u64]) -> Read
         book: book_in(words),
     }
 }
+
+// ---- writing
+
+// Writes the bytes of s from at, a word each. Bytes that do not fit are not written.
+fn put_bytes(words: &mut [u64], at: usize, s: &[u8])
+    ensures { λ _. ⌜ now (words .exit) ≡ pasted (now (words .entry)) at (now (s .entry)) ⌝ }
+{
+    if words.len() < at {
+        return;
+    }
+    if words.len() - at < s.len() {
+        return;
+    }
+    let mut i: usize = 0;
+    while i < s.len() {
+        words[at + i] = s[i] as u64;
+        i += 1;
+    }
+}
+
+// Writes the numbers of s from at, a word each. Numbers that do not fit are not written.
+fn put_numbers(words: &mut [u64], at: usize, s: &[u32])
+    ensures { λ _. ⌜ now (words .exit) ≡ pasted (now (words .entry)) at (now (s .entry)) ⌝ }
+{
+    if words.len() < at {
+        return;
+    }
+    if words.len() - at < s.len() {
+        return;
+    }
+    let mut i: usize = 0;
+    while i < s.len() {
+        words[at + i] = s[i] as u64;
+        i += 1;
+    }
+}
+
+// Writes the words of s from at. Words that do not fit are not written.
+fn put_words(words: &mut [u64], at: usize, s: &[u64])
+    ensures { λ _. ⌜ now (words .exit) ≡ pasted (now (words .entry)) at (now (s .entry)) ⌝ }
+{
+    if words.len() < at {
+        return;
+    }
+    if words.len() - at < s.len() {
+        return;
+    }
+    let mut i: usize = 0;
+    while i < s.len() {
+        words[at + i] = s[i];
+        i += 1;
+    }
+}
+
+// The words of a trade.
+fn trade_words(t: Trade) -> [u64; TRADE_WORDS]
+    ensures { λ r. ⌜ r ≡ tradeImage t ⌝ }
+{
+    let id = t.id;
+    let seller = t.seller;
+    let buyer = t.buyer;
+    let contra = t.contra;
+    let cusip = t.cusip;
+    let length = [t.length as u64];
+    let numbers = [t.settlement, t.price, t.par, t.left];
+    let mut row = [0u64; TRADE_WORDS];
+    put_bytes(&mut row, ID, &id);
+    put_words(&mut row, LENGTH, &length);
+    put_bytes(&mut row, SELLER, &seller);
+    put_bytes(&mut row, BUYER, &buyer);
+    put_bytes(&mut row, CONTRA, &contra);
+    put_bytes(&mut row, CUSIP, &cusip);
+    put_words(&mut row, SETTLEMENT, &numbers);
+    row
+}
+
+// Writes the words of the trades from the front.
+fn put_trades(words: &mut [u64], trades: [Trade; 64])
+    requires { ⌜ tradesWords ≤ length (now words) ⌝ }
+    ensures { λ _. ⌜ (now (words .exit) ≡ pasted (now (words .entry)) 0 (flatMap tradeImage trades)) × (length (flatMap tradeImage trades) ≡ tradesWords) ⌝ }
+{
+    let mut i: usize = 0;
+    while i < book::TRADES_MAX {
+        let t = trades[i];
+        let row = trade_words(t);
+        put_words(&mut *words, i * TRADE_WORDS, &row);
+        i += 1;
+    }
+}
+
+// Whether a number was received: 1 or 0.
+fn flag_of(received: Received) -> u64
+    ensures { λ r. ⌜ r ≡ flagOf received ⌝ }
+{
+    match received {
+        Received::Nothing => 0,
+        Received::Last(_) => 1,
+    }
+}
+
+// The last number received, 0 where there is none.
+fn last_of(received: Received) -> u64
+    ensures { λ r. ⌜ r ≡ lastOf received ⌝ }
+{
+    match received {
+        Received::Nothing => 0,
+        Received::Last(last) => last.0 as u64,
+    }
+}
+
+// The words of all of a book but its trades.
+fn rest_words(book: Book) -> [u64; REST_WORDS]
+    ensures { λ r. ⌜ r ≡ restImage book ⌝ }
+{
+    let values = book.values;
+    let line = book.line;
+    let limits = values.limits;
+    let received = line.received;
+    let holidays = values.holidays;
+    let subscriber = values.subscriber;
+    let connection = values.connection;
+    let count = [values.count as u64];
+    let days = [values.days as u64];
+    let flag = flag_of(received);
+    let last = last_of(received);
+    let numbers = [
+        limits.ceiling,
+        limits.variance,
+        limits.pools,
+        limits.least,
+        values.last,
+        values.outbound.0 as u64,
+        flag,
+        last,
+        line.expected.0 as u64,
+        book.live as u64,
+    ];
+    let mut rest = [0u64; REST_WORDS];
+    put_words(&mut rest, COUNT, &count);
+    put_numbers(&mut rest, HOLIDAYS, &holidays);
+    put_words(&mut rest, DAYS, &days);
+    put_bytes(&mut rest, SUBSCRIBER, &subscriber);
+    put_bytes(&mut rest, CONNECTION, &connection);
+    put_words(&mut rest, CEILING, &numbers);
+    rest
+}
+
+// Writes a book from the front. A slice that is too short for it stays as it is.
+pub fn write_book(words: &mut [u64], book: Book)
+    ensures { λ _. ⌜ now (words .exit) ≡ pasted (now (words .entry)) 0 (imageOf book) ⌝ }
+{
+    let values = book.values;
+    let trades = values.trades;
+    let rest = rest_words(book);
+    if words.len() < BOOK_WORDS {
+        return;
+    }
+    put_trades(&mut *words, trades);
+    put_words(&mut *words, REST, &rest);
+}

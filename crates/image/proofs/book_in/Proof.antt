@@ -1,3 +1,5 @@
+use native.Mathlib.Omega.{arith}
+use Rattle.image.proofs.Whole.{image-length, image-trades, length-rest, slice-fits, book-is}
 use borrow.Author.Needs.{needs}
 use Rattle.image.proofs.book_in.Statement.{statement}
 use Rattle.image.proofs.book_in.Tie as tie
@@ -8,7 +10,7 @@ use Rattle.image.proofs.read_trades.Reads as read-trades-reads
 
 -- src/lib.rt:336:9
 read-trades-requires : tie.Need-read-trades-requires
-read-trades-requires c κs = search needs
+read-trades-requires c κs = let s = c .before in (image-length (s .args .words .now) (s .pre), image-trades (s .args .words .now) (s .pre))
 
 -- src/lib.rt:337:23
 sub-read-rest : tie.Need-sub-read-rest
@@ -20,15 +22,15 @@ part-read-rest-start c = search needs
 
 -- src/lib.rt:337:23
 part-read-rest-end : tie.Need-part-read-rest-end
-part-read-rest-end c = search needs
+part-read-rest-end c = let s = c .before .before in omega (arith, image-length (s .args .words .now) (s .pre))
 
 -- src/lib.rt:337:5
 read-rest-requires : tie.Need-read-rest-requires
-read-rest-requires c κs = search needs
+read-rest-requires c κs = let s = c .before .before .before in (length-rest (s .args .words .now) (image-length (s .args .words .now) (s .pre)), slice-fits (s .args .words .now) (s .pre))
 
 -- src/lib.rt:332:1
 returns : tie.Need-returns
-returns c = search needs
+returns c = book-is (c .before .before .before .before .args .words .now) _ _ (c .before .before .read-trades .ensures) (c .read-rest .ensures)
 
 pub book-in-spec : {M : Type 1} → statement M
 book-in-spec =

@@ -1,3 +1,4 @@
+use Rattle.image.proofs.Whole.{wrong-length, wrong-trade, image-by-rest}
 use borrow.Author.Needs.{needs}
 use Rattle.image.proofs.is_image.Statement.{statement}
 use Rattle.image.proofs.is_image.Tie as tie
@@ -8,7 +9,7 @@ use Rattle.image.proofs.trades_fit.Reads as trades-fit-reads
 
 -- src/lib.rt:323:9
 returns : tie.Need-returns
-returns c = search needs
+returns c = wrong-length (c .before .before .args .words .now) (c .if1 .taken)
 
 -- src/lib.rt:325:9
 trades-fit-requires : tie.Need-trades-fit-requires
@@ -16,7 +17,7 @@ trades-fit-requires c κs = search needs
 
 -- src/lib.rt:326:9
 returns-2 : tie.Need-returns-2
-returns-2 c = search needs
+returns-2 c = wrong-trade (c .before .before .before .before .args .words .now) (c .before .before .if1 .left) _ (c .before .trades-fit .ensures) (c .if2 .taken)
 
 -- src/lib.rt:328:15
 sub-rest-fits : tie.Need-sub-rest-fits
@@ -36,7 +37,7 @@ rest-fits-requires c κs = search needs
 
 -- src/lib.rt:319:1
 returns-3 : tie.Need-returns-3
-returns-3 c = search needs
+returns-3 c = image-by-rest (c .before .before .before .before .before .before .args .words .now) (c .before .before .before .before .if1 .left) _ (c .before .before .before .trades-fit .ensures) (c .before .before .if2 .left) _ (c .rest-fits .ensures)
 
 pub is-image-spec : {M : Type 1} → statement M
 is-image-spec =

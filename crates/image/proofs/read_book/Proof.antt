@@ -1,3 +1,6 @@
+use mathlib.Core.Path.{sym}
+use mathlib.Core.Bool.{false≢true}
+use Rattle.image.proofs.Whole.{is-damaged, is-fine}
 use borrow.Author.Needs.{needs}
 use Rattle.image.proofs.read_book.Statement.{statement}
 use Rattle.image.proofs.read_book.Tie as tie
@@ -17,15 +20,15 @@ no-book-requires c κs = search needs
 
 -- src/lib.rt:372:9
 returns : tie.Need-returns
-returns c = search needs
+returns c = (is-damaged (c .before .before .before .before .args .words .now) _ (c .before .before .is-image .ensures) (c .before .if1 .taken), λ e. absurd (false≢true e))
 
 -- src/lib.rt:379:15
 book-in-requires : tie.Need-book-in-requires
-book-in-requires c κs = search needs
+book-in-requires c κs = sym (is-fine (c .before .before .before .args .words .now) _ (c .before .is-image .ensures) (c .if1 .left))
 
 -- src/lib.rt:368:1
 returns-2 : tie.Need-returns-2
-returns-2 c = search needs
+returns-2 c = (is-fine (c .before .before .before .before .args .words .now) _ (c .before .before .is-image .ensures) (c .before .if1 .left), λ e. c .book-in .ensures)
 
 pub read-book-spec : {M : Type 1} → statement M
 read-book-spec =

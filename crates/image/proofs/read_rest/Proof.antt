@@ -1,3 +1,5 @@
+use native.Mathlib.Omega.{arith}
+use Rattle.image.proofs.Rest.{rest-dates, rest-accounts, rest-outbound, rest-received, rest-expected, rest-read}
 use borrow.Author.Needs.{needs}
 use Rattle.image.proofs.read_rest.Statement.{statement}
 use Rattle.image.proofs.read_rest.Tie as tie
@@ -13,7 +15,7 @@ slice-aggregate-read-numbers c = search needs
 
 -- src/lib.rt:287:5
 read-numbers-requires : tie.Need-read-numbers-requires
-read-numbers-requires c κs = search needs
+read-numbers-requires c κs = let s = c .before .before in (omega arith, rest-dates (s .args .rest .now) (s .pre .1))
 
 -- src/lib.rt:288:16
 slice-aggregate-read-bytes : tie.Need-slice-aggregate-read-bytes
@@ -21,7 +23,7 @@ slice-aggregate-read-bytes c = search needs
 
 -- src/lib.rt:288:5
 read-bytes-requires : tie.Need-read-bytes-requires
-read-bytes-requires c κs = search needs
+read-bytes-requires c κs = let s = c .before .before .before .before .before in (omega arith, rest-accounts (s .args .rest .now) (s .pre .1) (s .pre .0) 34 (omega arith) (omega arith))
 
 -- src/lib.rt:289:16
 slice-aggregate-read-bytes-2 : tie.Need-slice-aggregate-read-bytes-2
@@ -29,7 +31,7 @@ slice-aggregate-read-bytes-2 c = search needs
 
 -- src/lib.rt:289:5
 read-bytes-requires-2 : tie.Need-read-bytes-requires-2
-read-bytes-requires-2 c κs = search needs
+read-bytes-requires-2 c κs = let s = c .before .before .before .before .before .before .before .before in (omega arith, rest-accounts (s .args .rest .now) (s .pre .1) (s .pre .0) 38 (omega arith) (omega arith))
 
 -- src/lib.rt:290:34
 shared-slice-read-read-received : tie.Need-shared-slice-read-read-received
@@ -41,7 +43,7 @@ shared-slice-read-read-received-2 c = search needs
 
 -- src/lib.rt:290:9
 read-received-requires : tie.Need-read-received-requires
-read-received-requires c κs = search needs
+read-received-requires c κs = let s = c .before .before .before .before .before .before .before .before .before .before .before .before in rest-received (s .args .rest .now) (s .pre .1)
 
 -- src/lib.rt:292:18
 shared-slice-read-t17 : tie.Need-shared-slice-read-t17
@@ -77,7 +79,7 @@ shared-slice-read-t19-2 c = search needs
 
 -- src/lib.rt:306:28
 cast-t35 : tie.Need-cast-t35
-cast-t35 c = search needs
+cast-t35 c = let s = c .before .before .before .before .before .before .before .before .before .before .before .before .before .before .before .before .before .before .before .before .before in omega (arith, rest-outbound (s .args .rest .now) (s .pre .1))
 
 -- src/lib.rt:312:31
 shared-slice-read-t17-3 : tie.Need-shared-slice-read-t17-3
@@ -85,7 +87,7 @@ shared-slice-read-t17-3 c = search needs
 
 -- src/lib.rt:312:31
 cast-t35-2 : tie.Need-cast-t35-2
-cast-t35-2 c = search needs
+cast-t35-2 c = let s = c .before .before .before .before .before .before .before .before .before .before .before .before .before .before .before .before .before .before .before .before .before .before in omega (arith, rest-expected (s .args .rest .now) (s .pre .1))
 
 -- src/lib.rt:314:15
 shared-slice-read-t25-3 : tie.Need-shared-slice-read-t25-3
@@ -93,7 +95,7 @@ shared-slice-read-t25-3 c = search needs
 
 -- src/lib.rt:280:1
 returns : tie.Need-returns
-returns c = search needs
+returns c = let s = c .before .before .before .before .before .before .before .before .before .before .before .before .before .before .before .before .before .before .before .before .before .before .before in rest-read (s .args .rest .now) (s .args .trades) _ _ _ _ (c .before .before .before .before .before .before .before .before .before .before .before .before .before .before .before .before .before .before .before .before .read-numbers .ensures) (c .before .before .before .before .before .before .before .before .before .before .before .before .before .before .before .before .before .read-bytes .ensures) (c .before .before .before .before .before .before .before .before .before .before .before .before .before .before .read-bytes2 .ensures) (c .before .before .before .before .before .before .before .before .before .before .read-received .ensures)
 
 pub read-rest-spec : {M : Type 1} → statement M
 read-rest-spec =

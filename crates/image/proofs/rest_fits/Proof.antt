@@ -1,3 +1,4 @@
+use Rattle.image.proofs.Rest.{rest-tests}
 use borrow.Author.Needs.{needs}
 use Rattle.image.proofs.rest_fits.Statement.{statement}
 use Rattle.image.proofs.rest_fits.Tie as tie
@@ -36,7 +37,7 @@ shared-slice-read-result-2 c = search needs
 
 -- src/lib.rt:267:1
 returns : tie.Need-returns
-returns c = search needs
+returns c = rest-tests (c .before .before .before .before .before .before .before .before .args .rest .now) _ _ _ (c .before .before .before .all-below .ensures) (c .before .before .all-below2 .ensures) (c .before .before .before .before .received-fits .ensures)
 
 pub rest-fits-spec : {M : Type 1} → statement M
 rest-fits-spec =

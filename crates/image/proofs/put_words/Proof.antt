@@ -1,0 +1,88 @@
+use borrow.Author.Needs.{needs}
+use Rattle.image.proofs.put_words.Statement.{statement}
+use Rattle.image.proofs.put_words.Tie as tie
+use Rattle.image.proofs.put_words.Reads as reads
+use Rattle.image.proofs.put_words.Lts as lts
+
+abbrev Inv-loop : tie.InvT-loop
+Inv-loop words₀ at s i₀ words i = ?
+
+abbrev μ-loop : tie.MeasureT-loop
+μ-loop words₀ at s i₀ words i = ?
+
+-- src/lib.rt:421:9
+returns : tie.Need-returns Inv-loop μ-loop
+returns c = search needs
+
+-- src/lib.rt:423:8
+sub-if2 : tie.Need-sub-if2 Inv-loop μ-loop
+sub-if2 c = search needs
+
+-- src/lib.rt:424:9
+returns-2 : tie.Need-returns-2 Inv-loop μ-loop
+returns-2 c = search needs
+
+-- src/lib.rt:427:5
+loop-holds : tie.Need-loop-holds Inv-loop μ-loop
+loop-holds c = search needs
+
+-- src/lib.rt:428:25
+mul-words : tie.Need-mul-words Inv-loop μ-loop
+mul-words c = search needs
+
+-- src/lib.rt:428:25
+shared-slice-read-words : tie.Need-shared-slice-read-words Inv-loop μ-loop
+shared-slice-read-words c = search needs
+
+-- src/lib.rt:428:15
+add-words : tie.Need-add-words Inv-loop μ-loop
+add-words c = search needs
+
+-- src/lib.rt:428:9
+mul-words-2 : tie.Need-mul-words-2 Inv-loop μ-loop
+mul-words-2 c = search needs
+
+-- src/lib.rt:428:9
+slice-write-words : tie.Need-slice-write-words Inv-loop μ-loop
+slice-write-words c = search needs
+
+-- src/lib.rt:429:9
+add-i : tie.Need-add-i Inv-loop μ-loop
+add-i c = search needs
+
+-- src/lib.rt:427:5
+loop-less : tie.Need-loop-less Inv-loop μ-loop
+loop-less c = search needs
+
+-- src/lib.rt:427:5
+loop-again : tie.Need-loop-again Inv-loop μ-loop
+loop-again c = search needs
+
+-- src/lib.rt:417:1
+same-length : tie.Need-same-length Inv-loop μ-loop
+same-length c = search needs
+
+-- src/lib.rt:417:1
+returns-3 : tie.Need-returns-3 Inv-loop μ-loop
+returns-3 c = search needs
+
+pub put-words-spec : {M : Type 1} → statement M
+put-words-spec =
+    tie.close
+    (tie.spec
+    Inv-loop
+    μ-loop
+    returns
+    sub-if2
+    returns-2
+    loop-holds
+    mul-words
+    shared-slice-read-words
+    add-words
+    mul-words-2
+    slice-write-words
+    add-i
+    loop-less
+    loop-again
+    same-length
+    returns-3)
