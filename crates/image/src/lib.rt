@@ -379,6 +379,18 @@ pub fn read_book(words: &[u64]) -> Read
 
 // ---- writing
 
+fn byte_word(x: u8) -> u64
+    ensures { λ r. ⌜ r ≡ x ⌝ }
+{
+    x as u64
+}
+
+fn number_word(x: u32) -> u64
+    ensures { λ r. ⌜ r ≡ x ⌝ }
+{
+    x as u64
+}
+
 // Writes the bytes of s from at, a word each. Bytes that do not fit are not written.
 fn put_bytes(words: &mut [u64], at: usize, s: &[u8])
     ensures { λ _. ⌜ now (words .exit) ≡ pasted (now (words .entry)) at (now (s .entry)) ⌝ }
@@ -391,7 +403,7 @@ fn put_bytes(words: &mut [u64], at: usize, s: &[u8])
     }
     let mut i: usize = 0;
     while i < s.len() {
-        words[at + i] = s[i] as u64;
+        words[at + i] = byte_word(s[i]);
         i += 1;
     }
 }
@@ -408,7 +420,7 @@ fn put_numbers(words: &mut [u64], at: usize, s: &[u32])
     }
     let mut i: usize = 0;
     while i < s.len() {
-        words[at + i] = s[i] as u64;
+        words[at + i] = number_word(s[i]);
         i += 1;
     }
 }

@@ -1,3 +1,8 @@
+use Prim.Native.Nat.{_≤_, _-_}
+use native.Mathlib.Omega.{arith}
+use mathlib.Core.Path.{_≡_, refl}
+use lib.ListN.{length, length-set}
+use Rattle.lists.proofs.Pasting.{Pasting, pasting-none, pasting-past, pasting-short, pasting-more, pasting-done}
 use borrow.Author.Needs.{needs}
 use Rattle.image.proofs.put_words.Statement.{statement}
 use Rattle.image.proofs.put_words.Tie as tie
@@ -5,14 +10,14 @@ use Rattle.image.proofs.put_words.Reads as reads
 use Rattle.image.proofs.put_words.Lts as lts
 
 abbrev Inv-loop : tie.InvT-loop
-Inv-loop words₀ at s i₀ words i = ?
+Inv-loop words₀ at s i₀ words i = (i ≤ length s) × (length words ≡ length words₀) × Pasting words₀ at s (length s) refl words i
 
 abbrev μ-loop : tie.MeasureT-loop
-μ-loop words₀ at s i₀ words i = ?
+μ-loop words₀ at s i₀ words i = length s - i
 
 -- src/lib.rt:421:9
 returns : tie.Need-returns Inv-loop μ-loop
-returns c = search needs
+returns c = let a = c .before .args in pasting-past (a .words .now) (a .at) (a .s .now) _ refl (omega arith)
 
 -- src/lib.rt:423:8
 sub-if2 : tie.Need-sub-if2 Inv-loop μ-loop
@@ -20,11 +25,11 @@ sub-if2 c = search needs
 
 -- src/lib.rt:424:9
 returns-2 : tie.Need-returns-2 Inv-loop μ-loop
-returns-2 c = search needs
+returns-2 c = let a = c .before .before .args in pasting-short (a .words .now) (a .at) (a .s .now) _ refl (omega arith)
 
 -- src/lib.rt:427:5
 loop-holds : tie.Need-loop-holds Inv-loop μ-loop
-loop-holds c = search needs
+loop-holds c = let a = c .before .before .args in (search needs, refl, pasting-none (a .words .now) (a .at) (a .s .now) _ refl)
 
 -- src/lib.rt:428:25
 mul-words : tie.Need-mul-words Inv-loop μ-loop
@@ -56,7 +61,10 @@ loop-less c = search needs
 
 -- src/lib.rt:427:5
 loop-again : tie.Need-loop-again Inv-loop μ-loop
-loop-again c = search needs
+loop-again c =
+    let a = c .before .before .before .before .before .args in
+    let l = c .before .before .loop in
+    (omega arith, simp length-set (l .inv .1), pasting-more (a .words .now) (a .at) (a .s .now) _ refl (l .words) (l .i) (l .inv .2) _ 0 refl (omega arith) (omega arith))
 
 -- src/lib.rt:417:1
 same-length : tie.Need-same-length Inv-loop μ-loop
@@ -64,7 +72,10 @@ same-length c = search needs
 
 -- src/lib.rt:417:1
 returns-3 : tie.Need-returns-3 Inv-loop μ-loop
-returns-3 c = search needs
+returns-3 c =
+    let a = c .before .before .before .before .args in
+    let l = c .before .loop in
+    pasting-done (a .words .now) (a .at) (a .s .now) _ refl (l .words) (l .i) (l .inv .2) (omega arith) (omega arith) (omega arith) (omega arith)
 
 pub put-words-spec : {M : Type 1} → statement M
 put-words-spec =
