@@ -1,3 +1,10 @@
+use Prim.Native.Nat.{_≤_, _-_}
+use native.Mathlib.Omega.{arith}
+use mathlib.Core.Path.{_≡_, refl, _∙_}
+use lib.ListN.{length}
+use Rattle.book.specs.Checks.{noTrade}
+use Rattle.image.specs.Images.{tradeImage}
+use Rattle.image.proofs.Joining.{Joining, joining-none, joining-more, joining-done}
 use borrow.Author.Needs.{needs}
 use Rattle.image.proofs.put_trades.Statement.{statement}
 use Rattle.image.proofs.put_trades.Tie as tie
@@ -7,14 +14,14 @@ use Rattle.image.proofs.put_words.Reads as put-words-reads
 use Rattle.image.proofs.trade_words.Reads as trade-words-reads
 
 abbrev Inv-loop : tie.InvT-loop
-Inv-loop words₀ trades i₀ words i = ?
+Inv-loop words₀ trades i₀ words i = (i ≤ 64) × (length words ≡ length words₀) × Joining tradeImage trades words₀ words i
 
 abbrev μ-loop : tie.MeasureT-loop
-μ-loop words₀ trades i₀ words i = ?
+μ-loop words₀ trades i₀ words i = 64 - i
 
 -- src/lib.rt:461:5
 loop-holds : tie.Need-loop-holds Inv-loop μ-loop
-loop-holds c = search needs
+loop-holds c = let a = c .before .args in (omega arith, refl, joining-none tradeImage (a .t2) (a .words .now))
 
 -- src/lib.rt:462:17
 mul-t : tie.Need-mul-t Inv-loop μ-loop
@@ -50,15 +57,22 @@ loop-less c = search needs
 
 -- src/lib.rt:461:5
 loop-again : tie.Need-loop-again Inv-loop μ-loop
-loop-again c = search needs
+loop-again c =
+    let s = c .before .before .before .before .before .before .before .before .before .before in
+    let l = c .before .before .before .before .before .before .before .before .loop in
+    (omega arith, c .before .before .put-words .kept .0 ∙ l .inv .1, joining-more tradeImage (s .args .t2) (s .args .words .now) (l .words) _ (l .i) (l .inv .2) _ noTrade (c .before .before .before .before .before .trade-words .ensures) (c .before .before .before .before .before .trade-words .ok .1 .0 .1) (c .before .before .put-words .ensures) (omega (arith, s .good .1 .0 .1 .0 .1)))
 
 -- src/lib.rt:456:1
 same-length : tie.Need-same-length Inv-loop μ-loop
-same-length c = search needs
+same-length c = c .before .loop .inv .1
 
 -- src/lib.rt:456:1
 returns : tie.Need-returns Inv-loop μ-loop
-returns c = search needs
+returns c =
+    let s = c .before .before .before in
+    let l = c .before .loop in
+    let b = joining-done tradeImage (s .args .t2) (s .args .words .now) (l .words) (l .i) 64 (l .inv .2) (omega arith) (s .good .1 .0 .1 .0 .1) in
+    (b .is (s .pre), b .long)
 
 pub put-trades-spec : {M : Type 1} → statement M
 put-trades-spec =

@@ -1,3 +1,5 @@
+use mathlib.Core.Path.{refl, sym}
+use Rattle.acknowledgment.proofs.Building.{first, part, filled, field-length}
 use borrow.Author.Needs.{needs}
 use Rattle.image.proofs.rest_words.Statement.{statement}
 use Rattle.image.proofs.rest_words.Tie as tie
@@ -67,7 +69,7 @@ slice-aggregate-put-bytes c = search needs
 
 -- src/lib.rt:520:38
 slice-aggregate-put-bytes-2 : tie.Need-slice-aggregate-put-bytes-2
-slice-aggregate-put-bytes-2 c = search needs
+slice-aggregate-put-bytes-2 c = let s = c .before .before .before .before .before .before .before .before .before .before .before .before .before .before .before .before .before .before .before .before .before .before .before .before in sym (field-length _ (s .args .book .values .subscriber) (s .good .0 .1 .1 .0 .1 .1 .1 .1 .1 .1 .0 .1 .0 .1))
 
 -- src/lib.rt:520:5
 put-bytes-requires : tie.Need-put-bytes-requires
@@ -79,7 +81,7 @@ slice-aggregate-put-bytes-3 c = search needs
 
 -- src/lib.rt:521:38
 slice-aggregate-put-bytes-4 : tie.Need-slice-aggregate-put-bytes-4
-slice-aggregate-put-bytes-4 c = search needs
+slice-aggregate-put-bytes-4 c = let s = c .before .before .before .before .before .before .before .before .before .before .before .before .before .before .before .before .before .before .before .before .before .before .before .before .before .before .before .before in sym (field-length _ (s .args .book .values .connection) (s .good .0 .1 .1 .0 .1 .1 .1 .1 .1 .1 .1 .0 .1 .0 .1))
 
 -- src/lib.rt:521:5
 put-bytes-requires-2 : tie.Need-put-bytes-requires-2
