@@ -9,7 +9,9 @@ use lib.Seq.{take-suc, take-all}
 use Rattle.lists.specs.Lists.{within, pasted}
 use Rattle.lists.proofs.Parts.{in-within}
 use Rattle.lists.proofs.Pasting.{paste-in}
-use Rattle.acknowledgment.proofs.Building.{Built, part}
+use Rattle.acknowledgment.proofs.Building.{Built, first, part, filled}
+use Rattle.book.specs.declared.Book.{Book}
+use Rattle.image.specs.Images.{tradesWords, restWords, bookWords, tradeImage, restImage, imageOf}
 
 module _ {A : Type 0} (f : A → List ℕ) where
   pub join-append : (xs ys : List A) → flatMap f (xs ++ ys) ≡ flatMap f xs ++ flatMap f ys
@@ -53,3 +55,11 @@ module _ {A : Type 0} (f : A → List ℕ) where
     joining-done o i n inv e l =
         let w : flatMap f (take i xs) ≡ flatMap f xs = ap (flatMap f) (take-all i xs (omega arith)) in
         record { is = λ k. inv .is (omega arith) ∙ ap (pasted o₀ 0) w; long = sym (ap length w) ∙ inv .long ∙ ap (λ (k : ℕ). k * 42) e }
+
+-- the trades' words and then those of the rest fill the image
+pub image-made : (b : Book) (o₀ o o′ rest : List ℕ) → length o₀ ≡ bookWords
+    → o ≡ pasted o₀ 0 (flatMap tradeImage (b .values .trades)) → length (flatMap tradeImage (b .values .trades)) ≡ tradesWords
+    → rest ≡ restImage b → length rest ≡ restWords → o′ ≡ pasted o 2688 rest → o′ ≡ imageOf b
+unfolding imageOf
+image-made b o₀ o o′ rest l e n q m f =
+    filled (part rest (first e refl n) f m) (sym l) ∙ ap (λ (r : List ℕ). flatMap tradeImage (b .values .trades) ++ r) q

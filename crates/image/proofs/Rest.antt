@@ -1,6 +1,6 @@
 -- The words after the trades: what was received, their tests in order, and the book that they make with some trades.
 use mathlib.Core.Path.{_≡_, refl, sym, ap, _∙_}
-use mathlib.Core.List.{List}
+use mathlib.Core.List.{List, [], _∷_, _++_}
 use mathlib.Core.Bool.{Bool, true, false, _&&_, _||_, false≢true}
 use Prim.Native.Nat.{ℕ, _+_, _≤_, _<_}
 use native.Mathlib.Omega.{arith}
@@ -14,7 +14,7 @@ use Rattle.sequence.specs.declared.Received.the-variants.{Nothing, Last}
 use Rattle.sequence.specs.Sequence.{inbound, outbound}
 use Rattle.book.specs.declared.Trade.{Trade}
 use Rattle.book.specs.declared.Book.{Book}
-use Rattle.image.specs.Images.{restWords, isByte, isNumber, receivedFits, restFits, receivedIn, bookFrom}
+use Rattle.image.specs.Images.{restWords, isByte, isNumber, flagOf, lastOf, restImage, receivedFits, restFits, receivedIn, bookFrom}
 use Rattle.image.proofs.Looking.{all-within}
 
 -- ---- what was received
@@ -88,3 +88,12 @@ module _ (rest : List ℕ) where
       (bookFrom trades rest)
   unfolding bookFrom
   rest-read trades holidays subscriber connection received p q r s = rw (p, q, r, s)
+
+-- ---- as it is written
+pub rest-made : (b : Book) (flag last : ℕ) → flag ≡ flagOf (b .line .received) → last ≡ lastOf (b .line .received)
+    → (b .values .count ∷ []) ++ b .values .holidays ++ (b .values .days ∷ []) ++ b .values .subscriber ++ b .values .connection
+    ++ (b .values .limits .ceiling ∷ b .values .limits .variance ∷ b .values .limits .pools ∷ b .values .limits .least
+    ∷ b .values .last ∷ b .values .outbound .0 ∷ flag ∷ last ∷ b .line .expected .0 ∷ b .live ∷ [])
+    ≡ restImage b
+unfolding restImage
+rest-made b flag last e f = rw (e, f)

@@ -1,3 +1,6 @@
+use lib.ListN.{replicate, length-replicate}
+use Prim.Native.Nat.{ℕ}
+use Rattle.image.proofs.Joining.{image-made}
 use borrow.Author.Needs.{needs}
 use Rattle.image.proofs.image_of.Statement.{statement}
 use Rattle.image.proofs.image_of.Tie as tie
@@ -33,7 +36,9 @@ put-words-requires c κs = search needs
 
 -- src/lib.rt:539:1
 returns : tie.Need-returns
-returns c = search needs
+returns c =
+    let p = c .before .before .before .before .before .put-trades .ensures in
+    image-made (c .before .before .before .before .before .before .before .before .before .before .args .book) (replicate 2740 0) _ _ _ (length-replicate {A = ℕ} 2740 0) (p .0) (p .1) (c .before .before .before .before .before .before .before .rest-words .ensures) (c .before .before .before .before .before .before .before .rest-words .ok .1 .0 .1) (c .before .put-words .ensures)
 
 pub image-of-spec : {M : Type 1} → statement M
 image-of-spec =

@@ -1,4 +1,5 @@
-use mathlib.Core.Path.{refl, sym}
+use mathlib.Core.Path.{refl, sym, _∙_}
+use Rattle.image.proofs.Rest.{rest-made}
 use Rattle.acknowledgment.proofs.Building.{first, part, filled, field-length}
 use borrow.Author.Needs.{needs}
 use Rattle.image.proofs.rest_words.Statement.{statement}
@@ -101,7 +102,17 @@ put-words-requires-3 c κs = search needs
 
 -- src/lib.rt:490:1
 returns : tie.Need-returns
-returns c = search needs
+returns c =
+    let s = c .before .before .before .before .before .before .before .before .before .before .before .before .before .before .before .before .before .before .before .before .before .before .before .before .before .before .before .before .before .before .before .before .before .before in
+    let v = s .args .book .values in
+    let good = s .good .0 .1 .1 .0 .1 .1 in
+    let b1 = first (c .before .before .before .before .before .before .before .before .before .before .before .before .before .before .before .before .before .before .before .before .before .put-words .ensures) refl refl in
+    let b2 = part _ b1 (c .before .before .before .before .before .before .before .before .before .before .before .before .before .before .before .before .before .put-numbers .ensures) (field-length _ (v .holidays) (good .1 .1 .0 .1 .0 .1)) in
+    let b3 = part _ b2 (c .before .before .before .before .before .before .before .before .before .before .before .before .before .put-words2 .ensures) refl in
+    let b4 = part _ b3 (c .before .before .before .before .before .before .before .before .before .put-bytes .ensures) (field-length _ (v .subscriber) (good .1 .1 .1 .1 .0 .1 .0 .1)) in
+    let b5 = part _ b4 (c .before .before .before .before .before .put-bytes2 .ensures) (field-length _ (v .connection) (good .1 .1 .1 .1 .1 .0 .1 .0 .1)) in
+    let b6 = part _ b5 (c .before .put-words3 .ensures) refl in
+    filled b6 refl ∙ rest-made (s .args .book) _ _ (c .before .before .before .before .before .before .before .before .before .before .before .before .before .before .before .before .before .before .before .before .before .before .before .before .before .before .before .flag-of .ensures) (c .before .before .before .before .before .before .before .before .before .before .before .before .before .before .before .before .before .before .before .before .before .before .before .before .before .before .last-of .ensures)
 
 pub rest-words-spec : {M : Type 1} → statement M
 rest-words-spec =

@@ -1,3 +1,5 @@
+use mathlib.Core.Path.{ap, _∙_}
+use Rattle.lists.specs.Lists.{pasted}
 use borrow.Author.Needs.{needs}
 use Rattle.image.proofs.write_book.Statement.{statement}
 use Rattle.image.proofs.write_book.Tie as tie
@@ -24,7 +26,7 @@ same-length c = search needs
 
 -- src/lib.rt:552:1
 returns : tie.Need-returns
-returns c = search needs
+returns c = c .before .before .put-words .ensures ∙ ap (pasted (c .before .before .before .before .before .before .before .args .words .now) 0) (c .before .before .before .before .before .image-of .ensures)
 
 pub write-book-spec : {M : Type 1} → statement M
 write-book-spec =
