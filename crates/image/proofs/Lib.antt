@@ -5,3 +5,5 @@ pub mod Rows
 pub mod Rest
 pub mod Whole
 pub mod Joining
+pub mod Cutting
+pub mod TradeBack
