@@ -7,3 +7,4 @@ pub mod Whole
 pub mod Joining
 pub mod Cutting
 pub mod TradeBack
+pub mod RestBack
