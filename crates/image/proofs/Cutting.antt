@@ -18,8 +18,7 @@ part-whole s n e = take-all n s (omega arith)
 
 pub two : (a b a′ b′ : List ℕ) → length b ≡ length b′ → a ++ b ≡ a′ ++ b′ → (a ≡ a′) × (b ≡ b′)
 two a b a′ b′ l e =
-    let n : length a′ ≡ length a = omega (arith, length-append a b, length-append a′ b′, ap length e, l) in
-    (
+    let n : length a′ ≡ length a = omega (arith, length-append a b, length-append a′ b′, ap length e, l) in (
       sym (take-append-seam a b) ∙ ap (take (length a)) e ∙ take-at a′ b′ (length a) n,
       sym (drop-append-seam a b) ∙ ap (drop (length a)) e ∙ drop-at a′ b′ (length a) n,
     )

@@ -8,3 +8,4 @@ pub mod Joining
 pub mod Cutting
 pub mod TradeBack
 pub mod RestBack
+pub mod Kept
