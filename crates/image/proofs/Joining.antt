@@ -1,4 +1,4 @@
--- Trades written one after another: the rows so far, joined, stand at the front.
+-- A book as it is written: the rows of the trades so far, joined, stand at the front, and the words after the trades end it.
 use mathlib.Core.Path.{_≡_, refl, sym, ap, _∙_}
 use mathlib.Core.List.{List, [], _∷_, _++_, flatMap, append-assoc, append-nil}
 use mathlib.Core.Bool.{true}
@@ -11,7 +11,7 @@ use Rattle.lists.proofs.Parts.{in-within}
 use Rattle.lists.proofs.Pasting.{paste-in}
 use Rattle.acknowledgment.proofs.Building.{Built, first, part, filled}
 use Rattle.book.specs.declared.Book.{Book}
-use Rattle.image.specs.Images.{tradesWords, restWords, bookWords, tradeImage, restImage, imageOf}
+use Rattle.image.specs.Images.{tradesWords, restWords, bookWords, tradeImage, flagOf, lastOf, restImage, imageOf}
 
 module _ {A : Type 0} (f : A → List ℕ) where
   pub join-append : (xs ys : List A) → flatMap f (xs ++ ys) ≡ flatMap f xs ++ flatMap f ys
@@ -55,6 +55,15 @@ module _ {A : Type 0} (f : A → List ℕ) where
     joining-done o i n inv e l =
         let w : flatMap f (take i xs) ≡ flatMap f xs = ap (flatMap f) (take-all i xs (omega arith)) in
         record { is = λ k. inv .is (omega arith) ∙ ap (pasted o₀ 0) w; long = sym (ap length w) ∙ inv .long ∙ ap (λ (k : ℕ). k * 42) e }
+
+-- the words after the trades, as they are written
+pub rest-made : (b : Book) (flag last : ℕ) → flag ≡ flagOf (b .line .received) → last ≡ lastOf (b .line .received)
+    → (b .values .count ∷ []) ++ b .values .holidays ++ (b .values .days ∷ []) ++ b .values .subscriber ++ b .values .connection
+    ++ (b .values .limits .ceiling ∷ b .values .limits .variance ∷ b .values .limits .pools ∷ b .values .limits .least
+    ∷ b .values .last ∷ b .values .outbound .0 ∷ flag ∷ last ∷ b .line .expected .0 ∷ b .live ∷ [])
+    ≡ restImage b
+unfolding restImage
+rest-made b flag last e f = rw (e, f)
 
 -- the trades' words and then those of the rest fill the image
 pub image-made : (b : Book) (o₀ o o′ rest : List ℕ) → length o₀ ≡ bookWords

@@ -13,11 +13,10 @@ use Rattle.lists.proofs.Parts.{part-zero, length-part}
 use Rattle.lists.proofs.Tests.{both}
 use Rattle.book.specs.declared.Trade.{Trade}
 use Rattle.book.specs.declared.Book.{Book}
-use Rattle.image.specs.Images.{bookWords, tradeImage, restImage, imageOf, rowsOf, restOf, tradeFits, restFits, isImage, tradeIn, bookFrom, bookIn}
+use Rattle.image.specs.Images.{bookWords, tradeImage, restImage, imageOf, rowAt, rowsOf, restOf, tradeFits, restFits, isImage, tradeIn, bookFrom, bookIn}
 use Rattle.image.specs.Formed.{FormedTrade, Formed}
 use Rattle.image.proofs.Cutting.{part-next, part-whole}
-use Rattle.image.proofs.Rows.{rowAt}
-use Rattle.image.proofs.Whole.{image-length, image-rest}
+use Rattle.image.proofs.Told.{image-length, image-rest}
 use Rattle.image.proofs.TradeBack.{trade-again, length-trade, trade-back, trade-fits}
 use Rattle.image.proofs.RestBack.{rest-again, length-rest, rest-back, rest-fits}
 

@@ -1,11 +1,7 @@
 pub mod Looking
-pub mod Filling
-pub mod Fits
-pub mod Rows
-pub mod Rest
-pub mod Whole
-pub mod Joining
+pub mod Told
 pub mod Cutting
 pub mod TradeBack
 pub mod RestBack
 pub mod Kept
+pub mod Joining

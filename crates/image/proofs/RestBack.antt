@@ -19,7 +19,7 @@ use Rattle.book.proofs.ListLaws.{all-both}
 use Rattle.image.specs.Images.{isByte, isNumber, flagOf, lastOf, restImage, receivedFits, restFits, receivedIn, bookFrom}
 use Rattle.image.specs.Formed.{Formed}
 use Rattle.image.proofs.Looking.{part-table}
-use Rattle.image.proofs.Rest.{rest-received}
+use Rattle.image.proofs.Told.{rest-received}
 use Rattle.image.proofs.Cutting.{part-next, part-whole, six}
 
 -- ---- what was received

@@ -51,9 +51,12 @@ unfoldable pub imageOf : Book → List ℕ
 imageOf b = flatMap tradeImage (b .values .trades) ++ restImage b
 
 -- ---- what words say
--- the words of the 64 trades, and those after them
+-- the words of the i-th trade, of all 64, and those after them
+abbrev pub rowAt : List ℕ → ℕ → List ℕ
+rowAt ws i = part ws (i * tradeWords) tradeWords
+
 unfoldable pub rowsOf : List ℕ → List (List ℕ)
-rowsOf ws = tab (λ (i : ℕ). part ws (i * tradeWords) tradeWords) 64 0
+rowsOf ws = tab (rowAt ws) 64 0
 
 unfoldable pub restOf : List ℕ → List ℕ
 restOf ws = part ws tradesWords restWords

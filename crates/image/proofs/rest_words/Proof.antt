@@ -1,5 +1,5 @@
 use mathlib.Core.Path.{refl, sym, _∙_}
-use Rattle.image.proofs.Rest.{rest-made}
+use Rattle.image.proofs.Joining.{rest-made}
 use Rattle.acknowledgment.proofs.Building.{first, part, filled, field-length}
 use borrow.Author.Needs.{needs}
 use Rattle.image.proofs.rest_words.Statement.{statement}
