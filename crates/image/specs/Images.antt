@@ -5,8 +5,6 @@ use mathlib.Core.Bool.{Bool, cond, _&&_, _||_}
 use lib.ListN.{length, getD}
 use lib.Dec.{eqb, ltb}
 use Rattle.lists.specs.Lists.{part, tab, all}
-use Rattle.sequence.specs.declared.Inbound.{Inbound}
-use Rattle.sequence.specs.declared.Outbound.{Outbound}
 use Rattle.sequence.specs.declared.Received.{Received}
 use Rattle.sequence.specs.declared.Received.the-variants.{Nothing, Last}
 use Rattle.sequence.specs.Sequence.{inbound, outbound}

@@ -1,6 +1,6 @@
 -- The words of the 64 trades: each row as a slice of all words, their tests one after another, and the trade of each row.
 use mathlib.Core.Path.{_≡_, refl, sym, ap, _∙_}
-use mathlib.Core.List.{List, [], _∷_, map}
+use mathlib.Core.List.{List, _∷_, map}
 use mathlib.Core.Bool.{Bool, true, false, not}
 use Prim.Native.Nat.{ℕ, zero, suc, _+_, _-_, _*_, _≤_, _<_}
 use native.Mathlib.Nat.{zero-add}
@@ -12,7 +12,7 @@ use Rattle.lists.proofs.Parts.{length-part}
 use Rattle.lists.proofs.Tables.{length-tab, getD-tab}
 use Rattle.book.specs.declared.Trade.{Trade}
 use Rattle.image.specs.Images.{bookWords, rowAt, rowsOf, tradeFits, tradeIn}
-use Rattle.image.proofs.Looking.{Passing, passing-none, passing-more, passing-stop, passing-done, all-at}
+use Rattle.image.proofs.Looking.{passing-none, passing-more, passing-stop, passing-done, all-at}
 
 map-tab : {A B : Type 0} (f : A → B) (g : ℕ → A) (n i : ℕ) → map f (tab g n i) ≡ tab (λ (k : ℕ). f (g k)) n i
 map-tab f g zero i = refl

@@ -11,7 +11,7 @@ use Rattle.lists.proofs.Parts.{length-part}
 use Rattle.image.proofs.Told.{image-rest}
 use Rattle.book.specs.declared.Trade.{Trade}
 use Rattle.book.specs.declared.Book.{Book}
-use Rattle.image.specs.Images.{bookWords, tradesWords, restWords, rowsOf, restOf, tradeFits, restFits, isImage, tradeIn, bookFrom, bookIn}
+use Rattle.image.specs.Images.{bookWords, restWords, rowsOf, restOf, tradeFits, restFits, isImage, tradeIn, bookFrom, bookIn}
 
 module _ (ws : List ℕ) where
   -- the words after the trades as a slice

@@ -94,7 +94,8 @@ fn trade_fits(row: &[u64]) -> bool
     requires { ⌜ length (now row) ≡ tradeWords ⌝ }
     ensures { λ r. ⌜ r ≡ tradeFits (now (row .entry)) ⌝ }
 {
-    all_below(row, image::ID, ID_WIDTH, BYTE_END) & all_below(row, image::SELLER, NAMES_WIDTH, BYTE_END)
+    all_below(row, image::ID, ID_WIDTH, BYTE_END)
+        & all_below(row, image::SELLER, NAMES_WIDTH, BYTE_END)
 }
 
 // The trade of a trade's words.
@@ -202,7 +203,9 @@ fn rest_fits(rest: &[u64]) -> bool
     let dates = all_below(rest, image::HOLIDAYS, book::HOLIDAYS_MAX, NUMBER_END);
     let accounts = all_below(rest, image::SUBSCRIBER, ACCOUNTS_WIDTH, BYTE_END);
     dates
-        & (accounts & ((rest[image::OUTBOUND] < NUMBER_END) & (received & (rest[image::EXPECTED] < NUMBER_END))))
+        & (accounts
+            & ((rest[image::OUTBOUND] < NUMBER_END)
+                & (received & (rest[image::EXPECTED] < NUMBER_END))))
 }
 
 // The book of some trades and of the words after the trades.

@@ -1,13 +1,12 @@
+-- The words written so far, those left to write and the rest of the list are the list that is wanted.
+use mathlib.Core.Path.{_≡_, refl}
 use Prim.Native.Nat.{_≤_, _-_}
 use native.Mathlib.Omega.{arith}
-use mathlib.Core.Path.{_≡_, refl}
 use lib.ListN.{length, length-set}
-use Rattle.lists.proofs.Pasting.{Pasting, pasting-none, pasting-past, pasting-short, pasting-more, pasting-done}
 use borrow.Author.Needs.{needs}
+use Rattle.lists.proofs.Pasting.{Pasting, pasting-none, pasting-past, pasting-short, pasting-more, pasting-done}
 use Rattle.image.proofs.put_words.Statement.{statement}
 use Rattle.image.proofs.put_words.Tie as tie
-use Rattle.image.proofs.put_words.Reads as reads
-use Rattle.image.proofs.put_words.Lts as lts
 
 abbrev Inv-loop : tie.InvT-loop
 Inv-loop words₀ at s i₀ words i = (i ≤ length s) × (length words ≡ length words₀) × Pasting words₀ at s (length s) refl words i
@@ -15,62 +14,48 @@ Inv-loop words₀ at s i₀ words i = (i ≤ length s) × (length words ≡ leng
 abbrev μ-loop : tie.MeasureT-loop
 μ-loop words₀ at s i₀ words i = length s - i
 
--- src/lib.rt:421:9
 returns : tie.Need-returns Inv-loop μ-loop
 returns c = let a = c .before .args in pasting-past (a .words .now) (a .at) (a .s .now) _ refl (omega arith)
 
--- src/lib.rt:423:8
 sub-if2 : tie.Need-sub-if2 Inv-loop μ-loop
 sub-if2 c = search needs
 
--- src/lib.rt:424:9
 returns-2 : tie.Need-returns-2 Inv-loop μ-loop
 returns-2 c = let a = c .before .before .args in pasting-short (a .words .now) (a .at) (a .s .now) _ refl (omega arith)
 
--- src/lib.rt:427:5
 loop-holds : tie.Need-loop-holds Inv-loop μ-loop
 loop-holds c = let a = c .before .before .args in (search needs, refl, pasting-none (a .words .now) (a .at) (a .s .now) _ refl)
 
--- src/lib.rt:428:25
 mul-words : tie.Need-mul-words Inv-loop μ-loop
 mul-words c = search needs
 
--- src/lib.rt:428:25
 shared-slice-read-words : tie.Need-shared-slice-read-words Inv-loop μ-loop
 shared-slice-read-words c = search needs
 
--- src/lib.rt:428:15
 add-words : tie.Need-add-words Inv-loop μ-loop
 add-words c = search needs
 
--- src/lib.rt:428:9
 mul-words-2 : tie.Need-mul-words-2 Inv-loop μ-loop
 mul-words-2 c = search needs
 
--- src/lib.rt:428:9
 slice-write-words : tie.Need-slice-write-words Inv-loop μ-loop
 slice-write-words c = search needs
 
--- src/lib.rt:429:9
 add-i : tie.Need-add-i Inv-loop μ-loop
 add-i c = search needs
 
--- src/lib.rt:427:5
 loop-less : tie.Need-loop-less Inv-loop μ-loop
 loop-less c = search needs
 
--- src/lib.rt:427:5
 loop-again : tie.Need-loop-again Inv-loop μ-loop
 loop-again c =
     let a = c .before .before .before .before .before .args in
     let l = c .before .before .loop in
     (omega arith, simp length-set (l .inv .1), pasting-more (a .words .now) (a .at) (a .s .now) _ refl (l .words) (l .i) (l .inv .2) _ 0 refl (omega arith) (omega arith))
 
--- src/lib.rt:417:1
 same-length : tie.Need-same-length Inv-loop μ-loop
 same-length c = search needs
 
--- src/lib.rt:417:1
 returns-3 : tie.Need-returns-3 Inv-loop μ-loop
 returns-3 c =
     let a = c .before .before .before .before .args in

@@ -1,106 +1,77 @@
+-- The parts are written end to end and fill the words after the trades.
 use mathlib.Core.Path.{refl, sym, _∙_}
+use borrow.Author.Needs.{needs}
 use Rattle.image.proofs.Joining.{rest-made}
 use Rattle.acknowledgment.proofs.Building.{first, part, filled, field-length}
-use borrow.Author.Needs.{needs}
 use Rattle.image.proofs.rest_words.Statement.{statement}
 use Rattle.image.proofs.rest_words.Tie as tie
-use Rattle.image.proofs.rest_words.Reads as reads
-use Rattle.image.proofs.rest_words.Lts as lts
-use Rattle.image.proofs.flag_of.Reads as flag-of-reads
-use Rattle.image.proofs.last_of.Reads as last-of-reads
-use Rattle.image.proofs.put_bytes.Reads as put-bytes-reads
-use Rattle.image.proofs.put_numbers.Reads as put-numbers-reads
-use Rattle.image.proofs.put_words.Reads as put-words-reads
 
--- src/lib.rt:502:9
 flag-of-requires : tie.Need-flag-of-requires
 flag-of-requires c κs = search needs
 
--- src/lib.rt:503:9
 last-of-requires : tie.Need-last-of-requires
 last-of-requires c κs = search needs
 
--- src/lib.rt:510:9
 cast-t15 : tie.Need-cast-t15
 cast-t15 c = search needs
 
--- src/lib.rt:513:9
 cast-t16 : tie.Need-cast-t16
 cast-t16 c = search needs
 
--- src/lib.rt:517:15
 slice-aggregate-put-words : tie.Need-slice-aggregate-put-words
 slice-aggregate-put-words c = search needs
 
--- src/lib.rt:517:33
 slice-aggregate-put-words-2 : tie.Need-slice-aggregate-put-words-2
 slice-aggregate-put-words-2 c = search needs
 
--- src/lib.rt:517:5
 put-words-requires : tie.Need-put-words-requires
 put-words-requires c κs = search needs
 
--- src/lib.rt:518:17
 slice-aggregate-put-numbers : tie.Need-slice-aggregate-put-numbers
 slice-aggregate-put-numbers c = search needs
 
--- src/lib.rt:518:38
 slice-aggregate-put-numbers-2 : tie.Need-slice-aggregate-put-numbers-2
 slice-aggregate-put-numbers-2 c = search needs
 
--- src/lib.rt:518:5
 put-numbers-requires : tie.Need-put-numbers-requires
 put-numbers-requires c κs = search needs
 
--- src/lib.rt:519:15
 slice-aggregate-put-words-3 : tie.Need-slice-aggregate-put-words-3
 slice-aggregate-put-words-3 c = search needs
 
--- src/lib.rt:519:32
 slice-aggregate-put-words-4 : tie.Need-slice-aggregate-put-words-4
 slice-aggregate-put-words-4 c = search needs
 
--- src/lib.rt:519:5
 put-words-requires-2 : tie.Need-put-words-requires-2
 put-words-requires-2 c κs = search needs
 
--- src/lib.rt:520:15
 slice-aggregate-put-bytes : tie.Need-slice-aggregate-put-bytes
 slice-aggregate-put-bytes c = search needs
 
--- src/lib.rt:520:38
 slice-aggregate-put-bytes-2 : tie.Need-slice-aggregate-put-bytes-2
 slice-aggregate-put-bytes-2 c = let s = c .before .before .before .before .before .before .before .before .before .before .before .before .before .before .before .before .before .before .before .before .before .before .before .before in sym (field-length _ (s .args .book .values .subscriber) (s .good .0 .1 .1 .0 .1 .1 .1 .1 .1 .1 .0 .1 .0 .1))
 
--- src/lib.rt:520:5
 put-bytes-requires : tie.Need-put-bytes-requires
 put-bytes-requires c κs = search needs
 
--- src/lib.rt:521:15
 slice-aggregate-put-bytes-3 : tie.Need-slice-aggregate-put-bytes-3
 slice-aggregate-put-bytes-3 c = search needs
 
--- src/lib.rt:521:38
 slice-aggregate-put-bytes-4 : tie.Need-slice-aggregate-put-bytes-4
 slice-aggregate-put-bytes-4 c = let s = c .before .before .before .before .before .before .before .before .before .before .before .before .before .before .before .before .before .before .before .before .before .before .before .before .before .before .before .before in sym (field-length _ (s .args .book .values .connection) (s .good .0 .1 .1 .0 .1 .1 .1 .1 .1 .1 .1 .0 .1 .0 .1))
 
--- src/lib.rt:521:5
 put-bytes-requires-2 : tie.Need-put-bytes-requires-2
 put-bytes-requires-2 c κs = search needs
 
--- src/lib.rt:522:15
 slice-aggregate-put-words-5 : tie.Need-slice-aggregate-put-words-5
 slice-aggregate-put-words-5 c = search needs
 
--- src/lib.rt:522:35
 slice-aggregate-put-words-6 : tie.Need-slice-aggregate-put-words-6
 slice-aggregate-put-words-6 c = search needs
 
--- src/lib.rt:522:5
 put-words-requires-3 : tie.Need-put-words-requires-3
 put-words-requires-3 c κs = search needs
 
--- src/lib.rt:490:1
 returns : tie.Need-returns
 returns c =
     let s = c .before .before .before .before .before .before .before .before .before .before .before .before .before .before .before .before .before .before .before .before .before .before .before .before .before .before .before .before .before .before .before .before .before .before in

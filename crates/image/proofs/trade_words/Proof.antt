@@ -1,99 +1,74 @@
+-- The parts of a trade are written end to end and fill the row.
 use mathlib.Core.Path.{refl, sym}
+use borrow.Author.Needs.{needs}
 use Rattle.acknowledgment.proofs.Building.{first, part, filled, field-length}
 use Rattle.image.specs.Images.{tradeImage}
-use borrow.Author.Needs.{needs}
 use Rattle.image.proofs.trade_words.Statement.{statement}
 use Rattle.image.proofs.trade_words.Tie as tie
-use Rattle.image.proofs.trade_words.Reads as reads
-use Rattle.image.proofs.trade_words.Lts as lts
-use Rattle.image.proofs.put_bytes.Reads as put-bytes-reads
-use Rattle.image.proofs.put_words.Reads as put-words-reads
 
--- src/lib.rt:445:15
 slice-aggregate-put-bytes : tie.Need-slice-aggregate-put-bytes
 slice-aggregate-put-bytes c = search needs
 
--- src/lib.rt:445:29
 slice-aggregate-put-bytes-2 : tie.Need-slice-aggregate-put-bytes-2
 slice-aggregate-put-bytes-2 c = search needs
 
--- src/lib.rt:445:5
 put-bytes-requires : tie.Need-put-bytes-requires
 put-bytes-requires c κs = search needs
 
--- src/lib.rt:446:15
 slice-aggregate-put-words : tie.Need-slice-aggregate-put-words
 slice-aggregate-put-words c = search needs
 
--- src/lib.rt:446:33
 slice-aggregate-put-words-2 : tie.Need-slice-aggregate-put-words-2
 slice-aggregate-put-words-2 c = search needs
 
--- src/lib.rt:446:5
 put-words-requires : tie.Need-put-words-requires
 put-words-requires c κs = search needs
 
--- src/lib.rt:447:15
 slice-aggregate-put-bytes-3 : tie.Need-slice-aggregate-put-bytes-3
 slice-aggregate-put-bytes-3 c = search needs
 
--- src/lib.rt:447:33
 slice-aggregate-put-bytes-4 : tie.Need-slice-aggregate-put-bytes-4
 slice-aggregate-put-bytes-4 c = search needs
 
--- src/lib.rt:447:5
 put-bytes-requires-2 : tie.Need-put-bytes-requires-2
 put-bytes-requires-2 c κs = search needs
 
--- src/lib.rt:448:15
 slice-aggregate-put-bytes-5 : tie.Need-slice-aggregate-put-bytes-5
 slice-aggregate-put-bytes-5 c = search needs
 
--- src/lib.rt:448:32
 slice-aggregate-put-bytes-6 : tie.Need-slice-aggregate-put-bytes-6
 slice-aggregate-put-bytes-6 c = search needs
 
--- src/lib.rt:448:5
 put-bytes-requires-3 : tie.Need-put-bytes-requires-3
 put-bytes-requires-3 c κs = search needs
 
--- src/lib.rt:449:15
 slice-aggregate-put-bytes-7 : tie.Need-slice-aggregate-put-bytes-7
 slice-aggregate-put-bytes-7 c = search needs
 
--- src/lib.rt:449:33
 slice-aggregate-put-bytes-8 : tie.Need-slice-aggregate-put-bytes-8
 slice-aggregate-put-bytes-8 c = search needs
 
--- src/lib.rt:449:5
 put-bytes-requires-4 : tie.Need-put-bytes-requires-4
 put-bytes-requires-4 c κs = search needs
 
--- src/lib.rt:450:15
 slice-aggregate-put-bytes-9 : tie.Need-slice-aggregate-put-bytes-9
 slice-aggregate-put-bytes-9 c = search needs
 
--- src/lib.rt:450:32
 slice-aggregate-put-bytes-10 : tie.Need-slice-aggregate-put-bytes-10
 slice-aggregate-put-bytes-10 c = let s = c .before .before .before .before .before .before .before .before .before .before .before .before .before .before .before .before .before .before .before .before .before .before .before .before .before .before .before in sym (field-length _ (s .args .t .cusip) (s .good .0 .1 .1 .1 .1 .1 .1 .1 .0 .1 .0 .1))
 
--- src/lib.rt:450:5
 put-bytes-requires-5 : tie.Need-put-bytes-requires-5
 put-bytes-requires-5 c κs = search needs
 
--- src/lib.rt:451:15
 slice-aggregate-put-words-3 : tie.Need-slice-aggregate-put-words-3
 slice-aggregate-put-words-3 c = search needs
 
--- src/lib.rt:451:37
 slice-aggregate-put-words-4 : tie.Need-slice-aggregate-put-words-4
 slice-aggregate-put-words-4 c = search needs
 
--- src/lib.rt:451:5
 put-words-requires-2 : tie.Need-put-words-requires-2
 put-words-requires-2 c κs = search needs
 
--- src/lib.rt:434:1
 returns : tie.Need-returns
 unfolding tradeImage
 returns c =

@@ -1,17 +1,16 @@
+-- Every word so far is below the limit, so what is left of the part decides.
 use mathlib.Core.Bool.{Bool}
-use Prim.Native.Nat.{ℕ, _≤_, _-_, _+_}
 use mathlib.Core.Path.{sym, ap, _∙_}
+use Prim.Native.Nat.{ℕ, _≤_, _-_, _+_}
 use native.Mathlib.Omega.{arith}
 use lib.ListN.{getD}
 use lib.Dec.{ltb}
 use borrow.Author.Tests.{lt-ltb, le-ltb}
+use borrow.Author.Needs.{needs}
 use Rattle.lists.specs.Lists.{all}
 use Rattle.image.proofs.Looking.{Passing, passing-none, passing-more, passing-stop, passing-done, after, part-table}
-use borrow.Author.Needs.{needs}
 use Rattle.image_reading.proofs.all_below.Statement.{statement}
 use Rattle.image_reading.proofs.all_below.Tie as tie
-use Rattle.image_reading.proofs.all_below.Reads as reads
-use Rattle.image_reading.proofs.all_below.Lts as lts
 
 abbrev Inv-loop : tie.InvT-loop
 Inv-loop words at n limit i₀ i = (i ≤ n) × Passing (λ (w : ℕ). ltb w limit) (after words at 0) n i
@@ -19,47 +18,38 @@ Inv-loop words at n limit i₀ i = (i ≤ n) × Passing (λ (w : ℕ). ltb w lim
 abbrev μ-loop : tie.MeasureT-loop
 μ-loop words at n limit i₀ i = n - i
 
--- src/lib.rt:127:5
 loop-holds : tie.Need-loop-holds Inv-loop μ-loop
 loop-holds c = let a = c .args in (search needs, passing-none (λ (w : ℕ). ltb w (a .limit)) (after (a .words .now) (a .at) 0) (a .n))
 
--- src/lib.rt:128:23
 add-w : tie.Need-add-w Inv-loop μ-loop
 add-w c = search needs
 
--- src/lib.rt:128:17
 mul-w : tie.Need-mul-w Inv-loop μ-loop
 mul-w c = search needs
 
--- src/lib.rt:128:17
 shared-slice-read-w : tie.Need-shared-slice-read-w Inv-loop μ-loop
 shared-slice-read-w c = search needs
 
--- src/lib.rt:129:9
 add-i : tie.Need-add-i Inv-loop μ-loop
 add-i c = search needs
 
--- src/lib.rt:131:13
 returns : tie.Need-returns Inv-loop μ-loop
 returns c =
     let a = c .before .before .before .before .args in
     let l = c .before .before .before .loop in
     let p : ℕ → Bool = λ (w : ℕ). ltb w (a .limit) in
-    passing-stop p (after (a .words .now) (a .at) 0) (a .n) (l .i) (l .inv .1) (c .before .before .loop-test .taken) (le-ltb (getD (a .words .now) (a .at + l .i) 0) (a .limit) (c .if1 .taken))
+    passing-stop p (after (a .words .now) (a .at) 0) (a .n) (l .i) (l .inv .1) (c .before .before .loop-test .taken) (le-ltb (getD (a .words .now) (a .at + l .i) 0) (a .limit) (omega arith))
     ∙ sym (ap (all p) (part-table (a .words .now) (a .at) 0 (a .n) (c .before .before .before .before .pre)))
 
--- src/lib.rt:127:5
 loop-less : tie.Need-loop-less Inv-loop μ-loop
 loop-less c = search needs
 
--- src/lib.rt:127:5
 loop-again : tie.Need-loop-again Inv-loop μ-loop
 loop-again c =
     let a = c .before .before .before .before .args in
     let l = c .before .before .before .loop in
-    (omega arith, passing-more (λ (w : ℕ). ltb w (a .limit)) (after (a .words .now) (a .at) 0) (a .n) (l .i) (l .inv .1) (c .before .before .loop-test .taken) (lt-ltb (getD (a .words .now) (a .at + l .i) 0) (a .limit) (c .if1 .left)))
+    (omega arith, passing-more (λ (w : ℕ). ltb w (a .limit)) (after (a .words .now) (a .at) 0) (a .n) (l .i) (l .inv .1) (c .before .before .loop-test .taken) (lt-ltb (getD (a .words .now) (a .at + l .i) 0) (a .limit) (omega arith)))
 
--- src/lib.rt:122:1
 returns-2 : tie.Need-returns-2 Inv-loop μ-loop
 returns-2 c =
     let a = c .before .before .args in

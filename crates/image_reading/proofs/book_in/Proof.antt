@@ -1,35 +1,26 @@
+-- The trades of the rows, and the words after them.
 use native.Mathlib.Omega.{arith}
+use borrow.Author.Needs.{needs}
 use Rattle.image_reading.proofs.Whole.{length-rest, slice-fits, book-is}
 use Rattle.image.proofs.Told.{image-length, image-trades}
-use borrow.Author.Needs.{needs}
 use Rattle.image_reading.proofs.book_in.Statement.{statement}
 use Rattle.image_reading.proofs.book_in.Tie as tie
-use Rattle.image_reading.proofs.book_in.Reads as reads
-use Rattle.image_reading.proofs.book_in.Lts as lts
-use Rattle.image_reading.proofs.read_rest.Reads as read-rest-reads
-use Rattle.image_reading.proofs.read_trades.Reads as read-trades-reads
 
--- src/lib.rt:336:9
 read-trades-requires : tie.Need-read-trades-requires
 read-trades-requires c κs = let s = c .before in (image-length (s .args .words .now) (s .pre), image-trades (s .args .words .now) (s .pre))
 
--- src/lib.rt:337:23
 sub-read-rest : tie.Need-sub-read-rest
 sub-read-rest c = search needs
 
--- src/lib.rt:337:23
 part-read-rest-start : tie.Need-part-read-rest-start
 part-read-rest-start c = search needs
 
--- src/lib.rt:337:23
 part-read-rest-end : tie.Need-part-read-rest-end
 part-read-rest-end c = let s = c .before .before in omega (arith, image-length (s .args .words .now) (s .pre))
 
--- src/lib.rt:337:5
 read-rest-requires : tie.Need-read-rest-requires
 read-rest-requires c κs = let s = c .before .before .before in (length-rest (s .args .words .now) (image-length (s .args .words .now) (s .pre)), slice-fits (s .args .words .now) (s .pre))
 
--- src/lib.rt:332:1
 returns : tie.Need-returns
 returns c = book-is (c .before .before .before .before .args .words .now) _ _ (c .before .before .read-trades .ensures) (c .read-rest .ensures)
 

@@ -1,16 +1,15 @@
+-- What is filled, and what is left of the part, are the part; each word of it is a byte.
+use mathlib.Core.Path.{_≡_, refl, sym, _∙_}
 use Prim.Native.Nat.{_≤_, _-_}
-use mathlib.Core.Path.{_≡_, refl, sym, ap, _∙_}
 use native.Mathlib.Omega.{arith}
 use lib.ListN.{length, length-set}
+use borrow.Author.Needs.{needs}
 use Rattle.lists.specs.Lists.{part}
 use Rattle.lists.proofs.Parts.{length-part}
 use Rattle.image_reading.proofs.Filling.{Filling, filling-none, filling-more, filling-done}
 use Rattle.image.proofs.Looking.{part-at, below-at}
-use borrow.Author.Needs.{needs}
 use Rattle.image_reading.proofs.read_bytes.Statement.{statement}
 use Rattle.image_reading.proofs.read_bytes.Tie as tie
-use Rattle.image_reading.proofs.read_bytes.Reads as reads
-use Rattle.image_reading.proofs.read_bytes.Lts as lts
 
 abbrev Inv-loop : tie.InvT-loop
 Inv-loop out₀ words at i₀ out i = (i ≤ length out₀) × (length out ≡ length out₀) × Filling (part words at (length out₀)) out i
@@ -18,42 +17,33 @@ Inv-loop out₀ words at i₀ out i = (i ≤ length out₀) × (length out ≡ l
 abbrev μ-loop : tie.MeasureT-loop
 μ-loop out₀ words at i₀ out i = length out₀ - i
 
--- src/lib.rt:143:5
 loop-holds : tie.Need-loop-holds Inv-loop μ-loop
 loop-holds c = let a = c .args in (search needs, refl, filling-none (part (a .words .now) (a .at) (length (a .out .now))) (a .out .now))
 
--- src/lib.rt:144:24
 add-out : tie.Need-add-out Inv-loop μ-loop
 add-out c = search needs
 
--- src/lib.rt:144:18
 mul-out : tie.Need-mul-out Inv-loop μ-loop
 mul-out c = search needs
 
--- src/lib.rt:144:18
 shared-slice-read-out : tie.Need-shared-slice-read-out Inv-loop μ-loop
 shared-slice-read-out c = search needs
 
--- src/lib.rt:144:18
 cast-out : tie.Need-cast-out Inv-loop μ-loop
 cast-out c =
     let s = c .before .before .before in
     let l = c .before .before .loop in
     omega (arith, below-at (s .args .words .now) (s .args .at) (length (s .args .out .now)) 256 (l .i) (s .pre .0) (s .pre .1) (omega arith))
 
--- src/lib.rt:144:9
 slice-write-out : tie.Need-slice-write-out Inv-loop μ-loop
 slice-write-out c = search needs
 
--- src/lib.rt:145:9
 add-i : tie.Need-add-i Inv-loop μ-loop
 add-i c = search needs
 
--- src/lib.rt:143:5
 loop-less : tie.Need-loop-less Inv-loop μ-loop
 loop-less c = search needs
 
--- src/lib.rt:143:5
 loop-again : tie.Need-loop-again Inv-loop μ-loop
 loop-again c =
     let a = c .before .before .before .args in
@@ -63,11 +53,9 @@ loop-again c =
     let h = part-at (a .words .now) (a .at) 0 n (l .i) (c .before .before .before .pre .0) (omega arith) in
     (omega arith, length-set (l .out) (l .i) _ ∙ l .inv .1, filling-more (part (a .words .now) (a .at) n) (l .out) (l .i) (l .inv .2) _ 0 (sym h) (omega arith) (omega arith))
 
--- src/lib.rt:138:1
 same-length : tie.Need-same-length Inv-loop μ-loop
 same-length c = search needs
 
--- src/lib.rt:138:1
 returns : tie.Need-returns Inv-loop μ-loop
 returns c =
     let a = c .before .before .args in

@@ -1,20 +1,15 @@
+-- By the flag.
 use native.Mathlib.Omega.{arith}
 use Rattle.image_reading.proofs.Rest.{received-none, received-last, received-number}
-use borrow.Author.Needs.{needs}
 use Rattle.image_reading.proofs.read_received.Statement.{statement}
 use Rattle.image_reading.proofs.read_received.Tie as tie
-use Rattle.image_reading.proofs.read_received.Reads as reads
-use Rattle.image_reading.proofs.read_received.Lts as lts
 
--- src/lib.rt:261:9
 returns : tie.Need-returns
 returns c = received-none (c .before .args .flag) (c .before .args .number) (c .if1 .taken)
 
--- src/lib.rt:263:28
 cast-t4 : tie.Need-cast-t4
 cast-t4 c = omega (arith, received-number (c .before .args .flag) (c .before .args .number) (c .before .pre) (c .if1 .left))
 
--- src/lib.rt:256:1
 returns-2 : tie.Need-returns-2
 returns-2 c = received-last (c .before .args .flag) (c .before .args .number) (c .if1 .left)
 

@@ -1,19 +1,16 @@
-use Prim.Native.Nat.{_≤_, _-_}
-use native.Mathlib.Omega.{arith}
-use Rattle.image.specs.Images.{rowsOf, tradeIn}
-use Rattle.image_reading.proofs.Rows.{slice-row, length-row, row-fits, trade-at, length-trades}
-use Rattle.image_reading.proofs.Filling.{Filling, filling-none, filling-more, filling-done}
-use Rattle.book.specs.Checks.{noTrade}
+-- The trades so far, and those of the rows that are left, are all of them.
 use mathlib.Core.Path.{_≡_, refl, _∙_, ap}
 use mathlib.Core.List.{map}
-use lib.ListN.{length, length-set, length-replicate}
+use Prim.Native.Nat.{_≤_, _-_}
+use native.Mathlib.Omega.{arith}
+use lib.ListN.{length, length-set}
 use borrow.Author.Needs.{needs}
+use Rattle.image.specs.Images.{rowsOf, tradeIn}
+use Rattle.image_reading.proofs.Rows.{slice-row, length-row, row-fits, trade-at, length-trades}
+use Rattle.image_reading.proofs.Filling.{Filling, filling-more, filling-done}
+use Rattle.book.specs.Checks.{noTrade}
 use Rattle.image_reading.proofs.read_trades.Statement.{statement}
 use Rattle.image_reading.proofs.read_trades.Tie as tie
-use Rattle.image_reading.proofs.read_trades.Reads as reads
-use Rattle.image_reading.proofs.read_trades.Lts as lts
-use Rattle.image_reading.proofs.no_trade.Reads as no-trade-reads
-use Rattle.image_reading.proofs.read_trade.Reads as read-trade-reads
 
 abbrev Inv-loop : tie.InvT-loop
 Inv-loop words trades₀ i₀ trades i = (i ≤ 64) × (length trades ≡ 64) × Filling (map tradeIn (rowsOf words)) trades i
@@ -21,39 +18,30 @@ Inv-loop words trades₀ i₀ trades i = (i ≤ 64) × (length trades ≡ 64) ×
 abbrev μ-loop : tie.MeasureT-loop
 μ-loop words trades₀ i₀ trades i = 64 - i
 
--- src/lib.rt:236:9
 no-trade-requires : tie.Need-no-trade-requires Inv-loop μ-loop
 no-trade-requires c κs = search needs
 
--- src/lib.rt:239:5
 loop-holds : tie.Need-loop-holds Inv-loop μ-loop
 loop-holds c = (omega arith, refl, refl)
 
--- src/lib.rt:240:18
 mul-at : tie.Need-mul-at Inv-loop μ-loop
 mul-at c = search needs
 
--- src/lib.rt:241:19
 add-end : tie.Need-add-end Inv-loop μ-loop
 add-end c = search needs
 
--- src/lib.rt:242:32
 mul-read-trade : tie.Need-mul-read-trade Inv-loop μ-loop
 mul-read-trade c = search needs
 
--- src/lib.rt:242:32
 sub-read-trade : tie.Need-sub-read-trade Inv-loop μ-loop
 sub-read-trade c = search needs
 
--- src/lib.rt:242:32
 part-read-trade-start : tie.Need-part-read-trade-start Inv-loop μ-loop
 part-read-trade-start c = search needs
 
--- src/lib.rt:242:32
 part-read-trade-end : tie.Need-part-read-trade-end Inv-loop μ-loop
 part-read-trade-end c = search needs
 
--- src/lib.rt:242:21
 read-trade-requires : tie.Need-read-trade-requires Inv-loop μ-loop
 read-trade-requires c κs =
     let s = c .before .before .before .before .before in
@@ -61,23 +49,18 @@ read-trade-requires c κs =
     let h = c .before .loop-test .taken in
     (ap length (slice-row (s .args .words .now) (l .i)) ∙ length-row (s .args .words .now) (s .pre .0) (l .i) h, row-fits (s .args .words .now) (s .pre .1) (l .i) h)
 
--- src/lib.rt:242:9
 mul-trades : tie.Need-mul-trades Inv-loop μ-loop
 mul-trades c = search needs
 
--- src/lib.rt:242:9
 array-set-from-trades : tie.Need-array-set-from-trades Inv-loop μ-loop
 array-set-from-trades c = search needs
 
--- src/lib.rt:243:9
 add-i : tie.Need-add-i Inv-loop μ-loop
 add-i c = search needs
 
--- src/lib.rt:239:5
 loop-less : tie.Need-loop-less Inv-loop μ-loop
 loop-less c = search needs
 
--- src/lib.rt:239:5
 loop-again : tie.Need-loop-again Inv-loop μ-loop
 loop-again c =
     let w = c .before .before .before .before .before .before .args .words .now in
@@ -86,7 +69,6 @@ loop-again c =
     let e = length-trades w in
     (omega arith, length-set (l .trades) (l .i) _ ∙ l .inv .1, filling-more (map tradeIn (rowsOf w)) (l .trades) (l .i) (l .inv .2) _ noTrade (trade-at w (l .i) noTrade h _ (c .read-trade .ensures)) (omega arith) (omega arith))
 
--- src/lib.rt:232:1
 returns : tie.Need-returns Inv-loop μ-loop
 returns c =
     let w = c .before .before .before .before .args .words .now in

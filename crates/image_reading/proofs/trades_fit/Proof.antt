@@ -1,14 +1,12 @@
+-- Every row so far passes, so the rows that are left decide.
+use mathlib.Core.Path.{_∙_, ap}
 use Prim.Native.Nat.{_≤_, _-_}
 use native.Mathlib.Omega.{arith}
-use Rattle.image_reading.proofs.Rows.{RowsLeft, rows-none, rows-more, rows-stop, rows-done, slice-row, length-row}
-use mathlib.Core.Path.{_∙_, ap}
 use lib.ListN.{length}
 use borrow.Author.Needs.{needs}
+use Rattle.image_reading.proofs.Rows.{RowsLeft, rows-none, rows-more, rows-stop, rows-done, slice-row, length-row}
 use Rattle.image_reading.proofs.trades_fit.Statement.{statement}
 use Rattle.image_reading.proofs.trades_fit.Tie as tie
-use Rattle.image_reading.proofs.trades_fit.Reads as reads
-use Rattle.image_reading.proofs.trades_fit.Lts as lts
-use Rattle.image_reading.proofs.trade_fits.Reads as trade-fits-reads
 
 abbrev Inv-loop : tie.InvT-loop
 Inv-loop words i₀ i = (i ≤ 64) × RowsLeft words i
@@ -16,55 +14,42 @@ Inv-loop words i₀ i = (i ≤ 64) × RowsLeft words i
 abbrev μ-loop : tie.MeasureT-loop
 μ-loop words i₀ i = 64 - i
 
--- src/lib.rt:204:5
 loop-holds : tie.Need-loop-holds Inv-loop μ-loop
 loop-holds c = (search needs, rows-none (c .before .args .words .now))
 
--- src/lib.rt:205:18
 mul-at : tie.Need-mul-at Inv-loop μ-loop
 mul-at c = search needs
 
--- src/lib.rt:206:19
 add-end : tie.Need-add-end Inv-loop μ-loop
 add-end c = search needs
 
--- src/lib.rt:207:9
 add-i : tie.Need-add-i Inv-loop μ-loop
 add-i c = search needs
 
--- src/lib.rt:208:24
 mul-trade-fits : tie.Need-mul-trade-fits Inv-loop μ-loop
 mul-trade-fits c = search needs
 
--- src/lib.rt:208:24
 sub-trade-fits : tie.Need-sub-trade-fits Inv-loop μ-loop
 sub-trade-fits c = search needs
 
--- src/lib.rt:208:24
 part-trade-fits-start : tie.Need-part-trade-fits-start Inv-loop μ-loop
 part-trade-fits-start c = search needs
 
--- src/lib.rt:208:24
 part-trade-fits-end : tie.Need-part-trade-fits-end Inv-loop μ-loop
 part-trade-fits-end c = search needs
 
--- src/lib.rt:208:13
 trade-fits-requires : tie.Need-trade-fits-requires Inv-loop μ-loop
 trade-fits-requires c κs = let s = c .before .before .before .before in let l = c .before .before .loop in ap length (slice-row (s .args .words .now) (l .i)) ∙ length-row (s .args .words .now) (s .pre) (l .i) (c .before .loop-test .taken)
 
--- src/lib.rt:209:13
 returns : tie.Need-returns Inv-loop μ-loop
 returns c = let l = c .before .before .before .before .loop in rows-stop (c .before .before .before .before .before .before .args .words .now) (l .i) (l .inv .1) (c .before .before .before .loop-test .taken) _ (c .before .trade-fits .ensures) (c .if1 .taken)
 
--- src/lib.rt:204:5
 loop-less : tie.Need-loop-less Inv-loop μ-loop
 loop-less c = search needs
 
--- src/lib.rt:204:5
 loop-again : tie.Need-loop-again Inv-loop μ-loop
 loop-again c = let l = c .before .before .before .before .loop in (omega arith, rows-more (c .before .before .before .before .before .before .args .words .now) (l .i) (l .inv .1) (c .before .before .before .loop-test .taken) _ (c .before .trade-fits .ensures) (c .if1 .left))
 
--- src/lib.rt:199:1
 returns-2 : tie.Need-returns-2 Inv-loop μ-loop
 returns-2 c = let l = c .before .loop in rows-done (c .before .before .before .args .words .now) (l .i) (l .inv .1) (c .loop-test .left)
 
