@@ -1,0 +1,74 @@
+-- A book as it is written: the rows of the trades so far, joined, stand at the front, and the words after the trades end it.
+use mathlib.Core.Path.{_≡_, refl, sym, ap, _∙_}
+use mathlib.Core.List.{List, [], _∷_, _++_, flatMap, append-assoc, append-nil}
+use mathlib.Core.Bool.{true}
+use Prim.Native.Nat.{ℕ, suc, _+_, _*_, _<_}
+use native.Mathlib.Omega.{arith}
+use lib.ListN.{length, getD, take}
+use lib.Seq.{take-suc, take-all}
+use Rattle.lists.specs.Lists.{within, pasted}
+use Rattle.lists.proofs.Parts.{in-within}
+use Rattle.lists.proofs.Pasting.{paste-in}
+use Rattle.acknowledgment.proofs.Building.{Built, first, part, filled}
+use Rattle.book.specs.declared.Book.{Book}
+use Rattle.image.specs.Images.{tradesWords, restWords, bookWords, tradeImage, flagOf, lastOf, restImage, imageOf}
+
+module _ {A : Type 0} (f : A → List ℕ) where
+  pub join-append : (xs ys : List A) → flatMap f (xs ++ ys) ≡ flatMap f xs ++ flatMap f ys
+  unfolding flatMap
+  join-append [] ys = refl
+  join-append (x ∷ xs) ys = ap (λ (l : List ℕ). f x ++ l) (join-append xs ys) ∙ sym (append-assoc (f x) (flatMap f xs) (flatMap f ys))
+
+  pub join-one : (x : A) → flatMap f (x ∷ []) ≡ f x
+  unfolding flatMap
+  join-one x = append-nil (f x)
+
+  pub join-none : flatMap f [] ≡ []
+  unfolding flatMap
+  join-none = refl
+
+  pub join-turn : (xs : List A) (i : ℕ) (d : A) → i < length xs → flatMap f (take (i + 1) xs) ≡ flatMap f (take i xs) ++ f (getD xs i d)
+  join-turn xs i d h =
+      let e : i + 1 ≡ suc i = omega arith in
+      ap (λ (k : ℕ). flatMap f (take k xs)) e ∙ ap (flatMap f) (take-suc xs i d h) ∙ join-append (take i xs) (getD xs i d ∷ [])
+      ∙ ap (λ (l : List ℕ). flatMap f (take i xs) ++ l) (join-one (getD xs i d))
+
+  module _ (xs : List A) (o₀ : List ℕ) where
+    abbrev pub Joining : List ℕ → ℕ → Type 0
+    Joining o i = Built o₀ o (flatMap f (take i xs)) (i * 42)
+
+    pub joining-none : Joining o₀ 0
+    joining-none =
+        let w : within o₀ 0 (length {A = ℕ} []) ≡ true = in-within o₀ 0 0 (omega arith) (omega arith) in
+        record { is = λ h. sym (ap (pasted o₀ 0) join-none ∙ paste-in o₀ 0 [] w); long = ap length join-none }
+
+    pub joining-more : (o o′ : List ℕ) (i : ℕ) → Joining o i → (row : List ℕ) (d : A) → row ≡ f (getD xs i d) → length row ≡ 42 → o′ ≡ pasted o (i * 42) row → i < length xs → Joining o′ (i + 1)
+    joining-more o o′ i inv row d q l e h =
+        let b = part row inv e l in
+        let w : flatMap f (take i xs) ++ row ≡ flatMap f (take (i + 1) xs) = ap (λ (r : List ℕ). flatMap f (take i xs) ++ r) q ∙ sym (join-turn xs i d h) in
+        record {
+          is = λ k. b .is (omega arith) ∙ ap (pasted o₀ 0) w;
+          long = sym (ap length w) ∙ b .long ∙ omega arith;
+        }
+
+    pub joining-done : (o : List ℕ) (i n : ℕ) → Joining o i → i ≡ n → length xs ≡ n → Built o₀ o (flatMap f xs) (n * 42)
+    joining-done o i n inv e l =
+        let w : flatMap f (take i xs) ≡ flatMap f xs = ap (flatMap f) (take-all i xs (omega arith)) in
+        record { is = λ k. inv .is (omega arith) ∙ ap (pasted o₀ 0) w; long = sym (ap length w) ∙ inv .long ∙ ap (λ (k : ℕ). k * 42) e }
+
+-- the words after the trades, as they are written
+pub rest-made : (b : Book) (flag last : ℕ) → flag ≡ flagOf (b .line .received) → last ≡ lastOf (b .line .received)
+    → (b .values .count ∷ []) ++ b .values .holidays ++ (b .values .days ∷ []) ++ b .values .subscriber ++ b .values .connection
+    ++ (b .values .limits .ceiling ∷ b .values .limits .variance ∷ b .values .limits .pools ∷ b .values .limits .least
+    ∷ b .values .last ∷ b .values .outbound .0 ∷ flag ∷ last ∷ b .line .expected .0 ∷ b .live ∷ [])
+    ≡ restImage b
+unfolding restImage
+rest-made b flag last e f = rw (e, f)
+
+-- the trades' words and then those of the rest fill the image
+pub image-made : (b : Book) (o₀ o o′ rest : List ℕ) → length o₀ ≡ bookWords
+    → o ≡ pasted o₀ 0 (flatMap tradeImage (b .values .trades)) → length (flatMap tradeImage (b .values .trades)) ≡ tradesWords
+    → rest ≡ restImage b → length rest ≡ restWords → o′ ≡ pasted o 2688 rest → o′ ≡ imageOf b
+unfolding imageOf
+image-made b o₀ o o′ rest l e n q m f =
+    filled (part rest (first e refl n) f m) (sym l) ∙ ap (λ (r : List ℕ). flatMap tradeImage (b .values .trades) ++ r) q

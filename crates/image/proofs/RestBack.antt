@@ -1,0 +1,167 @@
+-- The words after the trades say all of a book but its trades, and the words of the book that they say are those words.
+use mathlib.Core.Path.{_≡_, refl, sym, ap, _∙_}
+use mathlib.Core.List.{List, [], _∷_, _++_}
+use mathlib.Core.Bool.{Bool, true, false, cond, _&&_, _||_}
+use Prim.Native.Nat.{ℕ, _+_, _≤_}
+use native.Mathlib.Omega.{arith}
+use lib.ListN.{length, getD, length-append}
+use lib.Dec.{eqb}
+use borrow.Author.Tests.{eqb-true}
+use Rattle.lists.specs.Lists.{part, all}
+use Rattle.lists.proofs.Parts.{length-part}
+use Rattle.lists.proofs.Tests.{and-left, both}
+use Rattle.sequence.specs.declared.Received.{Received}
+use Rattle.sequence.specs.declared.Received.the-variants.{Nothing, Last}
+use Rattle.sequence.specs.Sequence.{inbound, outbound}
+use Rattle.book.specs.declared.Trade.{Trade}
+use Rattle.book.specs.declared.Book.{Book}
+use Rattle.book.proofs.ListLaws.{all-both}
+use Rattle.image.specs.Images.{isByte, isNumber, flagOf, lastOf, restImage, receivedFits, restFits, receivedIn, bookFrom}
+use Rattle.image.specs.Formed.{Formed}
+use Rattle.image.proofs.Looking.{part-table}
+use Rattle.image.proofs.Told.{rest-received}
+use Rattle.image.proofs.Cutting.{part-next, part-whole, six}
+
+-- ---- what was received
+received-back : (r : Received) → receivedIn (flagOf r) (lastOf r) ≡ r
+received-back Nothing = refl
+received-back (Last n) = refl
+
+received-fits : (r : Received) → isNumber (lastOf r) ≡ true → receivedFits (flagOf r) (lastOf r) ≡ true
+received-fits Nothing h = refl
+received-fits (Last n) h = h
+
+module _ (flag n : ℕ) (h : receivedFits flag n ≡ true) where
+  pub flag-again : flagOf (receivedIn flag n) ≡ flag
+  flag-again = go (eqb flag 0) refl h
+    where
+      go : (b : Bool) → eqb flag 0 ≡ b → ((b && eqb n 0) || (eqb flag 1 && isNumber n)) ≡ true → flagOf (cond b Nothing (Last (inbound n))) ≡ flag
+      go true e k = sym (eqb-true flag 0 e)
+      go false e k = sym (eqb-true flag 1 (and-left (eqb flag 1) (isNumber n) k))
+
+  pub last-again : lastOf (receivedIn flag n) ≡ n
+  last-again = go (eqb flag 0) refl h
+    where
+      go : (b : Bool) → eqb flag 0 ≡ b → ((b && eqb n 0) || (eqb flag 1 && isNumber n)) ≡ true → lastOf (cond b Nothing (Last (inbound n))) ≡ n
+      go true e k = by (eqb n 0) refl k
+        where
+          by : (c : Bool) → eqb n 0 ≡ c → (c || (eqb flag 1 && isNumber n)) ≡ true → 0 ≡ n
+          by true f m = sym (eqb-true n 0 f)
+          by false f m =
+              let x = eqb-true flag 0 e in
+              let y = eqb-true flag 1 (and-left (eqb flag 1) (isNumber n) m) in
+              absurd (omega arith)
+      go false e k = refl
+
+-- ---- 52 words
+module _ (rest : List ℕ) (l : length rest ≡ 52) where
+  -- its parts end to end
+  cut : part rest 0 1 ++ part rest 1 32 ++ part rest 33 1 ++ part rest 34 4 ++ part rest 38 4 ++ part rest 42 10 ≡ rest
+  cut =
+      let j1 : part rest 0 1 ++ part rest 1 32 ≡ part rest 0 33 = part-next rest 0 1 32 in
+      let j2 = ap (λ (x : List ℕ). x ++ part rest 33 1) j1 ∙ part-next rest 0 33 1 in
+      let j3 = ap (λ (x : List ℕ). x ++ part rest 34 4) j2 ∙ part-next rest 0 34 4 in
+      let j4 = ap (λ (x : List ℕ). x ++ part rest 38 4) j3 ∙ part-next rest 0 38 4 in
+      let j5 = ap (λ (x : List ℕ). x ++ part rest 42 10) j4 ∙ part-next rest 0 42 10 in
+      j5 ∙ part-whole rest 52 l
+
+  count-word : part rest 0 1 ≡ getD rest 0 0 ∷ []
+  count-word = part-table rest 0 0 1 (omega arith)
+
+  days-word : part rest 33 1 ≡ getD rest 33 0 ∷ []
+  days-word = part-table rest 33 0 1 (omega arith)
+
+  numbers : part rest 42 10
+      ≡ getD rest 42 0 ∷ getD rest 43 0 ∷ getD rest 44 0 ∷ getD rest 45 0 ∷ getD rest 46 0 ∷ getD rest 47 0 ∷ getD rest 48 0 ∷ getD rest 49 0 ∷ getD rest 50 0 ∷ getD rest 51 0 ∷ []
+  numbers = part-table rest 42 0 10 (omega arith)
+
+  pub rest-again : (ts : List Trade) → restFits rest ≡ true → restImage (bookFrom ts rest) ≡ rest
+  unfolding restImage bookFrom
+  rest-again ts h =
+      let r = rest-received rest h in
+      rw (flag-again (getD rest 48 0) (getD rest 49 0) r, last-again (getD rest 48 0) (getD rest 49 0) r) (rw (count-word, days-word, numbers) at cut)
+
+-- ---- a book
+module _ (b : Book) (h : Formed b) where
+  pub length-rest : length (restImage b) ≡ 52
+  unfolding restImage
+  length-rest = simp length-append (omega (arith, h .holidays .0, h .subscriber .0, h .connection .0))
+
+  as-long : (k n : ℕ) → k + n ≤ 52 → length (part (restImage b) k n) ≡ n
+  as-long k n g = length-part (restImage b) k n (omega (arith, length-rest))
+
+-- the parts of a book's words after the trades are its fields
+pub record RestParts (b : Book) : Type 0 where
+  pub count : part (restImage b) 0 1 ≡ b .values .count ∷ []
+  pub holidays : part (restImage b) 1 32 ≡ b .values .holidays
+  pub days : part (restImage b) 33 1 ≡ b .values .days ∷ []
+  pub subscriber : part (restImage b) 34 4 ≡ b .values .subscriber
+  pub connection : part (restImage b) 38 4 ≡ b .values .connection
+  pub numbers : part (restImage b) 42 10
+      ≡ b .values .limits .ceiling ∷ b .values .limits .variance ∷ b .values .limits .pools ∷ b .values .limits .least
+      ∷ b .values .last ∷ b .values .outbound .0 ∷ flagOf (b .line .received) ∷ lastOf (b .line .received) ∷ b .line .expected .0 ∷ b .live ∷ []
+
+module _ (b : Book) (h : Formed b) where
+  parts : RestParts b
+  unfolding restImage
+  parts =
+      let r = restImage b in
+      let ns : List ℕ =
+      b .values .limits .ceiling ∷ b .values .limits .variance ∷ b .values .limits .pools ∷ b .values .limits .least
+      ∷ b .values .last ∷ b .values .outbound .0 ∷ flagOf (b .line .received) ∷ lastOf (b .line .received) ∷ b .line .expected .0 ∷ b .live ∷ [] in
+      let p = six (part r 0 1) (part r 1 32) (part r 33 1) (part r 34 4) (part r 38 4) (part r 42 10)
+      (b .values .count ∷ []) (b .values .holidays) (b .values .days ∷ []) (b .values .subscriber) (b .values .connection) ns
+      (as-long b h 1 32 (omega arith) ∙ sym (h .holidays .0))
+      (as-long b h 33 1 (omega arith))
+      (as-long b h 34 4 (omega arith) ∙ sym (h .subscriber .0))
+      (as-long b h 38 4 (omega arith) ∙ sym (h .connection .0))
+      (as-long b h 42 10 (omega arith))
+      (cut r (length-rest b h)) in
+      record { count = p .0; holidays = p .1; days = p .2; subscriber = p .3; connection = p .4; numbers = p .5 }
+
+  words : getD (restImage b) 42 0 ∷ getD (restImage b) 43 0 ∷ getD (restImage b) 44 0 ∷ getD (restImage b) 45 0 ∷ getD (restImage b) 46 0
+      ∷ getD (restImage b) 47 0 ∷ getD (restImage b) 48 0 ∷ getD (restImage b) 49 0 ∷ getD (restImage b) 50 0 ∷ getD (restImage b) 51 0 ∷ []
+      ≡ b .values .limits .ceiling ∷ b .values .limits .variance ∷ b .values .limits .pools ∷ b .values .limits .least
+      ∷ b .values .last ∷ b .values .outbound .0 ∷ flagOf (b .line .received) ∷ lastOf (b .line .received) ∷ b .line .expected .0 ∷ b .live ∷ []
+  words = sym (numbers (restImage b) (length-rest b h)) ∙ parts .numbers
+
+  pub rest-back : bookFrom (b .values .trades) (restImage b) ≡ b
+  unfolding bookFrom
+  rest-back =
+      let c = sym (count-word (restImage b) (length-rest b h)) ∙ parts .count in
+      let d = sym (days-word (restImage b) (length-rest b h)) ∙ parts .days in
+      let q = words in
+      let r : receivedIn (getD (restImage b) 48 0) (getD (restImage b) 49 0) ≡ b .line .received =
+      (λ i. receivedIn (getD (q i) 6 0) (getD (q i) 7 0)) ∙ received-back (b .line .received) in
+      λ i.
+      record {
+        values =
+            record {
+              trades = b .values .trades;
+              count = getD (c i) 0 0;
+              holidays = parts .holidays i;
+              days = getD (d i) 0 0;
+              subscriber = parts .subscriber i;
+              connection = parts .connection i;
+              limits = record { ceiling = getD (q i) 0 0; variance = getD (q i) 1 0; pools = getD (q i) 2 0; least = getD (q i) 3 0 };
+              last = getD (q i) 4 0;
+              outbound = outbound (getD (q i) 5 0);
+            };
+        line = record { received = r i; expected = inbound (getD (q i) 8 0) };
+        live = getD (q i) 9 0;
+      }
+
+  pub rest-fits : restFits (restImage b) ≡ true
+  unfolding restFits
+  rest-fits =
+      let r = restImage b in
+      let q = words in
+      let s = ap (all isByte) (parts .subscriber) ∙ h .subscriber .1 in
+      let c = ap (all isByte) (parts .connection) ∙ h .connection .1 in
+      let a = sym (ap (all isByte) (part-next r 34 4 4)) ∙ all-both isByte (part r 34 4) (part r 38 4) s c in
+      let o : isNumber (getD r 47 0) ≡ true = ap (λ (l : List ℕ). isNumber (getD l 5 0)) q ∙ h .outbound in
+      let f : receivedFits (getD r 48 0) (getD r 49 0) ≡ true =
+      ap (λ (l : List ℕ). receivedFits (getD l 6 0) (getD l 7 0)) q ∙ received-fits (b .line .received) (h .received) in
+      let x : isNumber (getD r 50 0) ≡ true = ap (λ (l : List ℕ). isNumber (getD l 8 0)) q ∙ h .expected in
+      both (all isNumber (part r 1 32)) _ (ap (all isNumber) (parts .holidays) ∙ h .holidays .1)
+      (both (all isByte (part r 34 8)) _ a (both (isNumber (getD r 47 0)) _ o (both (receivedFits (getD r 48 0) (getD r 49 0)) _ f x)))

@@ -1,0 +1,131 @@
+-- A book as words (01, "The book"): one word for each number and each byte of it, in the order in which the book's structs declare them; and what a list of words says.
+use Prim.Native.Nat.{ℕ, _*_}
+use mathlib.Core.List.{List, [], _∷_, _++_, map, flatMap}
+use mathlib.Core.Bool.{Bool, cond, _&&_, _||_}
+use lib.ListN.{length, getD}
+use lib.Dec.{eqb, ltb}
+use Rattle.lists.specs.Lists.{part, tab, all}
+use Rattle.sequence.specs.declared.Received.{Received}
+use Rattle.sequence.specs.declared.Received.the-variants.{Nothing, Last}
+use Rattle.sequence.specs.Sequence.{inbound, outbound}
+use Rattle.book.specs.declared.Trade.{Trade}
+use Rattle.book.specs.declared.Book.{Book}
+
+-- words of a trade, of all 64, of what stands after them, and of a book
+abbrev pub tradeWords : ℕ
+tradeWords = 42
+
+abbrev pub tradesWords : ℕ
+tradesWords = 2688
+
+abbrev pub restWords : ℕ
+restWords = 52
+
+abbrev pub bookWords : ℕ
+bookWords = 2740
+
+-- ---- what a book is as words
+unfoldable pub tradeImage : Trade → List ℕ
+tradeImage t = t .id ++ (t .length ∷ []) ++ t .seller ++ t .buyer ++ t .contra ++ t .cusip ++ (t .settlement ∷ t .price ∷ t .par ∷ t .left ∷ [])
+
+-- whether a number was received
+abbrev pub flagOf : Received → ℕ
+flagOf Nothing = 0
+flagOf (Last n) = 1
+
+-- the last number received, 0 where there is none
+abbrev pub lastOf : Received → ℕ
+lastOf Nothing = 0
+lastOf (Last n) = n .0
+
+-- all of a book but its trades
+unfoldable pub restImage : Book → List ℕ
+restImage b =
+    (b .values .count ∷ []) ++ b .values .holidays ++ (b .values .days ∷ []) ++ b .values .subscriber ++ b .values .connection
+    ++ (b .values .limits .ceiling ∷ b .values .limits .variance ∷ b .values .limits .pools ∷ b .values .limits .least
+    ∷ b .values .last ∷ b .values .outbound .0 ∷ flagOf (b .line .received) ∷ lastOf (b .line .received) ∷ b .line .expected .0 ∷ b .live ∷ [])
+
+unfoldable pub imageOf : Book → List ℕ
+imageOf b = flatMap tradeImage (b .values .trades) ++ restImage b
+
+-- ---- what words say
+-- the words of the i-th trade, of all 64, and those after them
+abbrev pub rowAt : List ℕ → ℕ → List ℕ
+rowAt ws i = part ws (i * tradeWords) tradeWords
+
+unfoldable pub rowsOf : List ℕ → List (List ℕ)
+rowsOf ws = tab (rowAt ws) 64 0
+
+unfoldable pub restOf : List ℕ → List ℕ
+restOf ws = part ws tradesWords restWords
+
+-- a word that is a byte, and one that is a sequence number or a date
+abbrev pub isByte : ℕ → Bool
+isByte w = ltb w 256
+
+abbrev pub isNumber : ℕ → Bool
+isNumber w = ltb w 4294967296
+
+-- the bytes of a trade are bytes
+unfoldable pub tradeFits : List ℕ → Bool
+tradeFits row = all isByte (part row 0 16) && all isByte (part row 17 21)
+
+-- either nothing was received and the number is 0, or a number was
+abbrev pub receivedFits : ℕ → ℕ → Bool
+receivedFits flag n = (eqb flag 0 && eqb n 0) || (eqb flag 1 && isNumber n)
+
+-- holidays, subscriber and connection, the outbound number, the last received and the expected one
+unfoldable pub restFits : List ℕ → Bool
+restFits rest =
+    all isNumber (part rest 1 32)
+    && (all isByte (part rest 34 8)
+    && (isNumber (getD rest 47 0)
+    && (receivedFits (getD rest 48 0) (getD rest 49 0)
+    && isNumber (getD rest 50 0))))
+
+-- whether words are the image of a book
+unfoldable pub isImage : List ℕ → Bool
+isImage ws = eqb (length ws) bookWords && (all tradeFits (rowsOf ws) && restFits (restOf ws))
+
+-- the trade that its words say
+unfoldable pub tradeIn : List ℕ → Trade
+tradeIn row =
+    record {
+      id = part row 0 16;
+      length = getD row 16 0;
+      seller = part row 17 4;
+      buyer = part row 21 4;
+      contra = part row 25 4;
+      cusip = part row 29 9;
+      settlement = getD row 38 0;
+      price = getD row 39 0;
+      par = getD row 40 0;
+      left = getD row 41 0;
+    }
+
+abbrev pub receivedIn : ℕ → ℕ → Received
+receivedIn flag n = cond (eqb flag 0) Nothing (Last (inbound n))
+
+-- the book of some trades that the words after the trades say
+unfoldable pub bookFrom : List Trade → List ℕ → Book
+bookFrom trades rest =
+    record {
+      values =
+          record {
+            trades = trades;
+            count = getD rest 0 0;
+            holidays = part rest 1 32;
+            days = getD rest 33 0;
+            subscriber = part rest 34 4;
+            connection = part rest 38 4;
+            limits = record { ceiling = getD rest 42 0; variance = getD rest 43 0; pools = getD rest 44 0; least = getD rest 45 0 };
+            last = getD rest 46 0;
+            outbound = outbound (getD rest 47 0);
+          };
+      line = record { received = receivedIn (getD rest 48 0) (getD rest 49 0); expected = inbound (getD rest 50 0) };
+      live = getD rest 51 0;
+    }
+
+-- the book that words say
+unfoldable pub bookIn : List ℕ → Book
+bookIn ws = bookFrom (map tradeIn (rowsOf ws)) (restOf ws)

@@ -1,0 +1,5 @@
+pub mod Filling
+pub mod Fits
+pub mod Rows
+pub mod Rest
+pub mod Whole

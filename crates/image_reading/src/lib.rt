@@ -1,0 +1,312 @@
+// A book read back from its words. Words that are no book's are told.
+use book::Book;
+use book::Limits;
+use book::Trade;
+use book::Values;
+use sequence::Inbound;
+use sequence::Line;
+use sequence::Outbound;
+use sequence::Received;
+ghost use mathlib.Core.Path.{_≡_};
+ghost use mathlib.Core.List.{map};
+ghost use mathlib.Core.Bool.{true};
+ghost use Prim.Native.Nat.{ℕ, _+_, _≤_};
+ghost use lib.ListN.{length};
+ghost use lib.Dec.{ltb};
+ghost use Rattle.lists.specs.Lists.{part, all};
+ghost use Rattle.image.specs.Images.{
+  tradeWords,
+  restWords,
+  bookWords,
+  rowsOf,
+  isByte,
+  isNumber,
+  tradeFits,
+  receivedFits,
+  restFits,
+  isImage,
+  tradeIn,
+  receivedIn,
+  bookFrom,
+  bookIn,
+};
+
+// Widths of the arrays, in words.
+const ID_WIDTH: usize = 16;
+
+const NAMES_WIDTH: usize = 21;
+
+const ACCOUNTS_WIDTH: usize = 8;
+
+// One more than the highest byte, and than the highest number of 32 bits.
+const BYTE_END: u64 = 256;
+
+const NUMBER_END: u64 = 4294967296;
+
+// What was read: whether the words are an image, and where they are, the book; else a book with no trades.
+pub struct Read {
+    pub fine: bool,
+    pub book: Book,
+}
+
+// Whether the n words from at are all below a limit.
+fn all_below(words: &[u64], at: usize, n: usize, limit: u64) -> bool
+    requires { ⌜ at + n ≤ length (now words) ⌝ }
+    ensures { λ r. ⌜ r ≡ all (λ (w : ℕ). ltb w limit) (part (now (words .entry)) at n) ⌝ }
+{
+    let mut i: usize = 0;
+    while i < n {
+        let w = words[at + i];
+        i += 1;
+        if limit <= w {
+            return false;
+        }
+    }
+    true
+}
+
+// Fills out with the words from at, which are bytes.
+fn read_bytes(out: &mut [u8], words: &[u64], at: usize)
+    requires { ⌜ (at + length (now out) ≤ length (now words)) × (all isByte (part (now words) at (length (now out))) ≡ true) ⌝ }
+    ensures { λ _. ⌜ now (out .exit) ≡ part (now (words .entry)) at (length (now (out .entry))) ⌝ }
+{
+    let mut i: usize = 0;
+    while i < out.len() {
+        out[i] = words[at + i] as u8;
+        i += 1;
+    }
+}
+
+// Fills out with the words from at, which are numbers of 32 bits.
+fn read_numbers(out: &mut [u32], words: &[u64], at: usize)
+    requires { ⌜ (at + length (now out) ≤ length (now words)) × (all isNumber (part (now words) at (length (now out))) ≡ true) ⌝ }
+    ensures { λ _. ⌜ now (out .exit) ≡ part (now (words .entry)) at (length (now (out .entry))) ⌝ }
+{
+    let mut i: usize = 0;
+    while i < out.len() {
+        out[i] = words[at + i] as u32;
+        i += 1;
+    }
+}
+
+// Whether a trade's words are those of a trade.
+fn trade_fits(row: &[u64]) -> bool
+    requires { ⌜ length (now row) ≡ tradeWords ⌝ }
+    ensures { λ r. ⌜ r ≡ tradeFits (now (row .entry)) ⌝ }
+{
+    all_below(row, image::ID, ID_WIDTH, BYTE_END)
+        & all_below(row, image::SELLER, NAMES_WIDTH, BYTE_END)
+}
+
+// The trade of a trade's words.
+fn read_trade(row: &[u64]) -> Trade
+    requires { ⌜ (length (now row) ≡ tradeWords) × (tradeFits (now row) ≡ true) ⌝ }
+    ensures { λ r. ⌜ r ≡ tradeIn (now (row .entry)) ⌝ }
+{
+    let mut id = [0u8; 16];
+    let mut seller = [0u8; 4];
+    let mut buyer = [0u8; 4];
+    let mut contra = [0u8; 4];
+    let mut cusip = [0u8; 9];
+    read_bytes(&mut id, row, image::ID);
+    read_bytes(&mut seller, row, image::SELLER);
+    read_bytes(&mut buyer, row, image::BUYER);
+    read_bytes(&mut contra, row, image::CONTRA);
+    read_bytes(&mut cusip, row, image::CUSIP);
+    Trade {
+        id: id,
+        length: row[image::LENGTH] as usize,
+        seller: seller,
+        buyer: buyer,
+        contra: contra,
+        cusip: cusip,
+        settlement: row[image::SETTLEMENT],
+        price: row[image::PRICE],
+        par: row[image::PAR],
+        left: row[image::LEFT],
+    }
+}
+
+// Whether the words of all trades are those of trades.
+fn trades_fit(words: &[u64]) -> bool
+    requires { ⌜ length (now words) ≡ bookWords ⌝ }
+    ensures { λ r. ⌜ r ≡ all tradeFits (rowsOf (now (words .entry))) ⌝ }
+{
+    let mut i: usize = 0;
+    while i < book::TRADES_MAX {
+        let at = i * image::TRADE_WORDS;
+        let end = at + image::TRADE_WORDS;
+        i += 1;
+        if !trade_fits(&words[at..end]) {
+            return false;
+        }
+    }
+    true
+}
+
+fn no_trade() -> Trade {
+    Trade {
+        id: [0; 16],
+        length: 0,
+        seller: [0; 4],
+        buyer: [0; 4],
+        contra: [0; 4],
+        cusip: [0; 9],
+        settlement: 0,
+        price: 0,
+        par: 0,
+        left: 0,
+    }
+}
+
+// The trades of a book's words.
+fn read_trades(words: &[u64]) -> [Trade; 64]
+    requires { ⌜ (length (now words) ≡ bookWords) × (all tradeFits (rowsOf (now words)) ≡ true) ⌝ }
+    ensures { λ r. ⌜ r ≡ map tradeIn (rowsOf (now (words .entry))) ⌝ }
+{
+    let none = no_trade();
+    let mut trades = [none; 64];
+    let mut i: usize = 0;
+    while i < book::TRADES_MAX {
+        let at = i * image::TRADE_WORDS;
+        let end = at + image::TRADE_WORDS;
+        trades[i] = read_trade(&words[at..end]);
+        i += 1;
+    }
+    trades
+}
+
+// Whether flag and number tell what was received.
+fn received_fits(flag: u64, number: u64) -> bool
+    ensures { λ r. ⌜ r ≡ receivedFits flag number ⌝ }
+{
+    ((flag == 0) & (number == 0)) | ((flag == 1) & (number < NUMBER_END))
+}
+
+// What was received, as flag and number tell it.
+fn read_received(flag: u64, number: u64) -> Received
+    requires { ⌜ receivedFits flag number ≡ true ⌝ }
+    ensures { λ r. ⌜ r ≡ receivedIn flag number ⌝ }
+{
+    if flag == 0 {
+        return Received::Nothing;
+    }
+    Received::Last(Inbound(number as u32))
+}
+
+// Whether the words after the trades are those of a book.
+fn rest_fits(rest: &[u64]) -> bool
+    requires { ⌜ length (now rest) ≡ restWords ⌝ }
+    ensures { λ r. ⌜ r ≡ restFits (now (rest .entry)) ⌝ }
+{
+    let received = received_fits(rest[image::RECEIVED], rest[image::NUMBER]);
+    let dates = all_below(rest, image::HOLIDAYS, book::HOLIDAYS_MAX, NUMBER_END);
+    let accounts = all_below(rest, image::SUBSCRIBER, ACCOUNTS_WIDTH, BYTE_END);
+    dates
+        & (accounts
+            & ((rest[image::OUTBOUND] < NUMBER_END)
+                & (received & (rest[image::EXPECTED] < NUMBER_END))))
+}
+
+// The book of some trades and of the words after the trades.
+fn read_rest(trades: [Trade; 64], rest: &[u64]) -> Book
+    requires { ⌜ (length (now rest) ≡ restWords) × (restFits (now rest) ≡ true) ⌝ }
+    ensures { λ r. ⌜ r ≡ bookFrom trades (now (rest .entry)) ⌝ }
+{
+    let mut holidays = [0u32; 32];
+    let mut subscriber = [0u8; 4];
+    let mut connection = [0u8; 4];
+    read_numbers(&mut holidays, rest, image::HOLIDAYS);
+    read_bytes(&mut subscriber, rest, image::SUBSCRIBER);
+    read_bytes(&mut connection, rest, image::CONNECTION);
+    let received = read_received(rest[image::RECEIVED], rest[image::NUMBER]);
+    let limits = Limits {
+        ceiling: rest[image::CEILING],
+        variance: rest[image::VARIANCE],
+        pools: rest[image::POOLS],
+        least: rest[image::LEAST],
+    };
+    let values = Values {
+        trades: trades,
+        count: rest[image::COUNT] as usize,
+        holidays: holidays,
+        days: rest[image::DAYS] as usize,
+        subscriber: subscriber,
+        connection: connection,
+        limits: limits,
+        last: rest[image::LAST],
+        outbound: Outbound(rest[image::OUTBOUND] as u32),
+    };
+    Book {
+        values: values,
+        line: Line {
+            received: received,
+            expected: Inbound(rest[image::EXPECTED] as u32),
+        },
+        live: rest[image::LIVE] as usize,
+    }
+}
+
+// Whether words are the image of a book.
+fn is_image(words: &[u64]) -> bool
+    ensures { λ r. ⌜ r ≡ isImage (now (words .entry)) ⌝ }
+{
+    if words.len() != image::BOOK_WORDS {
+        return false;
+    }
+    if !trades_fit(words) {
+        return false;
+    }
+    rest_fits(&words[image::REST..image::BOOK_WORDS])
+}
+
+// The book of an image.
+fn book_in(words: &[u64]) -> Book
+    requires { ⌜ isImage (now words) ≡ true ⌝ }
+    ensures { λ r. ⌜ r ≡ bookIn (now (words .entry)) ⌝ }
+{
+    let trades = read_trades(words);
+    read_rest(trades, &words[image::REST..image::BOOK_WORDS])
+}
+
+fn no_book() -> Book {
+    let none = no_trade();
+    let trades = [none; 64];
+    let values = Values {
+        trades: trades,
+        count: 0,
+        holidays: [0; 32],
+        days: 0,
+        subscriber: [0; 4],
+        connection: [0; 4],
+        limits: Limits {
+            ceiling: 0,
+            variance: 0,
+            pools: 0,
+            least: 0,
+        },
+        last: 0,
+        outbound: Outbound(0),
+    };
+    Book {
+        values: values,
+        line: sequence::start(),
+        live: 0,
+    }
+}
+
+// Reads a book back. Words that are no book's are told.
+pub fn read_book(words: &[u64]) -> Read
+    ensures { λ r. ⌜ (r .fine ≡ isImage (now (words .entry))) × (r .fine ≡ true → r .book ≡ bookIn (now (words .entry))) ⌝ }
+{
+    if !is_image(words) {
+        return Read {
+            fine: false,
+            book: no_book(),
+        };
+    }
+    Read {
+        fine: true,
+        book: book_in(words),
+    }
+}
