@@ -1,0 +1,4 @@
+pub mod Took
+pub mod Passing
+pub mod Turns
+pub mod Promised
