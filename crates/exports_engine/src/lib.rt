@@ -2,9 +2,12 @@
 use book::Answer;
 use book::Book;
 use book::Reason;
+use figures::Figures;
 ghost use mathlib.Core.Path.{_≡_};
 ghost use lib.ListN.{length};
 ghost use Rattle.lists.specs.Lists.{pasted};
+ghost use Rattle.exports_engine.specs.Opening.{Opening};
+ghost use Rattle.exports_engine.specs.Figures.{figuresNumbers, figuresIn};
 ghost use Rattle.exports_engine.specs.Calls.{timeWidth, saidOf, StepsTo, Calls};
 
 const TIME_WIDTH: usize = 6;
@@ -87,4 +90,71 @@ pub extern "C" fn rhoikandra_step(
         &mut *out,
         &mut *said,
     );
+}
+
+// Number 41 as the code of an opening that is refused.
+const REFUSED: u64 = 41;
+
+// Opens a book by the values that words say: 0, or 41 where it is refused.
+#[no_mangle]
+pub extern "C" fn rhoikandra_open(
+    image: &mut [u64],
+    numbers: &mut [[u64; 6]],
+    keys: &mut [[u8; 22]],
+) -> u64
+    ensures { λ r. ⌜ Opening (now (image .entry)) (now (numbers .entry)) (now (keys .entry)) (now (image .exit)) (now (numbers .exit)) (now (keys .exit)) r ⌝ }
+{
+    let read = image_reading::read_book(&*image);
+    if !read.fine {
+        return REFUSED;
+    }
+    let book = read.book;
+    let values = book.values;
+    let opened = opened::open_book(values, &mut *numbers, &mut *keys);
+    if !opened.fine {
+        return REFUSED;
+    }
+    let after = opened.book;
+    image::write_book(&mut *image, after);
+    0
+}
+
+// What is said of a trade in three numbers.
+fn figures_numbers(f: Figures) -> [u64; 3]
+    ensures { λ r. ⌜ r ≡ figuresNumbers f ⌝ }
+{
+    let known = numbers::bit_of(f.known);
+    [known, f.left, f.millions]
+}
+
+// What the book that words say tells of a trade.
+fn figures_in(image: &[u64], numbers: &[[u64; 6]], keys: &[[u8; 22]], trade: usize) -> Figures
+    ensures { λ r. ⌜ r ≡ figuresIn (now (image .entry)) (now (numbers .entry)) (now (keys .entry)) trade ⌝ }
+{
+    let read = image_reading::read_book(image);
+    if !read.fine {
+        return Figures {
+            known: false,
+            left: 0,
+            millions: 0,
+        };
+    }
+    let book = read.book;
+    figures::trade_figures(book, numbers, keys, trade)
+}
+
+// Writes whether a trade is known, its open par and its standing millions.
+#[no_mangle]
+pub extern "C" fn rhoikandra_figures(
+    image: &[u64],
+    numbers: &[[u64; 6]],
+    keys: &[[u8; 22]],
+    trade: usize,
+    out: &mut [u64],
+)
+    ensures { λ _. ⌜ now (out .exit) ≡ pasted (now (out .entry)) 0 (figuresNumbers (figuresIn (now (image .entry)) (now (numbers .entry)) (now (keys .entry)) trade)) ⌝ }
+{
+    let f = figures_in(image, numbers, keys, trade);
+    let three = figures_numbers(f);
+    numbers::put_numbers(&mut *out, &three);
 }
