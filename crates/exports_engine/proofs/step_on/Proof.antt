@@ -1,0 +1,47 @@
+-- What the frame call leaves, with its book written as words and its answer as two numbers.
+use Rattle.exports_engine.proofs.Calling.{stepped}
+use borrow.Author.Needs.{needs}
+use Rattle.exports_engine.proofs.step_on.Statement.{statement}
+use Rattle.exports_engine.proofs.step_on.Tie as tie
+
+step-requires : tie.Need-step-requires
+step-requires c κs = search needs
+
+write-book-requires : tie.Need-write-book-requires
+write-book-requires c κs = search needs
+
+put-answer-requires : tie.Need-put-answer-requires
+put-answer-requires c κs = search needs
+
+same-length : tie.Need-same-length
+same-length c = search needs
+
+same-length-2 : tie.Need-same-length-2
+same-length-2 c = search needs
+
+same-length-3 : tie.Need-same-length-3
+same-length-3 c = search needs
+
+same-length-4 : tie.Need-same-length-4
+same-length-4 c = search needs
+
+same-length-5 : tie.Need-same-length-5
+same-length-5 c = search needs
+
+returns : tie.Need-returns
+returns c = let a = c .before .before .before .before .before .before .before .before .before .before .before .before .before .before .before .before .before .before .before .before .before .args in
+    stepped (a .image .now) (a .numbers .now) (a .keys .now) (a .body .now) (a .time) (a .out .now) (a .said .now) _ _ _ _ _ (a .book) _ (c .before .before .before .before .before .before .before .before .before .before .before .before .before .before .before .before .before .before .before .before .before .pre) (c .before .before .before .before .before .before .before .before .before .before .before .before .before .step .ensures) (c .before .before .before .before .before .before .write-book .ensures) (c .before .before .put-answer .ensures)
+
+pub step-on-spec : {M : Type 1} → statement M
+step-on-spec =
+    tie.close
+    (tie.spec
+    step-requires
+    write-book-requires
+    put-answer-requires
+    same-length
+    same-length-2
+    same-length-3
+    same-length-4
+    same-length-5
+    returns)
