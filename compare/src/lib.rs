@@ -1,5 +1,6 @@
-//! The proved leaves beside the reference: `proved` calls the leaves, `cases` makes what both are given.
+//! The proved leaves beside the reference: `proved` calls the leaves, `engine` the engine, `cases` makes what both are given.
 
 pub mod bodies;
 pub mod cases;
+pub mod engine;
 pub mod proved;

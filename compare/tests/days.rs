@@ -1,0 +1,149 @@
+//! Whole days through the exported engine and the reference: every answer, every output byte, every record and every counter.
+
+use std::collections::BTreeMap;
+
+use compare::cases::Cases;
+use compare::engine::{held, open, same_table, step, words, Held};
+use reference::answer::{Answer, Number, OPENING, UNSOUND_BOOK};
+use reference::book::{Book, PoolRecord};
+use reference::damage::{scribble, sound_book, Lent, BOOK_DAMAGES, OPENING_DAMAGES};
+use reference::frame_call::frame_call;
+use reference::generator::{day, Random};
+
+/// How often each code was met, 0 for accepted.
+type Met = BTreeMap<Number, u64>;
+
+const FRAMES: u64 = 200_000;
+const LONGER: &str = "COMPARE_FRAMES";
+/// Every number that a frame can get, and 0 for accepted.
+const CODES: [Number; 29] = [
+    0, 10, 11, 12, 13, 14, 15, 16, 17, 18, 19, 20, 21, 22, 23, 24, 25, 30, 31, 32, 33, 34, 35, 36, 37, 38, 40, 42, 44,
+];
+
+/// Puts one call to both, from the same state, and compares all that it leaves.
+fn both(
+    client: &mut Held,
+    book: &mut Book,
+    table: &mut [PoolRecord],
+    random: &mut Random,
+    call: (&[u8; 6], usize, &[u8]),
+    met: &mut Met,
+) {
+    let (time, length, body) = call;
+    let mut out = random.bytes(length);
+    let mut output = out.clone();
+    let (answer, id) = step(client, &mut out, time, body);
+    let told = frame_call(book, table, &mut output, time, body, Default::default());
+    assert_eq!(answer, told.answer);
+    if answer == Answer::Accepted {
+        assert_eq!(id, book.values.last_message_id);
+    }
+    assert_eq!(out, output);
+    assert_eq!(client.words, words(book));
+    assert!(same_table(client, table), "the tables differ after {answer:?}");
+    *met.entry(answer.code()).or_default() += 1;
+}
+
+#[test]
+fn random_days() {
+    let mut cases = Cases::of("random days");
+    let frames = std::env::var(LONGER).map_or(FRAMES, |n| n.parse().expect("a number of frames"));
+    let mut met = Met::new();
+    let mut count = 0;
+    while count < frames {
+        let day = day(cases.random.below(1 << 40));
+        let mut table = vec![PoolRecord::EMPTY; day.records];
+        let mut book = reference::opening::open(&day.opening, &mut table).expect("an opening in range");
+        let mut client = held(&book, &table);
+        // Opening sets the line and the live pools itself, whatever the words say of them.
+        *client.words.last_mut().unwrap() = cases.random.below(9);
+        assert_eq!(open(&mut client), Ok(()), "the day of seed {}", day.seed);
+        assert_eq!(client.words, words(&book));
+        for call in &day.calls {
+            let lent = (&call.time, call.output_length, &call.body[..]);
+            both(&mut client, &mut book, &mut table, &mut cases.random, lent, &mut met);
+            count += 1;
+            cases.count();
+        }
+    }
+    println!("met in random days: {met:?}");
+    for code in CODES {
+        let least = if code == UNSOUND_BOOK { 0 } else { 50 };
+        assert!(met.get(&code).copied().unwrap_or(0) >= least, "{code} was met too seldom: {met:?}");
+    }
+}
+
+#[test]
+fn damaged_books() {
+    let mut cases = Cases::of("damaged books");
+    let body = day(7).calls[0].body.clone();
+    let mut met = Met::new();
+    for _ in 0..20 {
+        for (name, damage) in BOOK_DAMAGES {
+            let (mut book, mut table) = sound_book();
+            damage(&mut book, &mut table);
+            let mut client = held(&book, &table);
+            let before = client.clone();
+            let mut out = cases.random.bytes(217);
+            let kept = out.clone();
+            let (answer, _) = step(&mut client, &mut out, b"000000", &body);
+            assert_eq!(answer, Answer::Rejected(UNSOUND_BOOK), "{name}");
+            assert!(client == before && out == kept, "{name}: something moved");
+            cases.count();
+        }
+    }
+    for _ in 0..4_000 {
+        let (mut book, mut table) = sound_book();
+        for _ in 0..cases.random.between(1, 2) {
+            scribble(&mut cases.random, &mut book, &mut table);
+        }
+        let mut client = held(&book, &table);
+        let call = (b"235959", 217, &body[..]);
+        both(&mut client, &mut book, &mut table, &mut cases.random, call, &mut met);
+        cases.count();
+    }
+    println!("met on scribbled books: {met:?}");
+    assert!(met[&UNSOUND_BOOK] > 1_000 && met.len() > 1, "{met:?}");
+}
+
+#[test]
+fn images_that_are_no_book() {
+    let mut cases = Cases::of("images that are no book");
+    let body = day(7).calls[0].body.clone();
+    let (book, table) = sound_book();
+    for _ in 0..3_000 {
+        let mut client = held(&book, &table);
+        match cases.random.below(4) {
+            0 => client.words.truncate(cases.random.below(2740) as usize),
+            1 => client.words.push(0),
+            2 => drop(client.keys.pop()),
+            _ => client.words[cases.random.below(16) as usize] = 256 + cases.random.number() / 2,
+        }
+        let before = client.clone();
+        let mut out = cases.random.bytes(217);
+        let kept = out.clone();
+        assert_eq!(step(&mut client, &mut out, b"000000", &body).0, Answer::Rejected(UNSOUND_BOOK));
+        assert!(client == before && out == kept);
+        cases.count();
+    }
+}
+
+#[test]
+fn damaged_openings() {
+    let mut cases = Cases::of("damaged openings");
+    for _ in 0..20 {
+        for (name, damage) in OPENING_DAMAGES {
+            let (book, _) = sound_book();
+            let mut lent = Lent { values: book.values, records: 12 };
+            damage(&mut lent);
+            let mut table = vec![PoolRecord { ordinal: 3, ..PoolRecord::EMPTY }; lent.records];
+            let shown = Book { values: lent.values.clone(), open_par_cents: Vec::new(), ..book };
+            let mut client = held(&shown, &table);
+            let before = client.clone();
+            assert_eq!(reference::opening::open(&lent.values, &mut table).err(), Some(OPENING), "{name}");
+            assert_eq!(open(&mut client), Err(OPENING), "{name}");
+            assert!(client == before, "{name}: something moved");
+            cases.count();
+        }
+    }
+}
