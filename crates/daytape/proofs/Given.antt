@@ -43,13 +43,13 @@ unfolding valuesGiven
 values-given b t e f = rw (e, f)
 
 -- 41 passes the values
-given-fine : valuesFine valuesGiven ≡ true
+pub given-fine : valuesFine valuesGiven ≡ true
 unfolding valuesFine valuesGiven within part allBetween dayNumber weekdayOf isDate businessDate
 given-fine = refl
 
 module _ (ns ks : List (List ℕ)) (rows : length ns ≡ 512) (bytes : length ks ≡ 512) where
   -- 41 passes
-  pub opening-fine : openingFine valuesGiven (tableOf ns ks) ≡ true
+  opening-fine : openingFine valuesGiven (tableOf ns ks) ≡ true
   unfolding openingFine
   opening-fine = λ i. given-fine i && leb ((length-table ns ks ∙ rows) i) recordsMax
 
