@@ -1,4 +1,5 @@
 pub mod Took
 pub mod Passing
 pub mod Turns
+pub mod Enough
 pub mod Promised

@@ -2,21 +2,18 @@
 use mathlib.Core.Path.{_≡_, refl, sym, ap, _∙_}
 use mathlib.Core.List.{List, [], _∷_, map}
 use mathlib.Core.Bool.{Bool, true, false, cond}
-use Prim.Native.Nat.{ℕ, zero, suc, _+_, _-_, _≤_, _<_}
+use Prim.Native.Nat.{ℕ, zero, suc, _+_, _-_, _≤_}
 use native.Mathlib.Omega.{arith}
-use lib.ListN.{length, take, drop, drop-of-length-le}
+use lib.ListN.{length, drop-of-length-le}
 use Rattle.lists.specs.Lists.{part}
-use Rattle.framing.specs.declared.Frame.{Frame}
 use Rattle.framing.specs.declared.Frame.the-variants.{Body, Nothing}
 use Rattle.framing.specs.Framing.{nextFrame}
 use Rattle.framing.proofs.Ahead.{Between, frame-ahead}
-use Rattle.book.specs.declared.Book.{Book}
 use Rattle.book.specs.Reasons.{isAccepted}
 use Rattle.book.specs.Checks.{answerOf}
 use Rattle.book.specs.Promise.{State, Put, callOf, after, afterAll, fed}
-use Rattle.day.specs.declared.Day.{Day}
 use Rattle.day.specs.Tape.{bodyThen, bodiesFrom, bodiesOf, putOf, putsOf}
-use Rattle.day.specs.Days.{stateOf, acceptedAmong, othersAmong, Ran}
+use Rattle.day.specs.Days.{acceptedAmong, othersAmong}
 
 -- past the tape's end there is no frame
 pub none-past : (tape : List ℕ) (at : ℕ) → length tape ≤ at → nextFrame tape at ≡ Nothing

@@ -1,10 +1,9 @@
 -- Demand 3 of a day: what a day leaves of a book that was opened without refusal keeps the promise, with the history of the same calls.
-use mathlib.Core.Path.{_≡_, sym, ap, _∙_}
+use mathlib.Core.Path.{_≡_, ap, _∙_}
 use mathlib.Core.List.{List}
 use mathlib.Core.Bool.{true, _&&_}
 use Prim.Native.Nat.{ℕ}
 use lib.ListN.{length}
-use lib.Dec.{eqb}
 use borrow.Author.Tests.{eq-eqb}
 use Rattle.book.specs.declared.Values.{Values}
 use Rattle.book.specs.Opening.{openingFine}

@@ -6,6 +6,8 @@ use book::Values;
 use libc::STDIN_FILENO;
 use libc::STDOUT_FILENO;
 use sequence::Outbound;
+ghost use mathlib.Core.Path.{_≡_};
+ghost use Rattle.daytape.specs.Program.{blank, theTrade, valuesGiven, Reports};
 
 const RECORDS: usize = 512;
 
@@ -18,7 +20,9 @@ struct Report {
 }
 
 // A trade that is not there.
-fn no_trade() -> Trade {
+fn no_trade() -> Trade
+    ensures { λ r. ⌜ r ≡ blank ⌝ }
+{
     Trade {
         id: [0; 16],
         length: 0,
@@ -34,7 +38,9 @@ fn no_trade() -> Trade {
 }
 
 // The trade T1.
-fn the_trade() -> Trade {
+fn the_trade() -> Trade
+    ensures { λ r. ⌜ r ≡ theTrade ⌝ }
+{
     Trade {
         id: [b'T', b'1', 0, 0, 0, 0, 0, 0, 0, 0, 0, 0, 0, 0, 0, 0],
         length: 2,
@@ -50,7 +56,9 @@ fn the_trade() -> Trade {
 }
 
 // What the program opens its book with.
-fn values() -> Values {
+fn values() -> Values
+    ensures { λ r. ⌜ r ≡ valuesGiven ⌝ }
+{
     let mut trades = [no_trade(); book::TRADES_MAX];
     trades[0] = the_trade();
     Values {
@@ -72,7 +80,9 @@ fn values() -> Values {
 }
 
 // The day of a tape.
-fn day_of(tape: &[u8]) -> Report {
+fn day_of(tape: &[u8]) -> Report
+    ensures { λ r. ⌜ Reports (now (tape .entry)) r ⌝ }
+{
     let mut numbers = [[0u64; 6]; RECORDS];
     let mut keys = [[0u8; 22]; RECORDS];
     let opened = opened::open_book(values(), &mut numbers, &mut keys);

@@ -9,10 +9,6 @@ use Rattle.day.proofs.Turns.{ahead, turn-accepted, turn-refused, day-do
 use borrow.Author.Needs.{needs}
 use Rattle.day.proofs.run_day.Statement.{statement}
 use Rattle.day.proofs.run_day.Tie as tie
-use Rattle.day.proofs.run_day.Reads as reads
-use Rattle.day.proofs.run_day.Lts as lts
-use Rattle.day.proofs.put_frame.Reads as put-frame-reads
-use Rattle.framing.proofs.next_frame.Reads as next-frame-reads
 
 abbrev Inv-loop : tie.InvT-loop
 Inv-loop numbers₀ keys₀ tape current₀ accepted₀ others₀ at₀ numbers keys current accepted others at =
@@ -21,87 +17,66 @@ Inv-loop numbers₀ keys₀ tape current₀ accepted₀ others₀ at₀ numbers 
 abbrev μ-loop : tie.MeasureT-loop
 μ-loop numbers₀ keys₀ tape current₀ accepted₀ others₀ at₀ numbers keys current accepted others at = length tape - at
 
--- src/lib.rt:67:9
 returns : tie.Need-returns Inv-loop μ-loop
 returns c = day-kept (c .before .before .args .tape .now) (c .before .before .args .book) (c .before .before .args .numbers .now) (c .before .before .args .keys .now) (c .if1 .taken)
 
--- src/lib.rt:73:5
 loop-holds : tie.Need-loop-holds Inv-loop μ-loop
 loop-holds c = (refl, refl, under-none (c .before .before .args .tape .now) (stateOf (c .before .before .args .book) (c .before .before .args .numbers .now) (c .before .before .args .keys .now)))
 
--- src/lib.rt:74:13
 next-frame-requires : tie.Need-next-frame-requires Inv-loop μ-loop
 next-frame-requires c κs = search needs
 
--- src/lib.rt:78:17
 enum-known-frame : tie.Need-enum-known-frame Inv-loop μ-loop
 enum-known-frame c = search needs
 
--- src/lib.rt:83:75
 sub-put-frame : tie.Need-sub-put-frame Inv-loop μ-loop
 sub-put-frame c = (ahead (c .before .before .before .before .before .before .before .before .before .before .args .tape .now) (c .before .before .before .before .before .before .before .loop .at) (c .before .before .before .frame .given .0 .0) (c .before .before .before .frame .given .0 .1 .0) (c .before .before .before .frame .given .0 .1 .1 .0) (sym (c .before .before .before .before .before .next-frame .ensures .frame) ∙ c .before .before .before .frame .given .1)) .ordered
 
--- src/lib.rt:83:75
 part-put-frame-start : tie.Need-part-put-frame-start Inv-loop μ-loop
 part-put-frame-start c = (ahead (c .before .before .before .before .before .before .before .before .before .before .args .tape .now) (c .before .before .before .before .before .before .before .loop .at) (c .before .before .before .frame .given .0 .0) (c .before .before .before .frame .given .0 .1 .0) (c .before .before .before .frame .given .0 .1 .1 .0) (sym (c .before .before .before .before .before .next-frame .ensures .frame) ∙ c .before .before .before .frame .given .1)) .ordered
 
--- src/lib.rt:83:75
 part-put-frame-end : tie.Need-part-put-frame-end Inv-loop μ-loop
 part-put-frame-end c = (ahead (c .before .before .before .before .before .before .before .before .before .before .args .tape .now) (c .before .before .before .before .before .before .before .loop .at) (c .before .before .before .frame .given .0 .0) (c .before .before .before .frame .given .0 .1 .0) (c .before .before .before .frame .given .0 .1 .1 .0) (sym (c .before .before .before .before .before .next-frame .ensures .frame) ∙ c .before .before .before .frame .given .1)) .within
 
--- src/lib.rt:83:21
 put-frame-requires : tie.Need-put-frame-requires Inv-loop μ-loop
 put-frame-requires c κs = c .before .before .before .before .before .before .before .before .loop .inv .1 ∙ c .before .before .before .before .before .before .before .before .before .if1 .left ∙ sym (c .before .before .before .before .before .before .before .before .loop .inv .0)
 
--- src/lib.rt:86:21
 add-accepted : tie.Need-add-accepted Inv-loop μ-loop
 add-accepted c = omega (arith, c .before .before .before .before .before .before .before .before .before .before .before .before .before .loop .inv .2 .counted, c .before .before .before .before .before .before .before .before .before .before .before .before .before .before .before .before .good .1 .1 .1 .0)
 
--- src/lib.rt:73:5
 loop-less : tie.Need-loop-less Inv-loop μ-loop
 loop-less c = omega (arith, (ahead (c .before .before .before .before .before .before .before .before .before .before .before .before .before .before .before .before .args .tape .now) (c .before .before .before .before .before .before .before .before .before .before .before .before .before .loop .at) (c .before .before .before .before .before .before .before .before .before .frame .given .0 .0) (c .before .before .before .before .before .before .before .before .before .frame .given .0 .1 .0) (c .before .before .before .before .before .before .before .before .before .frame .given .0 .1 .1 .0) (sym (c .before .before .before .before .before .before .before .before .before .before .before .next-frame .ensures .frame) ∙ c .before .before .before .before .before .before .before .before .before .frame .given .1)) .forth)
 
--- src/lib.rt:73:5
 loop-again : tie.Need-loop-again Inv-loop μ-loop
 loop-again c = (c .before .before .before .before .put-frame .kept .1 .0 ∙ c .before .before .before .before .before .before .before .before .before .before .before .before .before .loop .inv .0, c .before .before .before .before .put-frame .kept .1 .1 .0 ∙ c .before .before .before .before .before .before .before .before .before .before .before .before .before .loop .inv .1, turn-accepted (c .before .before .before .before .before .before .before .before .before .before .before .before .before .before .before .before .args .tape .now) (stateOf (c .before .before .before .before .before .before .before .before .before .before .before .before .before .before .before .before .args .book) (c .before .before .before .before .before .before .before .before .before .before .before .before .before .before .before .before .args .numbers .now) (c .before .before .before .before .before .before .before .before .before .before .before .before .before .before .before .before .args .keys .now)) (c .before .before .before .before .before .before .before .before .before .before .before .before .before .loop .current) (c .before .before .before .before .before .before .before .before .before .before .before .before .before .loop .numbers) (c .before .before .before .before .before .before .before .before .before .before .before .before .before .loop .keys) (c .before .before .before .before .before .before .before .before .before .before .before .before .before .loop .accepted) (c .before .before .before .before .before .before .before .before .before .before .before .before .before .loop .others) (c .before .before .before .before .before .before .before .before .before .before .before .before .before .loop .at) (c .before .before .before .before .before .before .before .before .before .before .before .before .before .loop .inv .2) (c .before .before .before .before .before .before .before .before .before .frame .given .0 .0) (c .before .before .before .before .before .before .before .before .before .frame .given .0 .1 .0) (c .before .before .before .before .before .before .before .before .before .frame .given .0 .1 .1 .0) (sym (c .before .before .before .before .before .before .before .before .before .before .before .next-frame .ensures .frame) ∙ c .before .before .before .before .before .before .before .before .before .frame .given .1) _ _ _ (c .before .before .before .before .put-frame .ensures) (c .if2 .taken))
 
--- src/lib.rt:88:21
 add-others : tie.Need-add-others Inv-loop μ-loop
 add-others c = omega (arith, c .before .before .before .before .before .before .before .before .before .before .before .before .before .loop .inv .2 .counted, c .before .before .before .before .before .before .before .before .before .before .before .before .before .before .before .before .good .1 .1 .1 .0)
 
--- src/lib.rt:73:5
 loop-less-2 : tie.Need-loop-less-2 Inv-loop μ-loop
 loop-less-2 c = omega (arith, (ahead (c .before .before .before .before .before .before .before .before .before .before .before .before .before .before .before .before .args .tape .now) (c .before .before .before .before .before .before .before .before .before .before .before .before .before .loop .at) (c .before .before .before .before .before .before .before .before .before .frame .given .0 .0) (c .before .before .before .before .before .before .before .before .before .frame .given .0 .1 .0) (c .before .before .before .before .before .before .before .before .before .frame .given .0 .1 .1 .0) (sym (c .before .before .before .before .before .before .before .before .before .before .before .next-frame .ensures .frame) ∙ c .before .before .before .before .before .before .before .before .before .frame .given .1)) .forth)
 
--- src/lib.rt:73:5
 loop-again-2 : tie.Need-loop-again-2 Inv-loop μ-loop
 loop-again-2 c = (c .before .before .before .before .put-frame .kept .1 .0 ∙ c .before .before .before .before .before .before .before .before .before .before .before .before .before .loop .inv .0, c .before .before .before .before .put-frame .kept .1 .1 .0 ∙ c .before .before .before .before .before .before .before .before .before .before .before .before .before .loop .inv .1, turn-refused (c .before .before .before .before .before .before .before .before .before .before .before .before .before .before .before .before .args .tape .now) (stateOf (c .before .before .before .before .before .before .before .before .before .before .before .before .before .before .before .before .args .book) (c .before .before .before .before .before .before .before .before .before .before .before .before .before .before .before .before .args .numbers .now) (c .before .before .before .before .before .before .before .before .before .before .before .before .before .before .before .before .args .keys .now)) (c .before .before .before .before .before .before .before .before .before .before .before .before .before .loop .current) (c .before .before .before .before .before .before .before .before .before .before .before .before .before .loop .numbers) (c .before .before .before .before .before .before .before .before .before .before .before .before .before .loop .keys) (c .before .before .before .before .before .before .before .before .before .before .before .before .before .loop .accepted) (c .before .before .before .before .before .before .before .before .before .before .before .before .before .loop .others) (c .before .before .before .before .before .before .before .before .before .before .before .before .before .loop .at) (c .before .before .before .before .before .before .before .before .before .before .before .before .before .loop .inv .2) (c .before .before .before .before .before .before .before .before .before .frame .given .0 .0) (c .before .before .before .before .before .before .before .before .before .frame .given .0 .1 .0) (c .before .before .before .before .before .before .before .before .before .frame .given .0 .1 .1 .0) (sym (c .before .before .before .before .before .before .before .before .before .before .before .next-frame .ensures .frame) ∙ c .before .before .before .before .before .before .before .before .before .frame .given .1) _ _ _ (c .before .before .before .before .put-frame .ensures) (c .if2 .left))
 
--- src/lib.rt:92:17
 enum-told : tie.Need-enum-told Inv-loop μ-loop
 enum-told c = search needs
 
--- src/lib.rt:92:17
 same-length : tie.Need-same-length Inv-loop μ-loop
 same-length c = search needs
 
--- src/lib.rt:92:17
 same-length-2 : tie.Need-same-length-2 Inv-loop μ-loop
 same-length-2 c = search needs
 
--- src/lib.rt:92:17
 returns-2 : tie.Need-returns-2 Inv-loop μ-loop
 returns-2 c = day-done (c .before .before .before .before .before .before .before .args .tape .now) (c .before .before .before .before .before .before .before .args .book) (c .before .before .before .before .before .before .before .args .numbers .now) (c .before .before .before .before .before .before .before .args .keys .now) (c .before .before .before .before .loop .current) (c .before .before .before .before .loop .numbers) (c .before .before .before .before .loop .keys) (c .before .before .before .before .loop .accepted) (c .before .before .before .before .loop .others) (c .before .before .before .before .loop .at) (c .before .before .before .before .before .if1 .left) (c .before .before .before .before .loop .inv .2) (sym (c .before .before .next-frame .ensures .frame) ∙ c .enum-told .given .1)
 
--- src/lib.rt:59:1
 same-length-3 : tie.Need-same-length-3 Inv-loop μ-loop
 same-length-3 c = search needs
 
--- src/lib.rt:59:1
 same-length-4 : tie.Need-same-length-4 Inv-loop μ-loop
 same-length-4 c = search needs
 
--- src/lib.rt:59:1
 returns-3 : tie.Need-returns-3 Inv-loop μ-loop
 returns-3 c = day-past (c .before .before .before .before .args .tape .now) (c .before .before .before .before .args .book) (c .before .before .before .before .args .numbers .now) (c .before .before .before .before .args .keys .now) (c .before .loop .current) (c .before .loop .numbers) (c .before .loop .keys) (c .before .loop .accepted) (c .before .loop .others) (c .before .loop .at) (c .before .before .if1 .left) (c .before .loop .inv .2) (omega arith)
 

@@ -1,0 +1,64 @@
+-- What the program opens its book with, and what it says of a tape (01, Program daytape).
+use Prim.Native.Nat.{ℕ}
+use mathlib.Core.Path.{_≡_}
+use mathlib.Core.List.{List, [], _∷_}
+use mathlib.Core.Bool.{true}
+use lib.ListN.{replicate}
+use Rattle.sequence.specs.Sequence.{outbound}
+use Rattle.book.specs.declared.Trade.{Trade}
+use Rattle.book.specs.declared.Values.{Values}
+use Rattle.book.specs.Records.{noPool}
+use Rattle.book.specs.Promise.{State, afterAll, fed, openedState}
+use Rattle.figures.specs.declared.Figures.{Figures}
+use Rattle.figures.specs.Saying.{figuresOf}
+use Rattle.day.specs.Tape.{putsOf}
+use Rattle.day.specs.Days.{acceptedAmong, othersAmong}
+use Rattle.daytape.specs.declared.Report.{Report}
+
+-- the rest of the trades
+abbrev pub blank : Trade
+blank = record { id = replicate 16 0; length = 0; seller = replicate 4 0; buyer = replicate 4 0; contra = replicate 4 0; cusip = replicate 9 0; settlement = 0; price = 0; par = 0; left = 0 }
+
+-- T1, MBAA, MBBB, FTBA, 01F082630, 07142026, 98.5 and two million dollars
+abbrev pub theTrade : Trade
+theTrade = record {
+  id = 84 ∷ 49 ∷ replicate 14 0;
+  length = 2;
+  seller = 77 ∷ 66 ∷ 65 ∷ 65 ∷ [];
+  buyer = 77 ∷ 66 ∷ 66 ∷ 66 ∷ [];
+  contra = 70 ∷ 84 ∷ 66 ∷ 65 ∷ [];
+  cusip = 48 ∷ 49 ∷ 70 ∷ 48 ∷ 56 ∷ 50 ∷ 54 ∷ 51 ∷ 48 ∷ [];
+  settlement = 7142026;
+  price = 98500000000;
+  par = 200000000;
+  left = 200000000;
+}
+
+-- one trade, no holidays, subscriber 0123, connection 1200
+unfoldable pub valuesGiven : Values
+valuesGiven = record {
+  trades = theTrade ∷ replicate 63 blank;
+  count = 1;
+  holidays = replicate 32 0;
+  days = 0;
+  subscriber = 48 ∷ 49 ∷ 50 ∷ 51 ∷ [];
+  connection = 49 ∷ 50 ∷ 48 ∷ 48 ∷ [];
+  limits = record { ceiling = 2500; variance = 10000; pools = 3; least = 1000 };
+  last = 0;
+  outbound = outbound 0;
+}
+
+-- the book opened, over 512 records
+abbrev pub start : State
+start = openedState valuesGiven (replicate 512 noPool)
+
+-- what is said of a trade of a state
+abbrev pub saidOf : State → ℕ → Figures
+saidOf s trade = figuresOf true (s .book) (s .table) trade
+
+-- the two counts of the tape's calls, and what the book then says of the trade
+pub record Reports (tape : List ℕ) (r : Report) : Type 0 where
+  pub accepted : r .accepted ≡ acceptedAmong (fed start (putsOf tape))
+  pub others : r .others ≡ othersAmong (fed start (putsOf tape))
+  pub left : r .left ≡ saidOf (afterAll start (putsOf tape)) 0 .left
+  pub millions : r .millions ≡ saidOf (afterAll start (putsOf tape)) 0 .millions
