@@ -12,6 +12,9 @@ ghost use Rattle.exports_engine.specs.Calls.{timeWidth, saidOf, StepsTo,
 
 const TIME_WIDTH: usize = 6;
 
+// The number of an opening that is refused.
+const REFUSED: u64 = 41;
+
 // An answer in two numbers.
 fn said_of(answer: Answer) -> [u64; 2]
     ensures { λ r. ⌜ r ≡ saidOf answer ⌝ }
@@ -91,9 +94,6 @@ pub extern "C" fn rhoikandra_step(
         &mut *said,
     );
 }
-
-// Number 41 as the code of an opening that is refused.
-const REFUSED: u64 = 41;
 
 // Opens a book by the values that words say: 0, or 41 where it is refused.
 #[no_mangle]
