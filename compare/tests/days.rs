@@ -1,14 +1,16 @@
 //! Whole days through the exported engine and the reference: every answer, every output byte, every record and every counter.
 
 use std::collections::BTreeMap;
+use std::path::Path;
 
 use compare::cases::Cases;
-use compare::engine::{held, open, same_table, step, words, Held};
+use compare::engine::{held, same_table, told, words};
 use reference::answer::{Answer, Number, OPENING, UNSOUND_BOOK};
 use reference::book::{Book, PoolRecord};
 use reference::damage::{scribble, sound_book, Lent, BOOK_DAMAGES, OPENING_DAMAGES};
 use reference::frame_call::frame_call;
-use reference::generator::{day, Random};
+use reference::generator::{day, Day, Random};
+use reference::script;
 
 /// How often each code was met, 0 for accepted.
 type Met = BTreeMap<Number, u64>;
@@ -22,7 +24,7 @@ const CODES: [Number; 29] = [
 
 /// Puts one call to both, from the same state, and compares all that it leaves.
 fn both(
-    client: &mut Held,
+    client: &mut rhoikandra::Book,
     book: &mut Book,
     table: &mut [PoolRecord],
     random: &mut Random,
@@ -32,16 +34,59 @@ fn both(
     let (time, length, body) = call;
     let mut out = random.bytes(length);
     let mut output = out.clone();
-    let (answer, id) = step(client, &mut out, time, body);
-    let told = frame_call(book, table, &mut output, time, body, Default::default());
-    assert_eq!(answer, told.answer);
+    let said = client.step(body, time, &mut out);
+    let answer = told(said);
+    let step = frame_call(book, table, &mut output, time, body, Default::default());
+    assert_eq!(answer, step.answer);
     if answer == Answer::Accepted {
-        assert_eq!(id, book.values.last_message_id);
+        assert_eq!(said, rhoikandra::Answer::Accepted(book.values.last_message_id));
     }
     assert_eq!(out, output);
     assert_eq!(client.words, words(book));
     assert!(same_table(client, table), "the tables differ after {answer:?}");
     *met.entry(answer.code()).or_default() += 1;
+}
+
+/// A day from its opening to its figures.
+fn whole(day: &Day, cases: &mut Cases, met: &mut Met) {
+    let mut table = vec![PoolRecord::EMPTY; day.records];
+    let mut book = reference::opening::open(&day.opening, &mut table).expect("an opening in range");
+    let mut client = held(&book, &table);
+    // Opening sets the live pools itself, whatever the words say of them.
+    *client.words.last_mut().unwrap() = cases.random.below(9);
+    assert_eq!(client.open(), Ok(()), "the day of seed {}", day.seed);
+    assert_eq!(client.words, words(&book));
+    for call in &day.calls {
+        // A book that was written down and read again is the same book.
+        if cases.random.percent(2) {
+            client = rhoikandra::Book::from_bytes(&client.to_bytes()).expect("a book's bytes");
+        }
+        let lent = (&call.time, call.output_length, &call.body[..]);
+        both(&mut client, &mut book, &mut table, &mut cases.random, lent, met);
+        cases.count();
+    }
+    for trade in 0..day.opening.trades.len() + 2 {
+        let figures = client.figures(trade);
+        assert_eq!(figures.is_some(), trade < day.opening.trades.len());
+        if let Some(figures) = figures {
+            assert_eq!(figures.open_par, book.open_par_cents[trade]);
+            assert_eq!(u128::from(figures.standing_millions), book.standing_millions(&table, trade));
+        }
+    }
+}
+
+/// The reference's own tests hold it to every line of these days.
+#[test]
+fn the_days_of_the_vectors() {
+    let mut cases = Cases::of("the days of the vectors");
+    let path = Path::new(env!("CARGO_MANIFEST_DIR")).join("../vectors/days.txt");
+    let text = std::fs::read_to_string(path).unwrap();
+    let lines: Vec<&str> = text.lines().collect();
+    let mut met = Met::new();
+    for of_day in lines.split_inclusive(|line| *line == "end") {
+        whole(&script::read(of_day).expect("a sample day is in form"), &mut cases, &mut met);
+    }
+    assert!(met.values().sum::<u64>() > 500, "{met:?}");
 }
 
 #[test]
@@ -52,19 +97,8 @@ fn random_days() {
     let mut count = 0;
     while count < frames {
         let day = day(cases.random.below(1 << 40));
-        let mut table = vec![PoolRecord::EMPTY; day.records];
-        let mut book = reference::opening::open(&day.opening, &mut table).expect("an opening in range");
-        let mut client = held(&book, &table);
-        // Opening sets the line and the live pools itself, whatever the words say of them.
-        *client.words.last_mut().unwrap() = cases.random.below(9);
-        assert_eq!(open(&mut client), Ok(()), "the day of seed {}", day.seed);
-        assert_eq!(client.words, words(&book));
-        for call in &day.calls {
-            let lent = (&call.time, call.output_length, &call.body[..]);
-            both(&mut client, &mut book, &mut table, &mut cases.random, lent, &mut met);
-            count += 1;
-            cases.count();
-        }
+        whole(&day, &mut cases, &mut met);
+        count += day.calls.len() as u64;
     }
     println!("met in random days: {met:?}");
     for code in CODES {
@@ -86,8 +120,9 @@ fn damaged_books() {
             let before = client.clone();
             let mut out = cases.random.bytes(217);
             let kept = out.clone();
-            let (answer, _) = step(&mut client, &mut out, b"000000", &body);
-            assert_eq!(answer, Answer::Rejected(UNSOUND_BOOK), "{name}");
+            let answer = client.step(&body, b"000000", &mut out);
+            assert_eq!(told(answer), Answer::Rejected(UNSOUND_BOOK), "{name}");
+            assert_eq!(client.figures(0), None, "{name}");
             assert!(client == before && out == kept, "{name}: something moved");
             cases.count();
         }
@@ -122,7 +157,7 @@ fn images_that_are_no_book() {
         let before = client.clone();
         let mut out = cases.random.bytes(217);
         let kept = out.clone();
-        assert_eq!(step(&mut client, &mut out, b"000000", &body).0, Answer::Rejected(UNSOUND_BOOK));
+        assert_eq!(told(client.step(&body, b"000000", &mut out)), Answer::Rejected(UNSOUND_BOOK));
         assert!(client == before && out == kept);
         cases.count();
     }
@@ -141,7 +176,7 @@ fn damaged_openings() {
             let mut client = held(&shown, &table);
             let before = client.clone();
             assert_eq!(reference::opening::open(&lent.values, &mut table).err(), Some(OPENING), "{name}");
-            assert_eq!(open(&mut client), Err(OPENING), "{name}");
+            assert_eq!(client.open(), Err(OPENING), "{name}");
             assert!(client == before, "{name}: something moved");
             cases.count();
         }

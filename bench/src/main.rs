@@ -1,0 +1,148 @@
+//! Times the proved engine and the reference on the same calls, in turn, and prints the microseconds of a frame and their ratio.
+
+use std::hint::black_box;
+use std::time::{Duration, Instant};
+
+use compare::engine::{held, told};
+use reference::answer::Answer;
+use reference::desk::{pool, Desk};
+use reference::draft::DraftPool;
+use reference::frame_call::frame_call;
+use reference::generator::Random;
+use reference::opening::{CENTS_MAX, TABLE_MAX};
+
+const OUTPUT: usize = 217;
+const POOLS: u64 = 250;
+const FACE_CENTS: u64 = 100;
+
+/// A desk with so many live pools, brought by messages of 250: each is one odd lot.
+fn desk(live: u64) -> Desk {
+    let mut values = reference::day::opening_values();
+    values.trades[0].par_cents = CENTS_MAX;
+    let mut desk = Desk::open(&values, TABLE_MAX);
+    for first in (0..live).step_by(POOLS as usize) {
+        let pools = odd_lot(first, POOLS, b'0');
+        assert_eq!(desk.send(&desk.on(0, 0, &lent(&pools))), Answer::Accepted);
+    }
+    desk
+}
+
+/// The pools of one odd lot.
+fn odd_lot(first: u64, count: u64, position_one: u8) -> Vec<(DraftPool, [u8; 4])> {
+    let terminator = |i| if i + 1 == count { *b"0999" } else { *b"0000" };
+    (0..count)
+        .map(|i| {
+            let mut code = terminator(i);
+            code[0] = position_one;
+            (pool(first + i, FACE_CENTS), code)
+        })
+        .collect()
+}
+
+fn lent(pools: &[(DraftPool, [u8; 4])]) -> Vec<(DraftPool, &[u8; 4])> {
+    pools.iter().map(|(pool, terminator)| (pool.clone(), terminator)).collect()
+}
+
+/// Puts each body to the same book, over and over, by both in turn; the book is set back between calls, untimed.
+fn time(name: &str, desk: &Desk, bodies: &[Vec<u8>], calls: usize) {
+    let before = held(&desk.book, &desk.table);
+    let (mut engine, mut reference) = (Duration::ZERO, Duration::ZERO);
+    let mut answers = Vec::new();
+    for call in 0..calls {
+        let body = &bodies[call % bodies.len()];
+        let mut output = [0; OUTPUT];
+
+        let mut book = before.clone();
+        let began = Instant::now();
+        let answer = black_box(book.step(black_box(body), b"000000", &mut output));
+        engine += began.elapsed();
+
+        let (mut book, mut table) = (desk.book.clone(), desk.table.clone());
+        let began = Instant::now();
+        let step = black_box(frame_call(&mut book, &mut table, &mut output, b"000000", black_box(body), Default::default()));
+        reference += began.elapsed();
+
+        assert_eq!(told(answer), step.answer, "{name}");
+        if !answers.contains(&step.answer) {
+            answers.push(step.answer);
+        }
+    }
+    let each = |time: Duration| time.as_secs_f64() * 1e6 / calls as f64;
+    println!(
+        "{name:<52} {:>9.2} {:>9.2} {:>7.2}   {:>9.0} frames/s   {}",
+        each(engine),
+        each(reference),
+        each(reference) / each(engine),
+        1e6 / each(engine),
+        answers.iter().map(|answer| answer.to_string()).collect::<Vec<_>>().join(", "),
+    );
+}
+
+fn main() {
+    println!("{:<52} {:>9} {:>9} {:>7}", "microseconds a frame", "engine", "reference", "ratio");
+
+    let empty = desk(0);
+    let small: Vec<Vec<u8>> = (1..=3).map(|n| empty.on(0, 0, &lent(&odd_lot(0, n, b'0'))).body()).collect();
+    time("ON of 1 to 3 pools, no live pools", &empty, &small, 3000);
+
+    let mut random = Random::from_seed(2026);
+    let storm: Vec<Vec<u8>> = (0..500)
+        .map(|_| {
+            let mut body = small[random.below(3) as usize].clone();
+            match random.below(4) {
+                0 => body.truncate(random.below(body.len() as u64) as usize),
+                1 => body = random.bytes(386),
+                _ => {
+                    let at = random.below(187) as usize;
+                    body[at] = random.number() as u8;
+                }
+            }
+            body
+        })
+        .collect();
+    time("malformed frames, no live pools", &empty, &storm, 3000);
+
+    for live in [0, 500, 1000, 2000, 4000] {
+        let desk = desk(live);
+        let on = desk.on(0, 0, &lent(&odd_lot(9_000, 1, b'0'))).body();
+        time(&format!("ON of 1 pool, {live} live pools"), &desk, &[on], 1000);
+    }
+
+    let full = desk(4000);
+    let target = 8;
+    let first = (target - 1) * POOLS;
+    let on = full.on(0, 0, &lent(&odd_lot(9_000, POOLS, b'0'))).body();
+    time("ON of 250 pools, 4,000 live pools (40)", &full, &[on], 400);
+    let on = desk(3750).on(0, 0, &lent(&odd_lot(9_000, POOLS, b'0'))).body();
+    time("ON of 250 pools, 3,750 live pools", &desk(3750), &[on], 400);
+    let mut pools = odd_lot(first, POOLS, b'0').into_iter().map(|(pool, _)| pool).collect::<Vec<_>>();
+    time("DK of 250 pools in order, 4,000 live pools", &full, &[full.dk(0, target, &pools).body()], 400);
+    random.shuffle(&mut pools);
+    time("DK of 250 pools in any order, 4,000 live pools", &full, &[full.dk(0, target, &pools).body()], 400);
+
+    let (desk, cc) = single_lots();
+    time("CC of 125 pools for 125, 4,000 live pools", &desk, &[desk.cc(0, target, &lent(&cc)).body()], 400);
+}
+
+/// A desk with 4,000 live pools, where message 8 brought good lots of one pool and one million each, and a CC that replaces 125 of them.
+fn single_lots() -> (Desk, Vec<(DraftPool, [u8; 4])>) {
+    const MILLION_CENTS: u64 = 100_000_000;
+    let mut values = reference::day::opening_values();
+    values.trades[0].par_cents = CENTS_MAX;
+    let mut desk = Desk::open(&values, TABLE_MAX);
+    for message in 0..16 {
+        let first = message * POOLS;
+        let pools: Vec<(DraftPool, [u8; 4])> = if message == 7 {
+            (0..POOLS).map(|i| (pool(first + i, MILLION_CENTS), *b"0001")).collect()
+        } else {
+            odd_lot(first, POOLS, b'0')
+        };
+        let millions = if message == 7 { POOLS } else { 0 };
+        assert_eq!(desk.send(&desk.on(0, millions, &lent(&pools))), Answer::Accepted);
+    }
+    let first = 7 * POOLS;
+    let canceled = (0..125).map(|i| (pool(first + i, MILLION_CENTS), *b"6001"));
+    let new = (0..125).map(|i| (pool(9_000 + i, MILLION_CENTS), *b"7001"));
+    let cc = canceled.zip(new).flat_map(|(old, new)| [old, new]).collect();
+    (desk, cc)
+}

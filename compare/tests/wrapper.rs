@@ -1,0 +1,56 @@
+//! The wrapper for Rust programs: its example, its bytes and its table of numbers.
+
+#[path = "../../rhoikandra/examples/three_messages.rs"]
+mod three_messages;
+
+use std::path::Path;
+use std::process::Command;
+
+use rhoikandra::{numbers, Book};
+
+/// By the paper: 3 millions of par less two good lots of one million; a replacement of equal weight leaves both figures;
+/// a DK gives one million back; and what is off cannot be taken off again.
+#[test]
+fn three_messages_and_their_figures() {
+    assert_eq!(
+        three_messages::lines(),
+        [
+            "ON accepted under 1; open par 100000000, standing millions 2",
+            "CC accepted under 2; open par 100000000, standing millions 2",
+            "DK accepted under 3; open par 200000000, standing millions 1",
+            "DK rejected with 30: no live pool under the target; open par 200000000, standing millions 1",
+        ]
+    );
+}
+
+/// The same messages from C, by the header: the same figures.
+#[test]
+fn three_messages_from_c() {
+    let top = Path::new(env!("CARGO_MANIFEST_DIR")).join("..");
+    let program = Path::new(env!("CARGO_TARGET_TMPDIR")).join("three_messages");
+    let built = Command::new("cc")
+        .args(["-Wall", "-Wextra", "-Werror", "-O2", "-o"])
+        .arg(&program)
+        .arg(top.join("rhoikandra/examples/three_messages.c"))
+        .arg(top.join("target/staticlib/libexports_engine.a"))
+        .status();
+    assert!(built.expect("cargo links by cc too").success());
+    let printed = String::from_utf8(Command::new(program).output().unwrap().stdout).unwrap();
+    // The example in Rust says what a refusal means, the one in C its number alone.
+    let told = three_messages::lines().join("\n").replace(": no live pool under the target", "");
+    assert_eq!(printed.trim_end(), told);
+}
+
+#[test]
+fn bytes_that_are_no_book() {
+    assert_eq!(Book::from_bytes(&[]), None);
+    assert_eq!(Book::from_bytes(&[0; 8 * rhoikandra::BOOK_WORDS + 1]), None);
+    assert!(Book::from_bytes(&[0; 8 * rhoikandra::BOOK_WORDS + 2 * 70]).is_some());
+}
+
+#[test]
+fn every_number_has_a_meaning() {
+    let all = (10..=25).chain(30..=38).chain(40..=44);
+    assert!(all.clone().all(|number| numbers::meaning(number).is_some()));
+    assert_eq!(all.count(), numbers::ALL.len());
+}

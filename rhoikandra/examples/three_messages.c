@@ -1,0 +1,93 @@
+/* Opens a book, sends an ON, a CC and a DK, and prints the figures after each. */
+#include <stdio.h>
+#include <stdlib.h>
+#include <string.h>
+
+#include "../rhoikandra.h"
+
+#define RECORDS 64
+#define HEADER 187
+#define DETAIL 199
+
+struct pool {
+    const char *number;
+    const char *terminator;
+};
+
+static uint64_t book[RHOIKANDRA_BOOK_WORDS];
+static rhoikandra_numbers numbers[RECORDS];
+static rhoikandra_key keys[RECORDS];
+
+/* A byte takes a word. */
+static void put(size_t at, const char *text) {
+    for (; *text; text++)
+        book[at++] = (uint8_t)*text;
+}
+
+static void lay(uint8_t *body, size_t at, const char *text) { memcpy(body + at, text, strlen(text)); }
+
+/* The body of a message with its pools, each of one million: a header and details by the columns of the paper. */
+static size_t lay_body(uint8_t *body, const char *kind, int sequence, int millions, int target, const struct pool *pools, int count) {
+    char text[32];
+    int news = 0;
+    memset(body, ' ', HEADER + DETAIL * (size_t)count);
+    lay(body, 0, kind);
+    snprintf(text, sizeof text, "%06d00201231200%s", sequence, kind[0] == 'D' ? "MBBB" : "MBAA");
+    lay(body, 2, text);
+    lay(body, 23, "FTBA01F082630");
+    lay(body, 37, "00100000000");
+    snprintf(text, sizeof text, "098500000000%04d", millions);
+    lay(body, 58, text);
+    lay(body, 74, "071420260714202607142026");
+    snprintf(text, sizeof text, "%04d%011d", kind[0] == 'D', target);
+    lay(body, 118, text);
+    for (int i = 0; i < count; i++) {
+        uint8_t *detail = body + HEADER + DETAIL * (size_t)i;
+        lay(detail, 0, "LOT001");
+        lay(detail, 8, pools[i].number);
+        lay(detail, 15, "001000000");
+        lay(detail, 79, "00100000000");
+        lay(detail, 122, pools[i].terminator);
+        news += pools[i].terminator[0] == '7';
+    }
+    snprintf(text, sizeof text, "%04d", news);
+    lay(body, 183, text);
+    return HEADER + DETAIL * (size_t)count;
+}
+
+static void send(const char *kind, int sequence, int millions, int target, const struct pool *pools, int count) {
+    uint8_t body[HEADER + 250 * DETAIL], out[RHOIKANDRA_OUTPUT_LENGTH];
+    uint64_t said[2], figures[3];
+    size_t length = lay_body(body, kind, sequence, millions, target, pools, count);
+    rhoikandra_step(book, RHOIKANDRA_BOOK_WORDS, numbers, RECORDS, keys, RECORDS, body, length, (const uint8_t *)"093000", 6, out,
+                    sizeof out, said, 2);
+    rhoikandra_figures(book, RHOIKANDRA_BOOK_WORDS, (const rhoikandra_numbers *)numbers, RECORDS, (const rhoikandra_key *)keys,
+                       RECORDS, 0, figures, 3);
+    printf("%s %s %llu; open par %llu, standing millions %llu\n", kind,
+           said[0] == 0   ? "accepted under"
+           : said[0] == 1 ? "rejected with"
+                          : "DKed with",
+           (unsigned long long)said[1], (unsigned long long)figures[1], (unsigned long long)figures[2]);
+}
+
+int main(void) {
+    static const uint64_t limits[4] = {2500, 10000, 3, 1000};
+    put(0, "T1");
+    book[RHOIKANDRA_TRADE_LENGTH] = 2;
+    put(RHOIKANDRA_TRADE_SELLER, "MBAAMBBBFTBA01F082630");
+    book[RHOIKANDRA_TRADE_SETTLEMENT] = 7142026;
+    book[RHOIKANDRA_TRADE_PRICE] = 98500000000;
+    book[RHOIKANDRA_TRADE_PAR] = 300000000;
+    book[RHOIKANDRA_COUNT] = 1;
+    put(RHOIKANDRA_SUBSCRIBER, "01231200");
+    memcpy(book + RHOIKANDRA_LIMITS, limits, sizeof limits);
+    if (rhoikandra_open(book, RHOIKANDRA_BOOK_WORDS, numbers, RECORDS, keys, RECORDS) != 0)
+        return EXIT_FAILURE;
+
+    /* Two good lots of one million each; then one of them is replaced; then the replacement is questioned, twice. */
+    send("ON", 1, 2, 0, (const struct pool[]){{"AA00001", "0001"}, {"AA00002", "0001"}}, 2);
+    send("CC", 2, 0, 1, (const struct pool[]){{"AA00002", "6001"}, {"AA00003", "7001"}}, 2);
+    send("DK", 3, 0, 2, (const struct pool[]){{"AA00003", "0001"}}, 1);
+    send("DK", 4, 0, 2, (const struct pool[]){{"AA00003", "0001"}}, 1);
+    return EXIT_SUCCESS;
+}

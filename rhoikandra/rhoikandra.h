@@ -1,0 +1,54 @@
+/* The proved allocation book for C programs. Link target/staticlib/libexports_engine.a, which `rt staticlib exports_engine` writes. */
+#ifndef RHOIKANDRA_H
+#define RHOIKANDRA_H
+
+#include <stddef.h>
+#include <stdint.h>
+
+/* A book is kept as words: 42 for each of 64 trades (ID 16, its length, seller 4, buyer 4, contra 4, CUSIP 9, settlement, price,
+   par, open par), then the number of trades, 32 holidays, their number, subscriber 4, connection 4, the four limits, the last
+   message ID, the last outbound number, whether a number was received, the last one, the expected one, and the live pools. A byte
+   takes a word. Opening sets open pars, line and live pools itself: zeros will do. */
+#define RHOIKANDRA_BOOK_WORDS 2740
+#define RHOIKANDRA_TRADE_WORDS 42
+#define RHOIKANDRA_TRADE_LENGTH 16
+#define RHOIKANDRA_TRADE_SELLER 17
+#define RHOIKANDRA_TRADE_BUYER 21
+#define RHOIKANDRA_TRADE_CONTRA 25
+#define RHOIKANDRA_TRADE_CUSIP 29
+#define RHOIKANDRA_TRADE_SETTLEMENT 38
+#define RHOIKANDRA_TRADE_PRICE 39
+#define RHOIKANDRA_TRADE_PAR 40
+#define RHOIKANDRA_TRADE_OPEN_PAR 41
+#define RHOIKANDRA_COUNT 2688
+#define RHOIKANDRA_HOLIDAYS 2689
+#define RHOIKANDRA_DAYS 2721
+#define RHOIKANDRA_SUBSCRIBER 2722
+#define RHOIKANDRA_CONNECTION 2726
+#define RHOIKANDRA_LIMITS 2730
+#define RHOIKANDRA_LAST 2734
+#define RHOIKANDRA_OUTBOUND 2735
+#define RHOIKANDRA_LIVE 2739
+
+/* An output has room for a TX and an AA. */
+#define RHOIKANDRA_OUTPUT_LENGTH 217
+
+/* The rows of the table: six numbers and 22 bytes of matched fields for each record, as many of both. */
+typedef uint64_t rhoikandra_numbers[6];
+typedef uint8_t rhoikandra_key[22];
+
+/* Opens a book: 0, or 41 and everything stays. */
+uint64_t rhoikandra_open(uint64_t *book, size_t book_len, rhoikandra_numbers *numbers, size_t numbers_len,
+                         rhoikandra_key *keys, size_t keys_len);
+
+/* Puts a frame's body to a book. said gets two numbers: 0 and the message ID, 1 and the number of a rejection, or 2 and that of a DK.
+   time has six bytes. A damaged book is refused with 42, and everything stays. */
+void rhoikandra_step(uint64_t *book, size_t book_len, rhoikandra_numbers *numbers, size_t numbers_len, rhoikandra_key *keys,
+                     size_t keys_len, const uint8_t *body, size_t body_len, const uint8_t *time, size_t time_len, uint8_t *out,
+                     size_t out_len, uint64_t *said, size_t said_len);
+
+/* The figures of a trade, counted from 0: out gets 1, its open par in cents and its standing good millions, or three zeros. */
+void rhoikandra_figures(const uint64_t *book, size_t book_len, const rhoikandra_numbers *numbers, size_t numbers_len,
+                        const rhoikandra_key *keys, size_t keys_len, size_t trade, uint64_t *out, size_t out_len);
+
+#endif
