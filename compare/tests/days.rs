@@ -5,7 +5,7 @@ use std::collections::BTreeMap;
 use std::path::Path;
 
 use compare::cases::Cases;
-use compare::engine::{held, same_table, told, words};
+use compare::engine::{fill_past_trades, held, same_table, told, words_over};
 use reference::answer::{Answer, Number, OPENING, SILENT, UNSOUND_BOOK};
 use reference::book::{Book, PoolRecord};
 use reference::damage::{scribble, sound_book, Lent, BOOK_DAMAGES, OPENING_DAMAGES};
@@ -59,6 +59,7 @@ fn both(
     let (time, length, body) = call;
     let mut out = random.bytes(length);
     let mut output = out.clone();
+    let words = client.words.clone();
     let said = client.step(body, time, &mut out);
     let answer = told(said);
     let before = tally.rows;
@@ -77,7 +78,7 @@ fn both(
         assert_eq!(said, rhoikandra::Answer::Accepted(book.values.last_message_id));
     }
     assert_eq!(out, output);
-    assert_eq!(client.words, words(book));
+    assert_eq!(client.words, words_over(book, &words));
     assert!(same_table(client, table), "the tables differ after {answer:?}");
     *met.codes.entry(answer.code()).or_default() += 1;
 }
@@ -89,8 +90,12 @@ fn whole(day: &Day, cases: &mut Cases, met: &mut Met) {
     let mut client = held(&book, &table);
     // Opening sets the live pools itself, whatever the words say of them.
     *client.words.last_mut().unwrap() = cases.random.below(9);
+    if cases.random.percent(30) {
+        fill_past_trades(&mut client.words, day.opening.trades.len());
+    }
+    let filled = client.words.clone();
     assert_eq!(client.open(), Ok(()), "the day of seed {}", day.seed);
-    assert_eq!(client.words, words(&book));
+    assert_eq!(client.words, words_over(&book, &filled));
     let mut tally = any_tally(&mut cases.random);
     for call in &day.calls {
         // A book that was written down and read again is the same book.
@@ -180,6 +185,29 @@ fn damaged_books() {
     assert!(met.times(UNSOUND_BOOK) > 1_000 && met.codes.len() > 1, "{met:?}");
 }
 
+/// One number or one byte that is not 0, in any record after the live ones.
+#[test]
+fn one_place_after_the_live_pools() {
+    let mut cases = Cases::of("one place after the live pools");
+    let body = day(7).calls[0].body.clone();
+    let (book, table) = sound_book();
+    for record in book.live_count..table.len() {
+        for place in 0..28 {
+            let mut client = held(&book, &table);
+            match place {
+                0..=5 => client.numbers[record][place] = 1 << cases.random.below(64),
+                _ => client.keys[record][place - 6] = 1 << cases.random.below(8),
+            }
+            let before = client.clone();
+            let mut out = cases.random.bytes(217);
+            let answer = told(client.step(&body, b"000000", &mut out));
+            assert_eq!(answer, Answer::Rejected(UNSOUND_BOOK), "record {record}, place {place}");
+            assert!(client == before);
+            cases.count();
+        }
+    }
+}
+
 #[test]
 fn images_that_are_no_book() {
     let mut cases = Cases::of("images that are no book");
@@ -187,10 +215,15 @@ fn images_that_are_no_book() {
     let (book, table) = sound_book();
     for _ in 0..3_000 {
         let mut client = held(&book, &table);
-        match cases.random.below(4) {
+        // Whether a number was received, and which.
+        let received = client.words.len() - 4;
+        match cases.random.below(7) {
             0 => client.words.truncate(cases.random.below(2740) as usize),
             1 => client.words.push(0),
             2 => drop(client.keys.pop()),
+            3 => client.words[received..][..2].copy_from_slice(&[0, cases.random.between(1, 9)]),
+            4 => client.words[received..][..2].copy_from_slice(&[cases.random.between(2, 9), 0]),
+            5 => client.words[received + 1] = 1 << cases.random.between(32, 63),
             _ => client.words[cases.random.below(16) as usize] = 256 + cases.random.number() / 2,
         }
         let before = client.clone();

@@ -5,7 +5,7 @@ use crate::answer::Number;
 use crate::book::{kind_code, live_lots, Book, PoolRecord};
 use crate::calendar::{business_date, days_of_month, FIRST_YEAR, LAST_YEAR};
 use crate::columns::*;
-use crate::digits::digits;
+use crate::digits::{digits, number};
 use crate::draft::{Draft, DraftLot, DraftPool};
 use crate::frame::{END_OF_FRAME, START_OF_FRAME};
 use crate::frame_call::frame_call;
@@ -681,6 +681,12 @@ impl Sender<'_> {
                 ),
                 _ => draft.put_detail(any, CURRENT_FACE, b"           "),
             },
+            // A lot is often at the edge of the variance: then a cent more or less is too much.
+            35 if random.percent(50) => {
+                let cents = number_at(&draft.details[last], CURRENT_FACE);
+                let other = if random.percent(50) { cents + 1 } else { cents.saturating_sub(1) };
+                draft.put_detail(last, CURRENT_FACE, &digits::<11>(other.min(CENTS_MAX)));
+            }
             35 => {
                 let face = random.pick(&[*b"00000000001", *b"00000000000", *b"99999999999"]);
                 draft.put_detail(last, CURRENT_FACE, &face);
@@ -691,7 +697,8 @@ impl Sender<'_> {
                 let copied = draft.details[from];
                 draft.details[last][..first_fields].copy_from_slice(&copied[..first_fields]);
             }
-            37 => match random.below(5) {
+            37 => match random.below(6) {
+                5 => shift_a_million(draft),
                 0 if draft.details.len() > 1 => {
                     draft.details.remove(any);
                 }
@@ -707,6 +714,29 @@ impl Sender<'_> {
                 }
             }
             _ => {}
+        }
+    }
+}
+
+/// The number in a detail's column, which the generator wrote.
+fn number_at(detail: &[u8; DETAIL_WIDTH], column: Column) -> u64 {
+    number(&detail[column.first..column.first + column.width]).unwrap_or(0)
+}
+
+/// Two canceled good lots side by side: a million more in one and a million less in the other keeps their sum.
+fn shift_a_million(draft: &mut Draft) {
+    let canceled = |detail: &[u8; DETAIL_WIDTH]| detail[TERMINATOR.first] == b'6';
+    let ends: Vec<(usize, u64)> = (0..draft.details.len())
+        .map(|at| (at, number_at(&draft.details[at], TERMINATOR)))
+        .filter(|(_, code)| (6_001..=6_099).contains(code))
+        .collect();
+    for pair in ends.windows(2) {
+        let [(first, more), (second, less)] = [pair[0], pair[1]];
+        let together = draft.details[first..=second].iter().all(canceled);
+        if together && more < 6_099 && less > 6_001 {
+            draft.put_detail(first, TERMINATOR, &digits::<4>(more + 1));
+            draft.put_detail(second, TERMINATOR, &digits::<4>(less - 1));
+            return;
         }
     }
 }
