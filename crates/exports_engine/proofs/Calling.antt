@@ -1,7 +1,7 @@
 -- A frame call is made where it can be, and refused where it cannot.
 use Prim.Native.Nat.{ℕ}
 use mathlib.Core.Path.{_≡_, refl, sym, ap, _∙_}
-use mathlib.Core.List.{List, [], _∷_}
+use mathlib.Core.List.{List}
 use mathlib.Core.Bool.{Bool, true, false, not, true≢false, _&&_}
 use lib.ListN.{length}
 use lib.Dec.{eqb}
@@ -10,31 +10,22 @@ use Rattle.lists.proofs.Tests.{and-left, and-right}
 use Rattle.lists.specs.Lists.{pasted}
 use Rattle.book.specs.declared.Book.{Book}
 use Rattle.book.specs.declared.Answer.{Answer}
-use Rattle.book.specs.declared.Answer.the-variants.{Rejected, Accepted, Dked}
-use Rattle.book.specs.declared.Reason.{Reason}
+use Rattle.book.specs.declared.Answer.the-variants.{Accepted, Rejected, Dked}
 use Rattle.book.specs.declared.Reason.the-variants.{Unsound}
-use Rattle.book.specs.Reasons.{numberOf, isAccepted}
+use Rattle.book.specs.Reasons.{isAccepted}
 use Rattle.book.specs.Checks.{Call, answerOf}
 use Rattle.book.specs.Step.{isSilent, bookAfter}
 use Rattle.trader.specs.Decisions.{callOn}
 use Rattle.lists.proofs.Pasting.{paste-whole}
 use Rattle.image.proofs.Kept.{image-again}
+use Rattle.answer_numbers.specs.Said.{saidOf}
 use Rattle.image.specs.Images.{isImage, bookIn, imageOf}
 use Rattle.engine.specs.declared.Stepped.{Stepped}
 use Rattle.engine.specs.Frames.{Frames}
-use Rattle.exports_engine.specs.Calls.{timeWidth, saidOf, callable, StepsTo, Calls}
+use Rattle.exports_engine.specs.Calls.{timeWidth, callable, StepsTo, Calls}
 
 pub answer-written : (said after two : List ℕ) (a : Answer) → after ≡ pasted said 0 two → two ≡ saidOf a → after ≡ pasted said 0 (saidOf a)
 answer-written said after two a e n = e ∙ ap (pasted said 0) n
-
-pub said-accepted : (a : Answer) (id : ℕ) → a ≡ Accepted id → 0 ∷ id ∷ [] ≡ saidOf a
-said-accepted a id e = rw e
-
-pub said-rejected : (a : Answer) (r : Reason) (n : ℕ) → a ≡ Rejected r → n ≡ numberOf r → 1 ∷ n ∷ [] ≡ saidOf a
-said-rejected a r n e h = rw (e, h)
-
-pub said-dked : (a : Answer) (r : Reason) (n : ℕ) → a ≡ Dked r → n ≡ numberOf r → 2 ∷ n ∷ [] ≡ saidOf a
-said-dked a r n e h = rw (e, h)
 
 silent-refuses : (a : Answer) → isSilent a ≡ true → isAccepted a ≡ false
 silent-refuses (Accepted id) e = absurd (true≢false (sym e))

@@ -7,30 +7,21 @@ ghost use mathlib.Core.Path.{_≡_};
 ghost use lib.ListN.{length};
 ghost use Rattle.lists.specs.Lists.{pasted};
 ghost use Rattle.image.specs.Images.{imageOf};
+ghost use Rattle.answer_numbers.specs.Said.{saidOf};
 ghost use Rattle.exports_engine.specs.Opening.{Opening};
 ghost use Rattle.exports_engine.specs.Figures.{figuresNumbers, figuresIn};
-ghost use Rattle.exports_engine.specs.Calls.{timeWidth, saidOf, StepsTo, Calls};
+ghost use Rattle.exports_engine.specs.Calls.{timeWidth, StepsTo, Calls};
 
 const TIME_WIDTH: usize = 6;
 
 // The number of an opening that is refused.
 const REFUSED: u64 = 41;
 
-// An answer in two numbers.
-fn said_of(answer: Answer) -> [u64; 2]
-    ensures { λ r. ⌜ r ≡ saidOf answer ⌝ }
-{
-    match answer {
-        Answer::Accepted(id) => [0, id],
-        Answer::Rejected(reason) => [1, answers::number_of(reason)],
-        Answer::Dked(reason) => [2, answers::number_of(reason)],
-    }
-}
-
+// Writes an answer in two numbers.
 fn put_answer(said: &mut [u64], answer: Answer)
     ensures { λ _. ⌜ now (said .exit) ≡ pasted (now (said .entry)) 0 (saidOf answer) ⌝ }
 {
-    let two = said_of(answer);
+    let two = answer_numbers::said_of(answer);
     numbers::put_numbers(&mut *said, &two);
 }
 
