@@ -6,6 +6,7 @@ use figures::Figures;
 ghost use mathlib.Core.Path.{_≡_};
 ghost use lib.ListN.{length};
 ghost use Rattle.lists.specs.Lists.{pasted};
+ghost use Rattle.image.specs.Images.{imageOf};
 ghost use Rattle.answer_numbers.specs.Said.{saidOf};
 ghost use Rattle.exports_engine.specs.Opening.{Opening};
 ghost use Rattle.exports_engine.specs.Figures.{figuresNumbers, figuresIn};
@@ -31,7 +32,7 @@ fn six_of(time: &[u8]) -> [u8; 6]
     [time[0], time[1], time[2], time[3], time[4], time[5]]
 }
 
-// The frame call on a book that was read: the book after it is written back.
+// The frame call on the book that was read from the words: the book after it is written back, but not after a silent refusal, which moves nothing.
 fn step_on(
     image: &mut [u64],
     book: Book,
@@ -42,14 +43,17 @@ fn step_on(
     out: &mut [u8],
     said: &mut [u64],
 )
-    requires { ⌜ length (now keys) ≡ length (now numbers) ⌝ }
+    requires { ⌜ (length (now keys) ≡ length (now numbers)) × (imageOf book ≡ now image) ⌝ }
     ensures { λ _. ⌜ StepsTo book (now (image .entry)) (now (numbers .entry)) (now (keys .entry)) (now (body .entry)) time (now (out .entry)) (now (said .entry)) (now (image .exit)) (now (numbers .exit)) (now (keys .exit)) (now (out .exit)) (now (said .exit)) ⌝ }
 {
     let stepped = engine::step(book, &mut *numbers, &mut *keys, body, time, &mut *out);
     let answer = stepped.answer;
     let after = stepped.book;
-    image::write_book(&mut *image, after);
     put_answer(&mut *said, answer);
+    if answers::is_silent(answer) {
+        return;
+    }
+    image::write_book(&mut *image, after);
 }
 
 // The frame call on the book that words say. Words that are no book's, slices of unequal lengths and time bytes that are not six are refused with 42.
