@@ -41,7 +41,8 @@ pub fn opening(values: &OpeningValues) -> Opening {
     }
 }
 
-/// The place of a trade's open par among its words, the words of a trade, and the trades that there is room for.
+/// The places of a trade's CUSIP and open par among its words, the words of a trade, and the trades that there is room for.
+const CUSIP: usize = 29;
 const LEFT: usize = 41;
 const TRADE_WORDS: usize = 42;
 const TRADES_MAX: usize = 64;
@@ -70,10 +71,13 @@ pub fn words_over(book: &Book, others: &[u64]) -> Vec<u64> {
     words
 }
 
-/// Fills the places past a book's trades with its first trade.
+/// Fills the places past a book's trades with its first trade under a CUSIP that no trade of a random day has.
 pub fn fill_past_trades(words: &mut [u64], trades: usize) {
     for place in trades..TRADES_MAX {
         words.copy_within(..TRADE_WORDS, place * TRADE_WORDS);
+        for (at, byte) in b"NONE00000".iter().enumerate() {
+            words[place * TRADE_WORDS + CUSIP + at] = u64::from(*byte);
+        }
     }
 }
 

@@ -9,8 +9,11 @@ use compare::engine::{fill_past_trades, held, same_table, told, words_over};
 use reference::answer::{Answer, Number, OPENING, SILENT, UNSOUND_BOOK};
 use reference::book::{Book, PoolRecord};
 use reference::damage::{scribble, sound_book, Lent, BOOK_DAMAGES, OPENING_DAMAGES};
+use reference::desk::{pool, Desk};
+use reference::draft::DraftPool;
 use reference::frame_call::frame_call;
 use reference::generator::{day, Day, Random};
+use reference::history::History;
 use reference::pool_detail::MatchedFields;
 use reference::script;
 use rhoikandra::Tally;
@@ -148,6 +151,22 @@ fn random_days() {
     assert!(met.full >= 50, "full cells were met too seldom: {met:?}");
 }
 
+/// An ON, a DK and a CC that the sound book takes.
+fn on_the_sound_book() -> Vec<Vec<u8>> {
+    let (book, table) = sound_book();
+    let history = History::new(&book.values);
+    let desk = Desk { book, table, history, tally: Default::default(), wrote: Vec::new() };
+    let live = |place: usize| {
+        let PoolRecord { matched, current_face_cents, .. } = desk.table[place];
+        DraftPool { matched, current_face_cents }
+    };
+    vec![
+        desk.on(0, 0, &[(pool(9, 5), b"0999")]).body(),
+        desk.dk(0, 1, &[live(3), live(4)]).body(),
+        desk.cc(0, 1, &[(live(2), b"6002"), (pool(9, 200_000_000), b"7002")]).body(),
+    ]
+}
+
 #[test]
 fn damaged_books() {
     let mut cases = Cases::of("damaged books");
@@ -169,8 +188,13 @@ fn damaged_books() {
             cases.count();
         }
     }
-    let body = day(7).calls[0].body.clone();
+    let bodies: Vec<Vec<u8>> = (0..40)
+        .flat_map(|_| day(cases.random.below(1 << 40)).calls)
+        .map(|call| call.body)
+        .chain(on_the_sound_book().into_iter().cycle().take(1_000))
+        .collect();
     for _ in 0..4_000 {
+        let body = cases.random.pick(&bodies);
         let (mut book, mut table) = sound_book();
         for _ in 0..cases.random.between(1, 2) {
             scribble(&mut cases.random, &mut book, &mut table);
@@ -182,7 +206,7 @@ fn damaged_books() {
         cases.count();
     }
     println!("met on scribbled books: {met:?}");
-    assert!(met.times(UNSOUND_BOOK) > 1_000 && met.codes.len() > 1, "{met:?}");
+    assert!(met.times(UNSOUND_BOOK) > 1_000 && met.times(0) > 50 && met.codes.len() > 5, "{met:?}");
 }
 
 /// One number or one byte that is not 0, in any record after the live ones.
