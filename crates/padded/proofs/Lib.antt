@@ -1,3 +1,4 @@
 pub mod Sound
 pub mod Alike
 pub mod Calls
+pub mod Moved
