@@ -69,7 +69,7 @@ module _ (c : Call) where
     fits : count ≤ length (c .table)
     fits = moved-fits c ok sound
 
-    live-within : c .book .live ≤ length (c .table)
+    pub live-within : c .book .live ≤ length (c .table)
     live-within = leb-true (c .book .live) (length (c .table)) (sound .liveWithin)
 
     after-is : tableAfter c ≡ liveMoved c ++ replicate (length (c .table) - count) noPool
@@ -79,6 +79,9 @@ module _ (c : Call) where
     pub live-after : bookAfter c .live ≡ count
     unfolding bookAfter
     live-after = rw ok
+
+    pub after-within : bookAfter c .live ≤ length (c .table)
+    after-within = omega (arith, live-after, fits)
 
     pub length-after : length (tableAfter c) ≡ length (c .table)
     length-after =
