@@ -1,15 +1,13 @@
 -- The first rows of two slices, and a table with some records taken from the rows.
-use Prim.Native.Nat.{ℕ, zero, suc, _+_, _-_, _≤_, _<_}
+use Prim.Native.Nat.{ℕ, _+_, _-_, _≤_, _<_}
 use native.Mathlib.Omega.{arith}
 use mathlib.Core.Path.{_≡_, sym, ap, _∙_}
-use mathlib.Core.List.{List, [], _∷_, _++_, append-assoc}
-use lib.ListN.{length, take, drop, getD, set, replicate, take-append-drop, length-append, length-replicate, replicate-append-replicate, length-drop, List·getD-append}
-use lib.Seq.{length-take-le, drop-append-le, take-append-le, getD-take, drop-drop, set-at}
+use mathlib.Core.List.{List, [], _++_}
+use lib.ListN.{length, take, drop, take-append-drop, length-drop, List·getD-append}
+use lib.Seq.{length-take-le, drop-append-le, take-append-le, getD-take, drop-drop}
 use Rattle.lists.specs.Lists.{tab}
-use Rattle.lists.proofs.Parts.{drop-turn}
-use Rattle.lists.proofs.Tables.{length-tab, take-tab, tab-same}
+use Rattle.lists.proofs.Tables.{take-tab, tab-same}
 use Rattle.book.specs.declared.Pool.{Pool}
-use Rattle.book.specs.Records.{noPool}
 use Rattle.table.specs.Rows.{recordAt, tableOf}
 use Rattle.table.proofs.Rows.{length-table, take-table, drop-table}
 use Rattle.padded.specs.Staged.{stored}
@@ -49,41 +47,3 @@ module _ (x z : List Pool) (ns ks ms js : List (List ℕ)) (a e : ℕ) (h : a �
   -- where the others are as they were, it is the table with those stored
   pub stored-is : (t : List Pool) → take a x ≡ take a t → drop e x ≡ drop e t → stored t ms js a e ≡ x
   stored-is t p q = sym (sym (three-parts x a e h) ∙ rw (middle, p, q))
-
--- ---- storing one record after another
--- an element put where a list goes on
-put-next : {A : Type 0} (p t : List A) (n : ℕ) (a : A) → length p ≡ n → n < length t → set (p ++ drop n t) n a ≡ p ++ (a ∷ drop (n + 1) t)
-put-next p t n a e h = ap (λ l. set (p ++ l) n a) (drop-turn t n a h) ∙ set-at p (getD t n a) (drop (n + 1) t) a n e
-
-tab-next : {A : Type 0} (f : ℕ → A) (n i : ℕ) → tab f (suc n) i ≡ tab f n i ++ (f (i + n) ∷ [])
-tab-next f zero i = ap (λ k. f k ∷ []) (omega arith)
-tab-next f (suc n) i = ap (λ l. f i ∷ l) (tab-next f n (i + 1)) ∙ ap (λ k. f i ∷ (tab f n (i + 1) ++ (f k ∷ []))) (omega arith)
-
-module _ (t : List Pool) (ns ks : List (List ℕ)) (a : ℕ) where
-  pub stored-none : stored t ns ks a a ≡ t
-  stored-none =
-      let n : a - a ≡ 0 = omega arith in
-      rw n (take-append-drop a t)
-
-  pub stored-more : (e : ℕ) → a ≤ e → e < length t → stored t ns ks a (e + 1) ≡ set (stored t ns ks a e) e (recordAt ns ks e)
-  stored-more e h l =
-      let n : (e + 1) - a ≡ suc (e - a) = omega arith in
-      let k : a + (e - a) ≡ e = omega arith in
-      let front : length (take a t ++ tab (recordAt ns ks) (e - a) a) ≡ e =
-      omega (arith, length-append (take a t) (tab (recordAt ns ks) (e - a) a), length-take-le a t (omega arith), length-tab (recordAt ns ks) (e - a) a) in
-      let rows : tab (recordAt ns ks) ((e + 1) - a) a ≡ tab (recordAt ns ks) (e - a) a ++ (recordAt ns ks e ∷ []) =
-      ap (λ (i : ℕ). tab (recordAt ns ks) i a) n ∙ tab-next (recordAt ns ks) (e - a) a
-      ∙ ap (λ (i : ℕ). tab (recordAt ns ks) (e - a) a ++ (recordAt ns ks i ∷ [])) k in
-      let turn : stored t ns ks a (e + 1) ≡ (take a t ++ tab (recordAt ns ks) (e - a) a) ++ (recordAt ns ks e ∷ drop (e + 1) t) =
-      ap (λ (x : List Pool). take a t ++ (x ++ drop (e + 1) t)) rows
-      ∙ ap (λ (x : List Pool). take a t ++ x) (append-assoc (tab (recordAt ns ks) (e - a) a) (recordAt ns ks e ∷ []) (drop (e + 1) t))
-      ∙ sym (append-assoc (take a t) (tab (recordAt ns ks) (e - a) a) (recordAt ns ks e ∷ drop (e + 1) t)) in
-      turn
-      ∙ sym (ap (λ (x : List Pool). set x e (recordAt ns ks e)) (sym (append-assoc (take a t) (tab (recordAt ns ks) (e - a) a) (drop e t)))
-      ∙ put-next (take a t ++ tab (recordAt ns ks) (e - a) a) t e (recordAt ns ks e) front l)
-
--- zeros in one record after another
-pub blank-more : (t : List Pool) (n : ℕ) → n < length t → replicate (n + 1) noPool ++ drop (n + 1) t ≡ set (replicate n noPool ++ drop n t) n noPool
-blank-more t n h =
-    ap (λ (x : List Pool). x ++ drop (n + 1) t) (sym (replicate-append-replicate n 1 noPool)) ∙ append-assoc (replicate n noPool) (noPool ∷ []) (drop (n + 1) t)
-    ∙ sym (put-next (replicate n noPool) t n noPool (length-replicate n noPool) h)

@@ -49,6 +49,7 @@ module _ (b : Book) (body time out : List ℕ) where
         ordered = omega arith;
         within = omega arith;
         staged = omega arith;
+        stagedKeys = omega arith;
       }
 
   module _ (ns ks : List (List ℕ)) (records : ℕ) (rest : Bool) where
@@ -81,6 +82,9 @@ module _ (b : Book) (body time out : List ℕ) where
       long : length (ms ++ drop rows ns) ≡ length ns
       long = length-front ns ms rows ln
 
+      long-keys : length (js ++ drop rows ks) ≡ length ks
+      long-keys = length-front ks js rows lk
+
       rows-move : (t : List Pool) → Staged b ns ks records rest t
           → Moves b t body time out (record { stepped = r; from = from; to = to }) (ms ++ drop rows ns) (js ++ drop rows ks) out′
       rows-move t s =
@@ -92,6 +96,7 @@ module _ (b : Book) (body time out : List ℕ) where
             ordered = rw (from-is, to-is) (st .ordered);
             within = omega (arith, to-is, st .within, p .within);
             staged = omega (arith, to-is, st .within, long, hn);
+            stagedKeys = omega (arith, to-is, st .within, long-keys, hk);
           }
         where
           p : Padded b t m
@@ -125,7 +130,7 @@ module _ (b : Book) (body time out : List ℕ) where
           to-is = et ∙ rw (answer, book)
 
       pub rows-step : StepsRows b ns ks records rest body time out (record { stepped = r; from = from; to = to }) (ms ++ drop rows ns) (js ++ drop rows ks) out′
-      rows-step = record { moves = rows-move; numbers = long; keys = length-front ks js rows lk }
+      rows-step = record { moves = rows-move; numbers = long; keys = long-keys }
 
 -- with the records that it names stored, the table is that after the frame call
 pub framed : (b : Book) (t : List Pool) (body time out : List ℕ) (r : Moved) (ns ks : List (List ℕ)) (out′ : List ℕ) → Moves b t body time out r ns ks out′

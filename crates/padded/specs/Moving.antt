@@ -25,6 +25,7 @@ pub record Moves (b : Book) (pools : List Pool) (body time out : List ℕ) (r : 
   pub ordered : r .from ≤ r .to
   pub within : r .to ≤ length pools
   pub staged : r .to ≤ length ns′
+  pub stagedKeys : r .to ≤ length ks′
 
 pub record StepsRows (b : Book) (ns ks : List (List ℕ)) (records : ℕ) (rest : Bool) (body time out : List ℕ) (r : Moved) (ns′ ks′ : List (List ℕ)) (out′ : List ℕ) : Type 0 where
   pub moves : (pools : List Pool) → Staged b ns ks records rest pools → Moves b pools body time out r ns′ ks′ out′
