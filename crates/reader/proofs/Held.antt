@@ -23,6 +23,8 @@ use denote.Slice.{sliceVal}
 use denote.Struct.Declared.{Declared}
 use denote.Struct.Laws as LL
 use Rattle.layout.specs.declared.Step.{Step}
+use Rattle.layout.proofs.Detail as DT
+use Rattle.layout.proofs.Detail.Laws as DT′
 use Rattle.layout.proofs.Step as S
 use Rattle.layout.proofs.Step.Laws as S′
 use Rattle.reader.specs.declared.Details.{Details}
@@ -81,6 +83,10 @@ step-is t u is = subst (Is stepRow t) (step-tells t u is) is
 -- the place after the detail is a usize
 pub step-fits : (t : Step) → Is stepRow t (stepVal t ∷ []) → t .next < 2 ^ 64
 step-fits t is = LL.owed S.the-type S′.the-laws t _ is .1 .1 .0 .1
+
+-- the detail's relation holds of its own value
+pub step-detail : (t : Step) → Is stepRow t (stepVal t ∷ []) → Is DT.the-row (t .detail) (LL.val DT.the-type DT′.the-laws (t .detail) ∷ [])
+step-detail t is = LL.owed S.the-type S′.the-laws t _ is .1 .0
 
 module _ {M : Type 1} (𝓤 : URA M) (H : Heap 𝓤) (A : Atoms 𝓤) where
   pub step-typed : Given 𝓤 H A → (t : Step) (u : Val) → Is stepRow t (u ∷ []) → Holds (hasTy S′.mir u) × WT u
