@@ -1,6 +1,6 @@
 -- 34: the two tests of a pool's faces, and some new pool found by a pass over all.
-use mathlib.Core.Path.{_≡_}
-use mathlib.Core.List.{List}
+use mathlib.Core.Path.{_≡_, refl, _∙_}
+use mathlib.Core.List.{List, [], _∷_}
 use mathlib.Core.Bool.{Bool, false, _&&_, _||_}
 use Prim.Native.Nat.{ℕ}
 use Rattle.lists.proofs.Folds.{fold}
@@ -8,7 +8,8 @@ use Rattle.fields.specs.declared.Field.{Field}
 use Rattle.fields.specs.Fields.{readNumber}
 use Rattle.layout.specs.declared.Detail.{Detail}
 use Rattle.layout.specs.Columns.{originalFace, currentFace}
-use Rattle.faces.specs.Faces.{isNew, currentFails, originalFails, faceFails, facesFail}
+use Rattle.faces.specs.declared.FaceCheck.{FaceCheck}
+use Rattle.faces.specs.Faces.{isNew, currentFails, originalFails, faceFails, checkFace, facesFail}
 use Rattle.faces.proofs.Kept.{orKept, fold-any}
 
 pub face-is : (d : Detail) (least : ℕ) (c o : Field) (n f : Bool) → c ≡ readNumber (d .current) 0 (currentFace .width) → o ≡ readNumber (d .original) 0 (originalFace .width)
@@ -16,13 +17,21 @@ pub face-is : (d : Detail) (least : ℕ) (c o : Field) (n f : Bool) → c ≡ re
 unfolding faceFails
 face-is d least c o n f ec eo en ef = rw (en, ef, ec, eo)
 
-abbrev pub orNewFails : ℕ → Bool → Detail → Bool
+abbrev orNewFails : ℕ → Bool → Detail → Bool
 orNewFails least = orKept isNew (faceFails least)
 
 -- one pool more
-pub faced-more : (least : ℕ) (b : Bool) (d p : Detail) (n f : Bool) → d ≡ p → n ≡ isNew d → f ≡ faceFails least d → (b || (n && f)) ≡ orNewFails least b p
-faced-more least b d p n f ed en ef = rw (en, ef, ed)
+pub check-more : (s : FaceCheck) (d : Detail) (n f : Bool) → n ≡ isNew d → f ≡ faceFails (s .least) d
+    → _≡_ {A = FaceCheck} (record { least = s .least; fails = s .fails || (n && f) }) (checkFace s d)
+unfolding checkFace
+check-more s d n f en ef = rw (en, ef)
 
-pub faced-pass : (least : ℕ) (ds : List Detail) → fold (orNewFails least) false ds ≡ facesFail least ds
+-- the least stays as it is in a pass, and the test of each pool joins what was found
+check-fold : (least : ℕ) (b : Bool) (ds : List Detail) → fold checkFace (record { least = least; fails = b }) ds .fails ≡ fold (orNewFails least) b ds
+unfolding checkFace
+check-fold least b [] = refl
+check-fold least b (d ∷ ds) = check-fold least (orNewFails least b d) ds
+
+pub check-pass : (least : ℕ) (ds : List Detail) → fold checkFace (record { least = least; fails = false }) ds .fails ≡ facesFail least ds
 unfolding facesFail
-faced-pass least ds = fold-any isNew (faceFails least) false ds
+check-pass least ds = check-fold least false ds ∙ fold-any isNew (faceFails least) false ds

@@ -14,6 +14,7 @@ use Rattle.layout.specs.Details.{poolsMax}
 use Rattle.terminator.specs.Terminators.{isCanceled, isGood}
 use Rattle.terminator.specs.Lots.{Lot, poolsOf, lotKind, lotMillions, lots, currentCents, millionCents, lotWeight}
 use Rattle.terminator.specs.Groups.{lotCanceled}
+use Rattle.faces.specs.declared.FaceCheck.{FaceCheck}
 use Rattle.faces.specs.declared.Staged.{Staged}
 
 -- ---- the new pools and lots of a message: an ON's, and a CC's that are not canceled
@@ -46,6 +47,10 @@ currentFails NotDigits = true
 -- 34 of one pool: both faces must be digits, and the original face within its bounds
 unfoldable pub faceFails : ℕ → Detail → Bool
 faceFails least d = currentFails (readNumber (d .current) 0 (currentFace .width)) || originalFails least (readNumber (d .original) 0 (originalFace .width))
+
+-- a pass over the pools: whether this one or one before it is new and fails 34
+unfoldable pub checkFace : FaceCheck → Detail → FaceCheck
+checkFace s d = record { least = s .least; fails = s .fails || (isNew d && faceFails (s .least) d) }
 
 -- 34 of a message: some new pool fails it
 unfoldable pub facesFail : ℕ → List Detail → Bool

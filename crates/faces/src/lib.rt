@@ -6,7 +6,8 @@ ghost use lib.Dec.{ltb};
 ghost use Prim.Native.Nat.{_-_, _*_};
 ghost use Rattle.layout.specs.Details.{details};
 ghost use Rattle.terminator.specs.Lots.{millionCents};
-ghost use Rattle.faces.specs.Faces.{isNew, currentFails, originalFails, faceFails, facesFail, goodLotFails};
+ghost use Rattle.lists.proofs.Folds.{fold};
+ghost use Rattle.faces.specs.Faces.{isNew, currentFails, originalFails, faceFails, checkFace, facesFail, goodLotFails};
 
 // The highest original face, in whole dollars.
 pub const ORIGINAL_MOST: u64 = 50000000;
@@ -47,19 +48,50 @@ pub fn face_fails(d: Detail, least: u64) -> bool
     current_fails(c) | original_fails(o, least)
 }
 
+// What check 34 carries from pool to pool: the least original face, and whether some new pool failed.
+struct FaceCheck {
+    least: u64,
+    fails: bool,
+}
+
+// One pool more.
+fn check_face(s: FaceCheck, d: Detail) -> FaceCheck
+    ensures { λ r. ⌜ r ≡ checkFace s d ⌝ }
+{
+    let least = s.least;
+    let fails = s.fails | (is_new(d) & face_fails(d, least));
+    FaceCheck { least, fails }
+}
+
+// Every pool of a message, by the detail reader.
+fn check_faces(body: &[u8], s: FaceCheck) -> FaceCheck
+    ensures { λ r. ⌜ r ≡ fold checkFace s (details (now (body .entry))) ⌝ }
+{
+    let n = layout::pool_count(body);
+    let mut d = reader::new(body);
+    let mut s = s;
+    let mut i: usize = 0;
+    while i < n {
+        let step = reader::next(d);
+        s = check_face(s, step.detail);
+        d = reader::moved(d, step.next);
+        i += 1;
+    }
+    s
+}
+
 // 34 of a message: some new pool fails it.
 pub fn faces_fail(body: &[u8], least: u64) -> bool
     ensures { λ r. ⌜ r ≡ facesFail least (details (now (body .entry))) ⌝ }
 {
-    let n = layout::pool_count(body);
-    let mut fails = false;
-    let mut i: usize = 0;
-    while i < n {
-        let d = layout::pool_at(body, i);
-        i += 1;
-        fails = fails | (is_new(d) & face_fails(d, least));
-    }
-    fails
+    let s = check_faces(
+        body,
+        FaceCheck {
+            least,
+            fails: false,
+        },
+    );
+    s.fails
 }
 
 // Whether a is more than b × c, of any numbers.

@@ -2,19 +2,24 @@
 use mathlib.Core.Path.{_≡_, refl, sym, ap, _∙_}
 use mathlib.Core.List.{List, [], _∷_, _++_}
 use mathlib.Core.Bool.{Bool, true, false, _&&_, _||_}
-use Prim.Native.Nat.{ℕ, _+_, _≤_}
+use Prim.Native.Nat.{ℕ, zero, suc, _+_, _*_, _≤_, _<_}
 use native.Mathlib.Omega.{arith}
 use lib.ListN.{length}
 use Rattle.lists.specs.Lists.{sumOf}
 use Rattle.lists.proofs.Folds.{fold}
 use Rattle.layout.specs.declared.Detail.{Detail}
+use Rattle.layout.specs.Details.{poolsMax, poolCount}
+use Rattle.layout.proofs.Lengths.{count-max}
+use Rattle.layout.proofs.Passes.{poolOf}
+use Rattle.reader.proofs.Turns.{after}
 use Rattle.terminator.specs.declared.Terminator.{Terminator}
 use Rattle.terminator.specs.declared.Terminator.the-variants.{GoodEnd}
 use Rattle.terminator.specs.Terminators.{isEnd, term}
 use Rattle.terminator.specs.Lots.{Lot, currentCents, lots}
 use Rattle.new_lots.specs.declared.Checked.{Checked}
+use Rattle.new_lots.specs.declared.LotCheck.{LotCheck}
 use Rattle.faces.specs.Faces.{isNew, isNewLot, goodLotFails, lotFails, lotsFail}
-use Rattle.new_lots.specs.Runs.{faceLimit, endFails, checkPool}
+use Rattle.new_lots.specs.Runs.{faceLimit, endFails, checkPool, checkNext}
 use Rattle.faces.proofs.Kept.{orKept, fold-any}
 use Rattle.new_lots.proofs.Lotwise.{lotOf, lotwise, cents-snoc, length-snoc}
 use Rattle.terminator.proofs.Found.{cents-small}
@@ -81,3 +86,29 @@ module _ (variance most : ℕ) where
   checked-pass ds =
       lotwise (checkPool variance most) checkedAt (λ (s : Checked). s .fails) newLotFails (λ (ms : List Detail) (b : Bool). refl) checked-middle checked-last false ds
       ∙ fold-any isNewLot (lotFails variance most) false (lots ds)
+
+-- ---- the same with the limits beside what is kept
+pub next-is : (s : LotCheck) (d : Detail) (k : Checked) → k ≡ checkPool (s .variance) (s .most) (s .kept) d
+    → _≡_ {A = LotCheck} (record { variance = s .variance; most = s .most; kept = k }) (checkNext s d)
+unfolding checkNext
+next-is s d k e = rw e
+
+next-kept : (variance most : ℕ) (k : Checked) (ds : List Detail) → fold checkNext (record { variance = variance; most = most; kept = k }) ds .kept ≡ fold (checkPool variance most) k ds
+unfolding checkNext
+next-kept variance most k [] = refl
+next-kept variance most k (d ∷ ds) = next-kept variance most (checkPool variance most k d) ds
+
+pub next-pass : (variance most : ℕ) (ds : List Detail) → fold checkNext (record { variance = variance; most = most; kept = noneChecked }) ds .kept .fails ≡ lotsFail variance most ds
+next-pass variance most ds = ap (λ (k : Checked). k .fails) (next-kept variance most noneChecked ds) ∙ checked-pass variance most ds
+
+module _ (s : LotCheck) (h : (s .kept .cents ≡ 0) × (s .kept .pools ≡ 0)) (body : List ℕ) where
+  -- after i turns the pools since the last end are at most i, and their sum at most i faces
+  next-sums : (i : ℕ) → (after checkNext body s i .kept .cents ≤ i * faceLimit) × (after checkNext body s i .kept .pools ≤ i)
+  unfolding checkNext
+  next-sums zero = (omega (arith, h .0), omega (arith, h .1))
+  next-sums (suc i) =
+      let t = after checkNext body s i in
+      (omega (arith, next-sums i .0, checked-cents (t .variance) (t .most) (t .kept) (poolOf body i)), omega (arith, next-sums i .1, checked-pools (t .variance) (t .most) (t .kept) (poolOf body i)))
+
+  pub next-fits : (i : ℕ) → i < poolCount body → (after checkNext body s i .kept .cents ≤ poolsMax * faceLimit) × (after checkNext body s i .kept .pools ≤ poolsMax)
+  next-fits i l = (omega (arith, l, count-max body, next-sums i .0), omega (arith, l, count-max body, next-sums i .1))

@@ -2,12 +2,16 @@
 use mathlib.Core.Path.{_≡_, refl, sym, _∙_}
 use mathlib.Core.List.{List, [], _∷_, _++_}
 use mathlib.Core.Bool.{Bool, true, false}
-use Prim.Native.Nat.{ℕ, _+_, _≤_, _<_}
+use Prim.Native.Nat.{ℕ, zero, suc, _+_, _*_, _≤_, _<_}
 use native.Mathlib.Nat.{add-zero}
 use native.Mathlib.Omega.{arith}
 use Rattle.lists.specs.Lists.{sumOf}
 use Rattle.lists.proofs.Folds.{fold}
 use Rattle.layout.specs.declared.Detail.{Detail}
+use Rattle.layout.specs.Details.{poolsMax, poolCount}
+use Rattle.layout.proofs.Lengths.{count-max}
+use Rattle.layout.proofs.Passes.{poolOf}
+use Rattle.reader.proofs.Turns.{after}
 use Rattle.terminator.specs.declared.Terminator.{Terminator}
 use Rattle.terminator.specs.declared.Terminator.the-variants.{Middle, BadMiddle, GoodEnd, OddEnd, BadEnd, Wrong}
 use Rattle.terminator.specs.Terminators.{isEnd, kindOf, millionsOf, term}
@@ -80,3 +84,12 @@ unfolding newWeight
 weighed-pass ds =
     lotwise weighPool weighedAt (λ (s : Weighed). s .weight) addNewLot (λ (ms : List Detail) (w : ℕ). refl) weighed-middle weighed-last 0 ds
     ∙ omega (arith, fold-kept isNewLot lotWeight 0 (lots ds))
+
+module _ (s : Weighed) (h : s .cents + s .weight ≡ 0) (body : List ℕ) where
+  -- after i turns the sum since the last end and the weight together are at most i faces
+  weigh-sums : (i : ℕ) → after weighPool body s i .cents + after weighPool body s i .weight ≤ i * faceLimit
+  weigh-sums zero = omega (arith, h)
+  weigh-sums (suc i) = omega (arith, weigh-sums i, weighed-sums (after weighPool body s i) (poolOf body i))
+
+  pub weigh-fits : (i : ℕ) → i < poolCount body → after weighPool body s i .cents + after weighPool body s i .weight ≤ poolsMax * faceLimit
+  weigh-fits i l = omega (arith, l, count-max body, weigh-sums i)

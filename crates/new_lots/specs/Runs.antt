@@ -6,6 +6,7 @@ use Rattle.terminator.specs.declared.Terminator.{Terminator}
 use Rattle.terminator.specs.Terminators.{isEnd, isGood, kindOf, millionsOf, term}
 use Rattle.terminator.specs.Lots.{currentCents, weightOf}
 use Rattle.new_lots.specs.declared.Checked.{Checked}
+use Rattle.new_lots.specs.declared.LotCheck.{LotCheck}
 use Rattle.new_lots.specs.declared.Weighed.{Weighed}
 use Rattle.faces.specs.Faces.{isNew, goodLotFails}
 
@@ -31,6 +32,10 @@ checkPool variance poolsAMillion s d =
       fails = s .fails || (isNew d && endFails (term d) (s .cents + currentCents d) (s .pools + 1) variance poolsAMillion);
     })
     (record { cents = s .cents + currentCents d; pools = s .pools + 1; fails = s .fails })
+
+-- the same, with the limits beside what is kept
+unfoldable pub checkNext : LotCheck → Detail → LotCheck
+checkNext s d = record { variance = s .variance; most = s .most; kept = checkPool (s .variance) (s .most) (s .kept) d }
 
 -- the sum of the pools since the last end, and the weight of the new lots before it
 unfoldable pub weighPool : Weighed → Detail → Weighed

@@ -3,11 +3,12 @@ use layout::Detail;
 use terminator::Terminator;
 ghost use mathlib.Core.Path.{_≡_};
 ghost use Prim.Native.Nat.{_+_, _*_, _≤_};
+ghost use Rattle.lists.proofs.Folds.{fold};
 ghost use Rattle.layout.specs.Details.{details, poolsMax};
 ghost use Rattle.terminator.specs.Terminators.{kindOf, millionsOf};
 ghost use Rattle.terminator.specs.Lots.{weightOf};
 ghost use Rattle.faces.specs.Faces.{isNew, lotsFail, newWeight};
-ghost use Rattle.new_lots.specs.Runs.{faceLimit, millionsMost, endFails, checkPool, weighPool};
+ghost use Rattle.new_lots.specs.Runs.{faceLimit, millionsMost, endFails, checkPool, checkNext, weighPool};
 
 fn is_new(d: Detail) -> bool
     ensures { λ r. ⌜ r ≡ isNew d ⌝ }
@@ -83,23 +84,64 @@ fn check_pool(s: Checked, d: Detail, variance: u64, pools_a_million: u64) -> Che
     }
 }
 
+// What check 35 carries from pool to pool: the variance, the most pools a million, and what it keeps of the pools.
+struct LotCheck {
+    variance: u64,
+    most: u64,
+    kept: Checked,
+}
+
+// One pool more, by the limits.
+fn check_next(s: LotCheck, d: Detail) -> LotCheck
+    requires { ⌜ (s .kept .cents ≤ poolsMax * faceLimit) × (s .kept .pools ≤ poolsMax) ⌝ }
+    ensures { λ r. ⌜ r ≡ checkNext s d ⌝ }
+{
+    let variance = s.variance;
+    let most = s.most;
+    let kept = check_pool(s.kept, d, variance, most);
+    LotCheck {
+        variance,
+        most,
+        kept,
+    }
+}
+
+// Every pool of a message, by the detail reader.
+fn check_pools(body: &[u8], s: LotCheck) -> LotCheck
+    requires { ⌜ (s .kept .cents ≡ 0) × (s .kept .pools ≡ 0) ⌝ }
+    ensures { λ r. ⌜ r ≡ fold checkNext s (details (now (body .entry))) ⌝ }
+{
+    let n = layout::pool_count(body);
+    let mut d = reader::new(body);
+    let mut s = s;
+    let mut i: usize = 0;
+    while i < n {
+        let step = reader::next(d);
+        s = check_next(s, step.detail);
+        d = reader::moved(d, step.next);
+        i += 1;
+    }
+    s
+}
+
 // 35 of a message: some new lot fails it.
 pub fn lots_fail(body: &[u8], variance: u64, pools_a_million: u64) -> bool
     ensures { λ r. ⌜ r ≡ lotsFail variance «pools_a_million» (details (now (body .entry))) ⌝ }
 {
-    let n = layout::pool_count(body);
-    let mut s = Checked {
+    let none = Checked {
         cents: 0,
         pools: 0,
         fails: false,
     };
-    let mut i: usize = 0;
-    while i < n {
-        let d = layout::pool_at(body, i);
-        i += 1;
-        s = check_pool(s, d, variance, pools_a_million);
-    }
-    s.fails
+    let s = check_pools(
+        body,
+        LotCheck {
+            variance,
+            most: pools_a_million,
+            kept: none,
+        },
+    );
+    s.kept.fails
 }
 
 // The sum of the pools since the last end, and the weight of the new lots before it.
@@ -135,20 +177,34 @@ fn weigh_pool(s: Weighed, d: Detail) -> Weighed
     }
 }
 
+// Every pool of a message, by the detail reader.
+fn weigh_pools(body: &[u8], s: Weighed) -> Weighed
+    requires { ⌜ s .cents + s .weight ≡ 0 ⌝ }
+    ensures { λ r. ⌜ r ≡ fold weighPool s (details (now (body .entry))) ⌝ }
+{
+    let n = layout::pool_count(body);
+    let mut d = reader::new(body);
+    let mut s = s;
+    let mut i: usize = 0;
+    while i < n {
+        let step = reader::next(d);
+        s = weigh_pool(s, step.detail);
+        d = reader::moved(d, step.next);
+        i += 1;
+    }
+    s
+}
+
 // The weight that a message brings: that of its new lots.
 pub fn new_weight(body: &[u8]) -> u64
     ensures { λ r. ⌜ r ≡ newWeight (details (now (body .entry))) ⌝ }
 {
-    let n = layout::pool_count(body);
-    let mut s = Weighed {
-        cents: 0,
-        weight: 0,
-    };
-    let mut i: usize = 0;
-    while i < n {
-        let d = layout::pool_at(body, i);
-        i += 1;
-        s = weigh_pool(s, d);
-    }
+    let s = weigh_pools(
+        body,
+        Weighed {
+            cents: 0,
+            weight: 0,
+        },
+    );
     s.weight
 }
