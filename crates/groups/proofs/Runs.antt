@@ -1,8 +1,8 @@
 -- Checks 20 and 21 by one pass: the group at hand is known by its counts, kinds and sums, and a pool that ends a lot adds to them.
-use mathlib.Core.Path.{_≡_, refl, sym, ap, _∙_}
+use mathlib.Core.Path.{_≡_, refl, sym, ap, subst, _∙_}
 use mathlib.Core.List.{List, [], _∷_, _++_}
 use mathlib.Core.Bool.{Bool, true, false, cond, not, _&&_, and-assoc, and-true}
-use Prim.Native.Nat.{ℕ, _+_, _≤_, _<_}
+use Prim.Native.Nat.{ℕ, zero, suc, _+_, _≤_, _<_}
 use native.Mathlib.Omega.{arith}
 use lib.ListN.{length, length-append}
 use lib.Dec.{eqb, ltb}
@@ -11,6 +11,11 @@ use Rattle.lists.specs.Lists.{sumOf, all}
 use Rattle.lists.proofs.Tests.{sum-append, all-append}
 use Rattle.lists.proofs.Folds.{fold}
 use Rattle.layout.specs.declared.Detail.{Detail}
+use Rattle.layout.specs.Details.{poolCount}
+use Rattle.layout.proofs.Lengths.{count-max}
+use Rattle.layout.proofs.Passes.{poolOf}
+use Rattle.reader.proofs.Turns.{after}
+use Rattle.terminator.proofs.Marks.{millions-small, mark-millions}
 use Rattle.terminator.specs.declared.Mark.{Mark}
 use Rattle.groups.specs.declared.Run.{Run}
 use Rattle.terminator.specs.declared.Groups.{Groups}
@@ -19,7 +24,7 @@ use Rattle.terminator.specs.declared.Kind.the-variants.{Good, Odd, Bad}
 use Rattle.terminator.specs.Terminators.{digitCanceled, isEnd, isCanceled, one, term, markOf}
 use Rattle.terminator.specs.Lots.{Lot, lotKind, lotMillions, lotsFrom, lots}
 use Rattle.terminator.specs.Groups.{Group, groupsFrom, groups, sameKind, ofKind, groupFormed, groupBalanced, groupsFormed, groupsBalanced, groupsJudged}
-use Rattle.groups.specs.Runs.{judged, emptyRun, withCanceled, withReplacement, runOn, Small}
+use Rattle.groups.specs.Runs.{judged, emptyRun, withCanceled, withReplacement, runOn, runStep, Small}
 
 -- ---- the ways through one pool
 module _ (g : Run) (m : Mark) where
@@ -134,9 +139,6 @@ module _ (f b : Bool) (os ns : List Lot) (l : Lot) where
       rw (length-more ns l, one-more-replacement Good os ns l, one-more-replacement Odd os ns l, one-more-replacement Bad os ns l, millions-more ns l)
 
 -- ---- the pass: what is judged at the end are the groups so far, the one at hand and those to come
-abbrev pub runStep : Run → Detail → Run
-runStep g d = runOn g (markOf d)
-
 abbrev verdict : Bool → Bool → List Group → Groups
 verdict f b gs = record { formed = f && all groupFormed gs; balanced = b && all groupBalanced gs }
 
@@ -193,3 +195,15 @@ run-pass f b os ns ms (d ∷ ds) =
 pub groups-pass : (ds : List Detail) → judged (fold runStep (emptyRun true true) ds) ≡ groupsJudged ds
 unfolding groupsFormed groupsBalanced groups lots
 groups-pass ds = run-pass true true [] [] [] ds
+
+-- after i turns each count is at most i and each sum at most 99 × i
+module _ (g : Run) (h : Small 0 g) (body : List ℕ) where
+  run-small : (i : ℕ) → Small i (after runStep body g i)
+  run-small zero = h
+  run-small (suc i) =
+      let p = poolOf body i in
+      let e : i + 1 ≡ suc i = omega arith in
+      subst (λ (k : ℕ). Small k (after runStep body g (suc i))) e (small-more i (after runStep body g i) (markOf p) (run-small i) (omega (arith, mark-millions p (markOf p) refl, millions-small p)))
+
+  pub run-fits : (i : ℕ) → i < poolCount body → Small 250 (after runStep body g i)
+  run-fits i l = small-most i 250 (after runStep body g i) (omega (arith, l, count-max body)) (run-small i)

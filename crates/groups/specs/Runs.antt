@@ -2,9 +2,10 @@
 use Prim.Native.Nat.{ℕ, _+_, _*_, _≤_}
 use mathlib.Core.Bool.{Bool, true, cond, not, _&&_, _||_}
 use lib.Dec.{eqb, leb, ltb}
+use Rattle.layout.specs.declared.Detail.{Detail}
 use Rattle.terminator.specs.declared.Mark.{Mark}
 use Rattle.terminator.specs.declared.Groups.{Groups}
-use Rattle.terminator.specs.Terminators.{digitCanceled}
+use Rattle.terminator.specs.Terminators.{digitCanceled, markOf}
 use Rattle.groups.specs.declared.Run.{Run}
 
 -- 20 of the group at hand
@@ -77,6 +78,10 @@ runOn g m =
     (cond (ltb 0 (g .replacement)) (withCanceled (emptyRun (judged g .formed) (judged g .balanced)) m) (withCanceled g m))
     (withReplacement g m))
     g
+
+-- the same by the pool's detail
+abbrev pub runStep : Run → Detail → Run
+runStep g d = runOn g (markOf d)
 
 -- the sizes of the group at hand after so many pools: no lot without a pool, and at most 99 millions each
 pub record Small (n : ℕ) (g : Run) : Type 0 where

@@ -1,11 +1,13 @@
 // The groups of a CC: whether they are formed (20), and whether each has like sums (21).
+use layout::Detail;
 use terminator::Groups;
 use terminator::Mark;
 ghost use mathlib.Core.Path.{_≡_};
 ghost use Prim.Native.Nat.{_+_, _<_, _≤_};
+ghost use Rattle.lists.proofs.Folds.{fold};
 ghost use Rattle.layout.specs.Details.{details};
 ghost use Rattle.terminator.specs.Groups.{groupsJudged};
-ghost use Rattle.groups.specs.Runs.{judged, emptyRun, withCanceled, withReplacement, runOn, Small};
+ghost use Rattle.groups.specs.Runs.{judged, emptyRun, withCanceled, withReplacement, runOn, runStep, Small};
 
 // Checks 20 and 21 of the groups so far, and the group at hand: its lots, whether all are of one kind, and the millions that its canceled and its replacement lots have.
 struct Run {
@@ -101,18 +103,38 @@ fn run_on(g: Run, m: Mark) -> Run
     with_canceled(next, m)
 }
 
+// The groups after one more pool, by its detail.
+fn run_next(g: Run, d: Detail) -> Run
+    requires { ⌜ Small 250 g ⌝ }
+    ensures { λ r. ⌜ r ≡ runStep g d ⌝ }
+{
+    let m = terminator::mark_of(d);
+    run_on(g, m)
+}
+
+// Every pool of a message, by the detail reader.
+fn run_pools(body: &[u8], g: Run) -> Run
+    requires { ⌜ Small 0 g ⌝ }
+    ensures { λ r. ⌜ r ≡ fold runStep g (details (now (body .entry))) ⌝ }
+{
+    let n = layout::pool_count(body);
+    let mut d = reader::new(body);
+    let mut g = g;
+    let mut i: usize = 0;
+    while i < n {
+        let step = reader::next(d);
+        g = run_next(g, step.detail);
+        d = reader::moved(d, step.next);
+        i += 1;
+    }
+    g
+}
+
 // Checks 20 and 21: whether the groups of a CC are formed, and whether each has like sums.
 pub fn groups_of(body: &[u8]) -> Groups
     ensures { λ r. ⌜ r ≡ groupsJudged (details (now (body .entry))) ⌝ }
 {
-    let n = layout::pool_count(body);
-    let mut g = empty_run(true, true);
-    let mut i: usize = 0;
-    while i < n {
-        let d = layout::pool_at(body, i);
-        let m = terminator::mark_of(d);
-        g = run_on(g, m);
-        i += 1;
-    }
+    let none = empty_run(true, true);
+    let g = run_pools(body, none);
     judge(g)
 }

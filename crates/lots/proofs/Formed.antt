@@ -1,15 +1,17 @@
 -- Check 19 by a walk: a lot that is begun asks the next pool to go on with it, so the walk's state is all that has to be known of the pools before.
-use mathlib.Core.Path.{_≡_, refl, ap₂, _∙_}
+use mathlib.Core.Path.{_≡_, refl, ap, ap₂, _∙_}
 use mathlib.Core.List.{List, [], _∷_}
 use mathlib.Core.Bool.{Bool, true, false, cond, not, _&&_, _||_, Bool·beq, and-assoc, and-false}
 use Prim.Native.Nat.{ℕ}
 use lib.Dec.{eqb}
 use Rattle.lists.proofs.Folds.{fold}
 use Rattle.layout.specs.declared.Detail.{Detail}
+use Rattle.terminator.specs.declared.Mark.{Mark}
 use Rattle.lots.specs.declared.Walk.{Walk}
+use Rattle.lots.specs.declared.LotWalk.{LotWalk}
 use Rattle.terminator.specs.Terminators.{isEnd, isWrong, isBad, one, term, markOf}
 use Rattle.terminator.specs.Lots.{goesOn, lotsFormed, firstOn, firstCc, formedFor}
-use Rattle.lots.specs.Walks.{firstOf, walkOn}
+use Rattle.lots.specs.Walks.{firstOf, walkOn, walkNext}
 
 abbrev pub walkStep : Bool → Walk → Detail → Walk
 walkStep cc w d = walkOn cc w (markOf d)
@@ -58,3 +60,16 @@ formed-pass cc ds = walked cc true false 48 false ds ∙ go ds
     go : (xs : List Detail) → formedAfter cc false 48 false xs ≡ lotsFormed (asked cc) xs
     go [] = refl
     go (x ∷ xs) = refl
+
+-- ---- the same with the type beside the walk
+pub next-is : (s : LotWalk) (d : Detail) (m : Mark) (w : Walk) → m ≡ markOf d → w ≡ walkOn (s .cc) (s .walk) m → _≡_ {A = LotWalk} (record { cc = s .cc; walk = w }) (walkNext s d)
+unfolding walkNext
+next-is s d m w em ew = rw (ew, em)
+
+next-walk : (cc : Bool) (w : Walk) (ds : List Detail) → fold walkNext (record { cc = cc; walk = w }) ds .walk ≡ fold (walkStep cc) w ds
+unfolding walkNext
+next-walk cc w [] = refl
+next-walk cc w (d ∷ ds) = next-walk cc (walkStep cc w d) ds
+
+pub next-pass : (cc : Bool) (ds : List Detail) → ended (fold walkNext (record { cc = cc; walk = start }) ds .walk) ≡ formedFor cc ds
+next-pass cc ds = ap ended (next-walk cc start ds) ∙ formed-pass cc ds

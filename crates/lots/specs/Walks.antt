@@ -2,9 +2,12 @@
 use Prim.Native.Nat.{ℕ}
 use mathlib.Core.Bool.{Bool, not, _&&_, _||_, Bool·beq}
 use lib.Dec.{eqb}
+use Rattle.layout.specs.declared.Detail.{Detail}
 use Rattle.terminator.specs.declared.Mark.{Mark}
+use Rattle.terminator.specs.Terminators.{markOf}
 use Rattle.terminator.specs.Lots.{firstOn, firstCc}
 use Rattle.lots.specs.declared.Walk.{Walk}
+use Rattle.lots.specs.declared.LotWalk.{LotWalk}
 
 -- position one as the type asks
 abbrev pub firstOf : Bool → ℕ → Bool
@@ -19,3 +22,7 @@ walkOn cc w m =
       one = m .one;
       bad = m .bad;
     }
+
+-- the same by the pool's detail, with the type beside the walk
+unfoldable pub walkNext : LotWalk → Detail → LotWalk
+walkNext s d = record { cc = s .cc; walk = walkOn (s .cc) (s .walk) (markOf d) }

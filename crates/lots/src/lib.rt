@@ -1,13 +1,15 @@
 // The lots that the terminators of a message make: whether they are formed (19), the replacement pools (22), the good millions (33), and the lot that begins at a pool.
+use layout::Detail;
 use terminator::LotRead;
 use terminator::Mark;
 ghost use mathlib.Core.Path.{_≡_};
 ghost use Prim.Native.Nat.{_<_};
 ghost use lib.ListN.{drop};
+ghost use Rattle.lists.proofs.Folds.{fold};
 ghost use Rattle.layout.specs.Details.{details, poolCount, detailAt, placeOf};
 ghost use Rattle.terminator.specs.Terminators.{markOf};
 ghost use Rattle.terminator.specs.Lots.{replacementCount, goodMillions, formedFor, firstLot, lots};
-ghost use Rattle.lots.specs.Walks.{walkOn};
+ghost use Rattle.lots.specs.Walks.{walkOn, walkNext};
 
 // A walk over the pools: whether the lots are formed so far, and the lot that is begun, its position one and whether it is bad.
 struct Walk {
@@ -72,23 +74,51 @@ fn walk_on(w: Walk, m: Mark, cc: bool) -> Walk
     }
 }
 
+// A walk and whether the pools are those of a CC.
+struct LotWalk {
+    cc: bool,
+    walk: Walk,
+}
+
+// One pool more.
+fn walk_next(s: LotWalk, d: Detail) -> LotWalk
+    ensures { λ r. ⌜ r ≡ walkNext s d ⌝ }
+{
+    let cc = s.cc;
+    let m = terminator::mark_of(d);
+    let walk = walk_on(s.walk, m, cc);
+    LotWalk { cc, walk }
+}
+
+// Every pool of a message, by the detail reader.
+fn walk_pools(body: &[u8], s: LotWalk) -> LotWalk
+    ensures { λ r. ⌜ r ≡ fold walkNext s (details (now (body .entry))) ⌝ }
+{
+    let n = layout::pool_count(body);
+    let mut d = reader::new(body);
+    let mut s = s;
+    let mut i: usize = 0;
+    while i < n {
+        let step = reader::next(d);
+        s = walk_next(s, step.detail);
+        d = reader::moved(d, step.next);
+        i += 1;
+    }
+    s
+}
+
 // Check 19: whether the pools of an ON, or of a CC, make whole lots.
 pub fn lots_formed(body: &[u8], cc: bool) -> bool
     ensures { λ r. ⌜ r ≡ formedFor cc (details (now (body .entry))) ⌝ }
 {
-    let n = layout::pool_count(body);
-    let mut w = Walk {
+    let start = Walk {
         formed: true,
         begun: false,
         one: terminator::NEW,
         bad: false,
     };
-    let mut i: usize = 0;
-    while i < n {
-        let m = mark_at(body, i);
-        w = walk_on(w, m, cc);
-        i += 1;
-    }
+    let s = walk_pools(body, LotWalk { cc, walk: start });
+    let w = s.walk;
     w.formed & !w.begun
 }
 

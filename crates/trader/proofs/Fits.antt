@@ -1,8 +1,8 @@
 -- Numbers 38 and 40: what a trade's open par holds, and what a table holds.
-use Prim.Native.Nat.{ℕ, _+_, _-_, _≤_, _<_}
+use Prim.Native.Nat.{ℕ, zero, suc, _+_, _-_, _≤_, _<_}
 use native.Mathlib.Omega.{arith}
-use mathlib.Core.Path.{_≡_, sym}
-use mathlib.Core.List.{List}
+use mathlib.Core.Path.{_≡_, refl, sym}
+use mathlib.Core.List.{List, [], _∷_}
 use mathlib.Core.Bool.{Bool, true, false, cond, _&&_}
 use lib.ListN.{length, take, getD, length-take}
 use lib.Dec.{leb, ltb}
@@ -15,24 +15,52 @@ use Rattle.lists.proofs.Tables.{length-tab}
 use Rattle.layout.specs.declared.Detail.{Detail}
 use Rattle.layout.specs.Details.{poolsMax, details, poolCount, detailAt, placeOf}
 use Rattle.layout.proofs.Lengths.{count-max}
+use Rattle.layout.proofs.Passes.{poolOf}
+use Rattle.reader.proofs.Turns.{after}
 use Rattle.terminator.specs.Terminators.{one, isCanceled, digitCanceled}
 use Rattle.faces.specs.Faces.{isNew, newPools}
 use Rattle.book.specs.declared.Trade.{Trade}
 use Rattle.book.specs.Checks.{noTrade, tradeAt}
 use Rattle.book.proofs.ListLaws.{length-keep}
+use Rattle.trader.specs.declared.NewCount.{NewCount}
+use Rattle.trader.specs.Counting.{countPool}
 
 -- ---- new pools are counted one after another
-abbrev pub addNew : ℕ → Detail → ℕ
+pub count-more : (s : NewCount) (d : Detail) → (one d ≡ digitCanceled → ⊥) → _≡_ {A = NewCount} (record { pools = s .pools + 1 }) (countPool s d)
+unfolding countPool
+count-more s d h = rw (ne-eqb (one d) digitCanceled h)
+
+pub count-same : (s : NewCount) (d : Detail) → one d ≡ digitCanceled → s ≡ countPool s d
+unfolding countPool
+count-same s d e = rw (eq-eqb (one d) digitCanceled e)
+
+abbrev addNew : ℕ → Detail → ℕ
 addNew n d = cond (isNew d) (n + 1) n
 
-pub new-more : (n : ℕ) (d : Detail) → (one d ≡ digitCanceled → ⊥) → n + 1 ≡ addNew n d
-new-more n d h = rw (ne-eqb (one d) digitCanceled h)
+count-fold : (n : ℕ) (ds : List Detail) → fold countPool (record { pools = n }) ds .pools ≡ fold addNew n ds
+unfolding countPool
+count-fold n [] = refl
+count-fold n (d ∷ ds) = count-fold (addNew n d) ds
 
-pub new-same : (n : ℕ) (d : Detail) → one d ≡ digitCanceled → n ≡ addNew n d
-new-same n d e = rw (eq-eqb (one d) digitCanceled e)
+pub count-pass : (ds : List Detail) → fold countPool (record { pools = 0 }) ds .pools ≡ length (newPools ds)
+count-pass ds = omega (arith, count-fold 0 ds, fold-count isNew 0 ds)
 
-pub new-pass : (ds : List Detail) → fold addNew 0 ds ≡ length (newPools ds)
-new-pass ds = omega (arith, fold-count isNew 0 ds)
+count-next : (s : NewCount) (d : Detail) → countPool s d .pools ≤ s .pools + 1
+unfolding countPool
+count-next s d = go (isNew d)
+  where
+    go : (b : Bool) → cond b (s .pools + 1) (s .pools) ≤ s .pools + 1
+    go true = omega arith
+    go false = omega arith
+
+-- after i turns at most i pools are counted
+module _ (s : NewCount) (h : s .pools ≡ 0) (body : List ℕ) where
+  count-most : (i : ℕ) → after countPool body s i .pools ≤ i
+  count-most zero = omega (arith, h)
+  count-most (suc i) = omega (arith, count-most i, count-next (after countPool body s i) (poolOf body i))
+
+  pub count-fits : (i : ℕ) → i < poolCount body → after countPool body s i .pools ≤ poolsMax
+  count-fits i l = omega (arith, l, count-max body, count-most i)
 
 -- ---- 40
 pub pools-few : (body : List ℕ) (n : ℕ) → n ≡ poolCount body → n ≤ poolsMax

@@ -4,6 +4,7 @@ use book::Reason;
 use book::Trade;
 use book::Values;
 use book::Verdict;
+use layout::Detail;
 use listed::Listed;
 use places::Run;
 use tally::MessageType;
@@ -14,7 +15,8 @@ ghost use lib.ListN.{length, take, drop};
 ghost use lib.Dec.{leb, ltb};
 ghost use Rattle.lists.specs.Lists.{any, keep};
 ghost use Rattle.terminator.specs.Terminators.{isCanceled};
-ghost use Rattle.layout.specs.Details.{details};
+ghost use Rattle.lists.proofs.Folds.{fold};
+ghost use Rattle.layout.specs.Details.{details, poolsMax};
 ghost use Rattle.faces.specs.Faces.{newPools};
 ghost use Rattle.book.specs.Messages.{typeOf, targetOf, under, listedOf};
 ghost use Rattle.book.specs.Trades.{tradesOf, tradeOfOn, openPars};
@@ -27,6 +29,7 @@ ghost use Rattle.book.specs.declared.Book.{Book};
 ghost use mathlib.Core.List.{List};
 ghost use Rattle.table.specs.Rows.{tableOf, numberAt};
 ghost use Rattle.listed.specs.Listing.{Findable};
+ghost use Rattle.trader.specs.Counting.{countPool};
 ghost use Rattle.trader.specs.Decisions.{traderChecks, callOn, Ready, DecidedBy, Takes};
 
 // What the trader's checks decide, and what an accepted message moves: its trade, the weight that it takes off, the weight that it brings,
@@ -111,22 +114,48 @@ fn first_of_terms(v: Values, body: &[u8], there: bool, target: usize) -> Verdict
     Verdict::Passes
 }
 
+// How many of the pools passed are new.
+struct NewCount {
+    pools: usize,
+}
+
+// One pool more.
+fn count_pool(s: NewCount, d: Detail) -> NewCount
+    requires { ⌜ s .pools ≤ poolsMax ⌝ }
+    ensures { λ r. ⌜ r ≡ countPool s d ⌝ }
+{
+    let pools = s.pools;
+    let code = d.terminator;
+    if code[0] != terminator::CANCELED {
+        return NewCount { pools: pools + 1 };
+    }
+    s
+}
+
+// Every pool of a message, by the detail reader.
+fn count_pools(body: &[u8], s: NewCount) -> NewCount
+    requires { ⌜ s .pools ≡ 0 ⌝ }
+    ensures { λ r. ⌜ r ≡ fold countPool s (details (now (body .entry))) ⌝ }
+{
+    let n = layout::pool_count(body);
+    let mut d = reader::new(body);
+    let mut s = s;
+    let mut i: usize = 0;
+    while i < n {
+        let step = reader::next(d);
+        s = count_pool(s, step.detail);
+        d = reader::moved(d, step.next);
+        i += 1;
+    }
+    s
+}
+
 // How many new pools a message has.
 fn new_count(body: &[u8]) -> usize
     ensures { λ r. ⌜ r ≡ length (newPools (details (now (body .entry)))) ⌝ }
 {
-    let n = layout::pool_count(body);
-    let mut count: usize = 0;
-    let mut i: usize = 0;
-    while i < n {
-        let d = layout::pool_at(body, i);
-        let code = d.terminator;
-        i += 1;
-        if code[0] != terminator::CANCELED {
-            count += 1;
-        }
-    }
-    count
+    let s = count_pools(body, NewCount { pools: 0 });
+    s.pools
 }
 
 // 40: whether the live pools less those that a CC takes off, and the new ones, fit the table.
