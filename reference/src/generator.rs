@@ -239,16 +239,17 @@ impl Sender<'_> {
         let fault = self.random.percent(35).then(|| self.random.pick(&CAUSED));
         let mut draft = self.draft(fault);
         self.sequence(&mut draft);
-        if let Some(number) = fault {
-            self.damage(&mut draft, number);
+        let faults = self.faults(fault);
+        for number in &faults {
+            self.damage(&mut draft, *number);
         }
         let mut body = draft.body();
-        if fault == Some(10) {
+        if faults.contains(&10) {
             body = self.wrong_length(body);
         } else if self.random.percent(2) {
             self.scribble(&mut body);
         }
-        let short = fault == Some(44);
+        let short = faults.contains(&44);
         Call {
             time: self.random.pick(&[*b"000000", *b"123456", *b"\x02\xff\x00=\x03 "]),
             output_length: match short {
@@ -257,6 +258,18 @@ impl Sender<'_> {
             },
             body,
         }
+    }
+
+    /// A fault, often with one that is checked soon after it, so that the order of the checks decides.
+    fn faults(&mut self, fault: Option<Number>) -> Vec<Number> {
+        let mut faults: Vec<Number> = fault.into_iter().collect();
+        if let Some(at) = CAUSED.iter().position(|number| Some(*number) == fault) {
+            let after = at + self.random.between(1, 3) as usize;
+            if after < CAUSED.len() && self.random.percent(50) {
+                faults.push(CAUSED[after]);
+            }
+        }
+        faults
     }
 
     /// A valid message of a type that the wanted fault can be put into.
