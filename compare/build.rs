@@ -3,7 +3,7 @@
 use std::path::Path;
 
 const FOLDER: &str = "../target/staticlib";
-const LIBRARIES: [&str; 4] = ["exports_line", "exports_terms", "exports_pools", "exports_output"];
+const LIBRARIES: [&str; 5] = ["exports_line", "exports_terms", "exports_pools", "exports_output", "exports_tally"];
 
 fn main() {
     let folder = Path::new(env!("CARGO_MANIFEST_DIR")).join(FOLDER);

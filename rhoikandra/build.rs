@@ -1,16 +1,20 @@
-//! Links the proved engine, which the toolchain writes as a static library (`rt staticlib exports_engine`).
+//! Links the proved engine and its tally, which the toolchain writes as static libraries.
 
 use std::path::Path;
 
-const ARCHIVE: &str = "../target/staticlib/libexports_engine.a";
+const FOLDER: &str = "../target/staticlib";
+const LIBRARIES: [&str; 2] = ["exports_engine", "exports_tally"];
 
 fn main() {
-    let archive = Path::new(env!("CARGO_MANIFEST_DIR")).join(ARCHIVE);
-    println!("cargo:rerun-if-changed={}", archive.display());
-    if !archive.is_file() {
-        eprintln!("{} is not there: run `rt staticlib exports_engine` first", archive.display());
-        std::process::exit(1);
+    let folder = Path::new(env!("CARGO_MANIFEST_DIR")).join(FOLDER);
+    println!("cargo:rustc-link-search=native={}", folder.display());
+    for library in LIBRARIES {
+        let archive = folder.join(format!("lib{library}.a"));
+        println!("cargo:rerun-if-changed={}", archive.display());
+        if !archive.is_file() {
+            eprintln!("{} is not there: run `rt staticlib {library}` first", archive.display());
+            std::process::exit(1);
+        }
+        println!("cargo:rustc-link-lib=static={library}");
     }
-    println!("cargo:rustc-link-search=native={}", archive.parent().unwrap().display());
-    println!("cargo:rustc-link-lib=static=exports_engine");
 }

@@ -1,4 +1,5 @@
-/* The proved allocation book for C programs. Link target/staticlib/libexports_engine.a, which `rt staticlib exports_engine` writes. */
+/* The proved allocation book for C programs. Link target/staticlib/libexports_engine.a, which
+   `rt staticlib exports_engine` writes, and for the tally libexports_tally.a beside it. */
 #ifndef RHOIKANDRA_H
 #define RHOIKANDRA_H
 
@@ -50,5 +51,14 @@ void rhoikandra_step(uint64_t *book, size_t book_len, rhoikandra_numbers *number
 /* The figures of a trade, counted from 0: out gets 1, its open par in cents and its standing good millions, or three zeros. */
 void rhoikandra_figures(const uint64_t *book, size_t book_len, const rhoikandra_numbers *numbers, size_t numbers_len,
                         const rhoikandra_key *keys, size_t keys_len, size_t trade, uint64_t *out, size_t out_len);
+
+/* A tally: a row for each of ON, CC, DK and CX, with the answers accepted, rejected and DKed. */
+#define RHOIKANDRA_TALLY_ROWS 4
+typedef uint32_t rhoikandra_tally_row[3];
+
+/* Counts the answer to a frame's body, from the two numbers that rhoikandra_step wrote. A full cell stays full; other types and the
+   refusals 10, 11 and 41 to 44 are not counted. A tally that is not four rows, or numbers that no answer says: everything stays. */
+void rhoikandra_tally(rhoikandra_tally_row *tally, size_t tally_len, const uint8_t *body, size_t body_len, const uint64_t *said,
+                      size_t said_len);
 
 #endif

@@ -41,14 +41,16 @@ pub fn opening(values: &OpeningValues) -> Opening {
     }
 }
 
-/// The place of a trade's open par among the words, and the words of a trade.
+/// The places of a trade's CUSIP and open par among its words, the words of a trade, and the trades that there is room for.
+const CUSIP: usize = 29;
 const LEFT: usize = 41;
 const TRADE_WORDS: usize = 42;
+const TRADES_MAX: usize = 64;
 
 /// The words of a book: those of its values, with open pars, line and live pools.
 pub fn words(book: &Book) -> Vec<u64> {
     let mut words = opening(&book.values).words();
-    for (trade, &left) in book.open_par_cents.iter().enumerate().take(64) {
+    for (trade, &left) in book.open_par_cents.iter().enumerate().take(TRADES_MAX) {
         words[trade * TRADE_WORDS + LEFT] = left;
     }
     let line = words.len() - 4;
@@ -59,6 +61,24 @@ pub fn words(book: &Book) -> Vec<u64> {
         book.live_count as u64,
     ]);
     words
+}
+
+/// The words of a book whose places past its trades hold what they hold in other words: nothing reads or writes them.
+pub fn words_over(book: &Book, others: &[u64]) -> Vec<u64> {
+    let mut words = words(book);
+    let past = book.values.trades.len() * TRADE_WORDS..TRADES_MAX * TRADE_WORDS;
+    words[past.clone()].copy_from_slice(&others[past]);
+    words
+}
+
+/// Fills the places past a book's trades with its first trade under a CUSIP that no trade of a random day has.
+pub fn fill_past_trades(words: &mut [u64], trades: usize) {
+    for place in trades..TRADES_MAX {
+        words.copy_within(..TRADE_WORDS, place * TRADE_WORDS);
+        for (at, byte) in b"NONE00000".iter().enumerate() {
+            words[place * TRADE_WORDS + CUSIP + at] = u64::from(*byte);
+        }
+    }
 }
 
 pub fn row(record: &PoolRecord) -> ([u64; 6], [u8; 22]) {

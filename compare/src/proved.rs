@@ -69,6 +69,14 @@ mod exported {
         );
 
         pub fn rhoikandra_tally_raise(rows: *mut [u32; 3], len: usize, kind: u64, outcome: u64);
+        pub fn rhoikandra_tally(
+            rows: *mut [u32; 3],
+            len: usize,
+            body: *const u8,
+            body_len: usize,
+            said: *const u64,
+            said_len: usize,
+        );
         pub fn rhoikandra_put_aa(
             out: *mut u8,
             out_len: usize,
@@ -273,6 +281,13 @@ pub fn outbound(last: u32) -> (u32, bool) {
 /// Raises a cell among four rows; a slice of another length stays.
 pub fn tally_raise(rows: &mut [[u32; 3]], kind: u64, outcome: u64) {
     unsafe { rhoikandra_tally_raise(rows.as_mut_ptr(), rows.len(), kind, outcome) }
+}
+
+/// The tally after a frame call, by the numbers that its answer says.
+pub fn tally(rows: &mut [[u32; 3]], body: &[u8], said: &[u64]) {
+    unsafe {
+        rhoikandra_tally(rows.as_mut_ptr(), rows.len(), body.as_ptr(), body.len(), said.as_ptr(), said.len())
+    }
 }
 
 pub fn trade_id(special: &[u8]) -> TradeId {

@@ -19,6 +19,7 @@ fn three_messages_and_their_figures() {
             "CC accepted under 2; open par 100000000, standing millions 2",
             "DK accepted under 3; open par 200000000, standing millions 1",
             "DK rejected with 30: no live pool under the target; open par 200000000, standing millions 1",
+            "3 accepted, 1 rejected, 0 DKed",
         ]
     );
 }
@@ -33,6 +34,7 @@ fn three_messages_from_c() {
         .arg(&program)
         .arg(top.join("rhoikandra/examples/three_messages.c"))
         .arg(top.join("target/staticlib/libexports_engine.a"))
+        .arg(top.join("target/staticlib/libexports_tally.a"))
         .status();
     assert!(built.expect("cargo links by cc too").success());
     let printed = String::from_utf8(Command::new(program).output().unwrap().stdout).unwrap();

@@ -17,7 +17,7 @@ pub struct Lent {
 /// A clause of 41 and a way to break it in an opening with at least two trades and a holiday.
 pub type OpeningDamage = (&'static str, fn(&mut Lent));
 
-pub const OPENING_DAMAGES: [OpeningDamage; 45] = [
+pub const OPENING_DAMAGES: [OpeningDamage; 47] = [
     ("more than 64 trades", |lent| {
         let trade = lent.values.trades[0].clone();
         for number in lent.values.trades.len()..=TRADES_MAX {
@@ -32,6 +32,8 @@ pub const OPENING_DAMAGES: [OpeningDamage; 45] = [
     ("ID with a blank", |lent| lent.values.trades[1].id = b"A B".to_vec()),
     ("ID with code 127", |lent| lent.values.trades[1].id = b"A\x7f".to_vec()),
     ("ID with an equals sign", |lent| lent.values.trades[1].id = b"A=B".to_vec()),
+    ("ID that begins with an equals sign", |lent| lent.values.trades[1].id = b"=AB".to_vec()),
+    ("ID that ends with an equals sign", |lent| lent.values.trades[1].id = b"AB=".to_vec()),
     ("equal IDs", |lent| lent.values.trades[1].id = lent.values.trades[0].id.clone()),
     ("seller equal to buyer", |lent| lent.values.trades[1].buyer = lent.values.trades[1].seller),
     ("seller with a blank", |lent| lent.values.trades[1].seller = *b"MBA "),
@@ -229,7 +231,8 @@ pub fn scribble(random: &mut Random, book: &mut Book, table: &mut [PoolRecord]) 
     let place = random.below(book.live(table).len() as u64 + 2) as usize;
     let trade = random.below(book.values.trades.len() as u64) as usize;
     let byte = value as u8;
-    match (random.below(18), table.get_mut(place)) {
+    let column = random.below(9) as usize;
+    match (random.below(19), table.get_mut(place)) {
         (0, _) => book.values.last_message_id = value,
         (1, _) => book.values.last_outbound = value as u32,
         (2, _) => book.inbound.expected = value as u32,
@@ -243,11 +246,12 @@ pub fn scribble(random: &mut Random, book: &mut Book, table: &mut [PoolRecord]) 
         (10, Some(pool)) => pool.message_id = value,
         (11, Some(pool)) => pool.ordinal = value,
         (12, Some(pool)) => pool.trade = value as usize,
-        (13, Some(pool)) => pool.matched.lot_id[0] = byte,
+        (13, Some(pool)) => pool.matched.lot_id[column % 6] = byte,
         (14, Some(pool)) => pool.current_face_cents = value,
         (15, Some(pool)) => pool.kind = value as u32,
         (16, Some(pool)) => pool.lot_millions = value,
-        (_, Some(pool)) => pool.matched.pool_number[6] = byte,
+        (17, Some(pool)) => pool.matched.original_face[column] = byte,
+        (_, Some(pool)) => pool.matched.pool_number[column % 7] = byte,
         (_, None) => book.values.limits.gdmm_ceiling = value,
     }
 }

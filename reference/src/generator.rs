@@ -5,7 +5,7 @@ use crate::answer::Number;
 use crate::book::{kind_code, live_lots, Book, PoolRecord};
 use crate::calendar::{business_date, days_of_month, FIRST_YEAR, LAST_YEAR};
 use crate::columns::*;
-use crate::digits::digits;
+use crate::digits::{digits, number};
 use crate::draft::{Draft, DraftLot, DraftPool};
 use crate::frame::{END_OF_FRAME, START_OF_FRAME};
 use crate::frame_call::frame_call;
@@ -239,16 +239,17 @@ impl Sender<'_> {
         let fault = self.random.percent(35).then(|| self.random.pick(&CAUSED));
         let mut draft = self.draft(fault);
         self.sequence(&mut draft);
-        if let Some(number) = fault {
-            self.damage(&mut draft, number);
+        let faults = self.faults(fault);
+        for number in &faults {
+            self.damage(&mut draft, *number);
         }
         let mut body = draft.body();
-        if fault == Some(10) {
+        if faults.contains(&10) {
             body = self.wrong_length(body);
         } else if self.random.percent(2) {
             self.scribble(&mut body);
         }
-        let short = fault == Some(44);
+        let short = faults.contains(&44);
         Call {
             time: self.random.pick(&[*b"000000", *b"123456", *b"\x02\xff\x00=\x03 "]),
             output_length: match short {
@@ -257,6 +258,18 @@ impl Sender<'_> {
             },
             body,
         }
+    }
+
+    /// A fault, often with one that is checked soon after it, so that the order of the checks decides.
+    fn faults(&mut self, fault: Option<Number>) -> Vec<Number> {
+        let mut faults: Vec<Number> = fault.into_iter().collect();
+        if let Some(at) = CAUSED.iter().position(|number| Some(*number) == fault) {
+            let after = at + self.random.between(1, 3) as usize;
+            if after < CAUSED.len() && self.random.percent(50) {
+                faults.push(CAUSED[after]);
+            }
+        }
+        faults
     }
 
     /// A valid message of a type that the wanted fault can be put into.
@@ -681,6 +694,15 @@ impl Sender<'_> {
                 ),
                 _ => draft.put_detail(any, CURRENT_FACE, b"           "),
             },
+            35 if random.percent(30) => {
+                crowd_the_last_lot(draft, self.book.values.limits.pools_a_million);
+            }
+            // A lot is often at the edge of the variance: then a cent more or less is too much.
+            35 if random.percent(50) => {
+                let cents = number_at(&draft.details[last], CURRENT_FACE);
+                let other = if random.percent(50) { cents + 1 } else { cents.saturating_sub(1) };
+                draft.put_detail(last, CURRENT_FACE, &digits::<11>(other.min(CENTS_MAX)));
+            }
             35 => {
                 let face = random.pick(&[*b"00000000001", *b"00000000000", *b"99999999999"]);
                 draft.put_detail(last, CURRENT_FACE, &face);
@@ -691,7 +713,8 @@ impl Sender<'_> {
                 let copied = draft.details[from];
                 draft.details[last][..first_fields].copy_from_slice(&copied[..first_fields]);
             }
-            37 => match random.below(5) {
+            37 => match random.below(6) {
+                5 => shift_a_million(draft),
                 0 if draft.details.len() > 1 => {
                     draft.details.remove(any);
                 }
@@ -707,6 +730,56 @@ impl Sender<'_> {
                 }
             }
             _ => {}
+        }
+    }
+}
+
+/// The number in a detail's column, which the generator wrote.
+fn number_at(detail: &[u8; DETAIL_WIDTH], column: Column) -> u64 {
+    number(&detail[column.first..column.first + column.width]).unwrap_or(0)
+}
+
+/// Pools of no face in a message's last lot, if it is good, until it has one too many.
+fn crowd_the_last_lot(draft: &mut Draft, pools_a_million: u64) {
+    let last = draft.details[draft.details.len() - 1];
+    let millions = number_at(&last, TERMINATOR) % 1_000;
+    let ends = |detail: &[u8; DETAIL_WIDTH]| number_at(detail, TERMINATOR) % 1_000 != 0;
+    let before =
+        draft.details.iter().rev().skip(1).take_while(|detail| !ends(detail)).count() as u64;
+    let most = pools_a_million * millions;
+    if !(1..=99).contains(&millions)
+        || before > most
+        || draft.details.len() as u64 + most - before > POOLS_MAX as u64
+    {
+        return;
+    }
+    for number in before..most {
+        let place = draft.details.len() - 1;
+        draft.details.insert(place, last);
+        draft.put_detail(place, TERMINATOR, &[last[TERMINATOR.first], b'0', b'0', b'0']);
+        draft.put_detail(place, POOL_NUMBER, &digits::<7>(number));
+        draft.put_detail(place, CURRENT_FACE, &digits::<11>(0));
+    }
+    if draft.header.starts_with(b"CC") {
+        let new = draft.details.iter().filter(|detail| detail[TERMINATOR.first] == b'7').count();
+        draft.put_number(NUMBER_OF_POOLS, new as u64);
+    }
+}
+
+/// Two canceled good lots side by side: a million more in one and a million less in the other keeps their sum.
+fn shift_a_million(draft: &mut Draft) {
+    let canceled = |detail: &[u8; DETAIL_WIDTH]| detail[TERMINATOR.first] == b'6';
+    let ends: Vec<(usize, u64)> = (0..draft.details.len())
+        .map(|at| (at, number_at(&draft.details[at], TERMINATOR)))
+        .filter(|(_, code)| (6_001..=6_099).contains(code))
+        .collect();
+    for pair in ends.windows(2) {
+        let [(first, more), (second, less)] = [pair[0], pair[1]];
+        let together = draft.details[first..=second].iter().all(canceled);
+        if together && more < 6_099 && less > 6_001 {
+            draft.put_detail(first, TERMINATOR, &digits::<4>(more + 1));
+            draft.put_detail(second, TERMINATOR, &digits::<4>(less - 1));
+            return;
         }
     }
 }

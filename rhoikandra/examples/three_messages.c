@@ -1,4 +1,4 @@
-/* Opens a book, sends an ON, a CC and a DK, and prints the figures after each. */
+/* Opens a book, sends an ON, a CC and a DK, and prints the figures after each, and how the answers were at the end. */
 #include <stdio.h>
 #include <stdlib.h>
 #include <string.h>
@@ -17,6 +17,7 @@ struct pool {
 static uint64_t book[RHOIKANDRA_BOOK_WORDS];
 static rhoikandra_numbers numbers[RECORDS];
 static rhoikandra_key keys[RECORDS];
+static rhoikandra_tally_row tally[RHOIKANDRA_TALLY_ROWS];
 
 /* A byte takes a word. */
 static void put(size_t at, const char *text) {
@@ -61,6 +62,7 @@ static void send(const char *kind, int sequence, int millions, int target, const
     size_t length = lay_body(body, kind, sequence, millions, target, pools, count);
     rhoikandra_step(book, RHOIKANDRA_BOOK_WORDS, numbers, RECORDS, keys, RECORDS, body, length, (const uint8_t *)"093000", 6, out,
                     sizeof out, said, 2);
+    rhoikandra_tally(tally, RHOIKANDRA_TALLY_ROWS, body, length, said, 2);
     rhoikandra_figures(book, RHOIKANDRA_BOOK_WORDS, (const rhoikandra_numbers *)numbers, RECORDS, (const rhoikandra_key *)keys,
                        RECORDS, 0, figures, 3);
     printf("%s %s %llu; open par %llu, standing millions %llu\n", kind,
@@ -89,5 +91,11 @@ int main(void) {
     send("CC", 2, 0, 1, (const struct pool[]){{"AA00002", "6001"}, {"AA00003", "7001"}}, 2);
     send("DK", 3, 0, 2, (const struct pool[]){{"AA00003", "0001"}}, 1);
     send("DK", 4, 0, 2, (const struct pool[]){{"AA00003", "0001"}}, 1);
+
+    unsigned sums[3] = {0, 0, 0};
+    for (int row = 0; row < RHOIKANDRA_TALLY_ROWS; row++)
+        for (int column = 0; column < 3; column++)
+            sums[column] += tally[row][column];
+    printf("%u accepted, %u rejected, %u DKed\n", sums[0], sums[1], sums[2]);
     return EXIT_SUCCESS;
 }

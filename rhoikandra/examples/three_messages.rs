@@ -1,6 +1,6 @@
-//! Opens a book, sends an ON, a CC and a DK, and prints the figures after each.
+//! Opens a book, sends an ON, a CC and a DK, and prints the figures after each, and how the answers were at the end.
 
-use rhoikandra::{numbers, Answer, Book, Limits, Opening, Trade, OUTPUT_LENGTH};
+use rhoikandra::{numbers, Answer, Book, Limits, Opening, Tally, Trade, OUTPUT_LENGTH};
 
 /// A pool of a message: number, original face in dollars, current face in cents, terminator.
 pub type Pool<'a> = (&'a str, u64, u64, &'a str);
@@ -61,10 +61,12 @@ pub fn lines() -> Vec<String> {
         body("DK", 3, 0, 2, &[("AA00003", 1_000_000, 100_000_000, "0001")]),
         body("DK", 4, 0, 2, &[("AA00003", 1_000_000, 100_000_000, "0001")]),
     ];
+    let mut tally = Tally::default();
     let mut lines = Vec::new();
     for message in messages {
         let mut output = [0; OUTPUT_LENGTH];
         let answer = book.step(&message, b"093000", &mut output);
+        tally.count(&message, answer);
         let figures = book.figures(0).expect("the book is sound");
         lines.push(format!(
             "{} {}; open par {}, standing millions {}",
@@ -74,6 +76,8 @@ pub fn lines() -> Vec<String> {
             figures.standing_millions,
         ));
     }
+    let [accepted, rejected, dked] = [0, 1, 2].map(|column| tally.rows.iter().map(|row| row[column]).sum::<u32>());
+    lines.push(format!("{accepted} accepted, {rejected} rejected, {dked} DKed"));
     lines
 }
 

@@ -38,4 +38,13 @@ extern "C" {
         out: *mut u64,
         out_len: usize,
     );
+
+    pub fn rhoikandra_tally(
+        rows: *mut [u32; 3],
+        rows_len: usize,
+        body: *const u8,
+        body_len: usize,
+        said: *const u64,
+        said_len: usize,
+    );
 }

@@ -27,6 +27,50 @@ pub enum Answer {
     Dked(Number),
 }
 
+impl Answer {
+    /// From the two numbers that the engine writes.
+    fn from_said(said: [u64; 2]) -> Answer {
+        match said {
+            [0, id] => Answer::Accepted(id),
+            [1, number] => Answer::Rejected(number as Number),
+            [_, number] => Answer::Dked(number as Number),
+        }
+    }
+
+    /// The two numbers that the engine writes.
+    fn said(self) -> [u64; 2] {
+        match self {
+            Answer::Accepted(id) => [0, id],
+            Answer::Rejected(number) => [1, u64::from(number)],
+            Answer::Dked(number) => [2, u64::from(number)],
+        }
+    }
+}
+
+/// The answers of a day, counted: a row for ON, CC, DK and CX, each with accepted, rejected and DKed. A full cell stays full.
+#[derive(Clone, Copy, Debug, Default, PartialEq, Eq)]
+pub struct Tally {
+    pub rows: [[u32; 3]; 4],
+}
+
+impl Tally {
+    /// Counts the answer that a frame's body got. Other types are not in the tally, and neither are refusals that moved nothing.
+    pub fn count(&mut self, body: &[u8], answer: Answer) {
+        let rows = &mut self.rows;
+        let said = answer.said();
+        unsafe {
+            exported::rhoikandra_tally(
+                rows.as_mut_ptr(),
+                rows.len(),
+                body.as_ptr(),
+                body.len(),
+                said.as_ptr(),
+                said.len(),
+            )
+        };
+    }
+}
+
 /// What a book says of a trade.
 #[derive(Clone, Copy, Debug, PartialEq, Eq)]
 pub struct Figures {
@@ -90,11 +134,7 @@ impl Book {
                 said.len(),
             )
         };
-        match said {
-            [0, id] => Answer::Accepted(id),
-            [1, number] => Answer::Rejected(number as Number),
-            [_, number] => Answer::Dked(number as Number),
-        }
+        Answer::from_said(said)
     }
 
     /// The figures of a trade, counted from 0 in opening order; none where there is no such trade or the book is damaged.

@@ -1,7 +1,7 @@
 -- A frame call is made where it can be, and refused where it cannot.
 use Prim.Native.Nat.{ℕ}
 use mathlib.Core.Path.{_≡_, refl, sym, ap, _∙_}
-use mathlib.Core.List.{List, [], _∷_}
+use mathlib.Core.List.{List}
 use mathlib.Core.Bool.{Bool, true, false, not, true≢false, _&&_}
 use lib.ListN.{length}
 use lib.Dec.{eqb}
@@ -10,26 +10,31 @@ use Rattle.lists.proofs.Tests.{and-left, and-right}
 use Rattle.lists.specs.Lists.{pasted}
 use Rattle.book.specs.declared.Book.{Book}
 use Rattle.book.specs.declared.Answer.{Answer}
-use Rattle.book.specs.declared.Answer.the-variants.{Rejected, Accepted, Dked}
-use Rattle.book.specs.declared.Reason.{Reason}
+use Rattle.book.specs.declared.Answer.the-variants.{Accepted, Rejected, Dked}
 use Rattle.book.specs.declared.Reason.the-variants.{Unsound}
-use Rattle.book.specs.Reasons.{numberOf}
+use Rattle.book.specs.Reasons.{isAccepted}
+use Rattle.book.specs.Checks.{Call, answerOf}
+use Rattle.book.specs.Step.{isSilent, bookAfter}
+use Rattle.trader.specs.Decisions.{callOn}
+use Rattle.lists.proofs.Pasting.{paste-whole}
+use Rattle.image.proofs.Kept.{image-again}
+use Rattle.answer_numbers.specs.Said.{saidOf}
 use Rattle.image.specs.Images.{isImage, bookIn, imageOf}
 use Rattle.engine.specs.declared.Stepped.{Stepped}
 use Rattle.engine.specs.Frames.{Frames}
-use Rattle.exports_engine.specs.Calls.{timeWidth, saidOf, callable, StepsTo, Calls}
+use Rattle.exports_engine.specs.Calls.{timeWidth, callable, StepsTo, Calls}
 
 pub answer-written : (said after two : List ℕ) (a : Answer) → after ≡ pasted said 0 two → two ≡ saidOf a → after ≡ pasted said 0 (saidOf a)
 answer-written said after two a e n = e ∙ ap (pasted said 0) n
 
-pub said-accepted : (a : Answer) (id : ℕ) → a ≡ Accepted id → 0 ∷ id ∷ [] ≡ saidOf a
-said-accepted a id e = rw e
+silent-refuses : (a : Answer) → isSilent a ≡ true → isAccepted a ≡ false
+silent-refuses (Accepted id) e = absurd (true≢false (sym e))
+silent-refuses (Rejected r) e = refl
+silent-refuses (Dked r) e = refl
 
-pub said-rejected : (a : Answer) (r : Reason) (n : ℕ) → a ≡ Rejected r → n ≡ numberOf r → 1 ∷ n ∷ [] ≡ saidOf a
-said-rejected a r n e h = rw (e, h)
-
-pub said-dked : (a : Answer) (r : Reason) (n : ℕ) → a ≡ Dked r → n ≡ numberOf r → 2 ∷ n ∷ [] ≡ saidOf a
-said-dked a r n e h = rw (e, h)
+silent-book : (c : Call) → isSilent (answerOf c) ≡ true → bookAfter c ≡ c .book
+unfolding bookAfter
+silent-book c e = rw (e, silent-refuses (answerOf c) e)
 
 module _ (ws : List ℕ) (ns ks : List (List ℕ)) (body time out said ws′ : List ℕ) (ns′ ks′ : List (List ℕ)) (out′ said′ : List ℕ) where
   pub stepped : (b : Book) (r : Stepped) → length ks ≡ length ns → Frames b ns ks body time out r ns′ ks′ out′
@@ -39,6 +44,20 @@ module _ (ws : List ℕ) (ns ks : List (List ℕ)) (body time out said ws′ : L
       let s = f .steps l in
       record {
         image = ei ∙ ap (λ (k : Book). pasted ws 0 (imageOf k)) (s .book);
+        table = s .table;
+        output = s .output;
+        answer = es ∙ ap (λ (a : Answer). pasted said 0 (saidOf a)) (s .answer);
+      }
+
+  -- a silent refusal moves nothing, so the words stay as they are
+  pub silently : (b : Book) (r : Stepped) (silent : Bool) → length ks ≡ length ns → imageOf b ≡ ws → Frames b ns ks body time out r ns′ ks′ out′
+      → silent ≡ isSilent (r .answer) → silent ≡ true → said′ ≡ pasted said 0 (saidOf (r .answer))
+      → StepsTo b ws ns ks body time out said ws ns′ ks′ out′ said′
+  silently b r silent l ew f e t es =
+      let s = f .steps l in
+      let kept : bookAfter (callOn b ns ks body (length out)) ≡ b = silent-book (callOn b ns ks body (length out)) (sym (ap isSilent (s .answer)) ∙ sym e ∙ t) in
+      record {
+        image = sym (paste-whole ws ws refl) ∙ ap (pasted ws 0) (sym ew ∙ ap imageOf (sym kept));
         table = s .table;
         output = s .output;
         answer = es ∙ ap (λ (a : Answer). pasted said 0 (saidOf a)) (s .answer);
@@ -60,6 +79,9 @@ module _ (ws : List ℕ) (ns ks : List (List ℕ)) (time : List ℕ) (known : Bo
 
   test-known : not test ≡ false → known ≡ true
   test-known n = and-left known (eqb (length ks) (length ns) && eqb (length time) timeWidth) (not-false test n)
+
+  pub test-image : (b : Book) → (known ≡ true → b ≡ bookIn ws) → not test ≡ false → imageOf b ≡ ws
+  test-image b eb n = ap imageOf (eb (test-known n)) ∙ image-again ws (sym known-is ∙ test-known n)
 
   pub refused : (body out said said′ : List ℕ) → not test ≡ true → said′ ≡ pasted said 0 (saidOf (Rejected Unsound))
       → Calls ws ns ks body time out said ws ns ks out said′

@@ -1,30 +1,23 @@
 -- The frame call on words (01, "The book", "What goes out"): the words, the table, the output and the two numbers of the answer after it.
 use Prim.Native.Nat.{ℕ}
 use mathlib.Core.Path.{_≡_}
-use mathlib.Core.List.{List, [], _∷_}
+use mathlib.Core.List.{List}
 use mathlib.Core.Bool.{Bool, true, false, _&&_}
 use lib.ListN.{length}
 use lib.Dec.{eqb}
 use Rattle.lists.specs.Lists.{pasted}
 use Rattle.book.specs.declared.Book.{Book}
-use Rattle.book.specs.declared.Answer.{Answer}
-use Rattle.book.specs.declared.Answer.the-variants.{Accepted, Rejected, Dked}
+use Rattle.book.specs.declared.Answer.the-variants.{Rejected}
 use Rattle.book.specs.declared.Reason.the-variants.{Unsound}
-use Rattle.book.specs.Reasons.{numberOf}
 use Rattle.book.specs.Checks.{answerOf}
 use Rattle.book.specs.Step.{bookAfter, tableAfter, outputAfter}
 use Rattle.table.specs.Rows.{tableOf}
 use Rattle.trader.specs.Decisions.{callOn}
+use Rattle.answer_numbers.specs.Said.{saidOf}
 use Rattle.image.specs.Images.{isImage, bookIn, imageOf}
 
 abbrev pub timeWidth : ℕ
 timeWidth = 6
-
--- an answer in two numbers: accepted and the message ID, or rejected or DKed and the paper's number
-abbrev pub saidOf : Answer → List ℕ
-saidOf (Accepted id) = 0 ∷ id ∷ []
-saidOf (Rejected r) = 1 ∷ numberOf r ∷ []
-saidOf (Dked r) = 2 ∷ numberOf r ∷ []
 
 -- words that are a book's, as many rows of bytes as of numbers, and six time bytes
 unfoldable pub callable : List ℕ → List (List ℕ) → List (List ℕ) → List ℕ → Bool

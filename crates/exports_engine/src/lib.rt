@@ -6,30 +6,22 @@ use figures::Figures;
 ghost use mathlib.Core.Path.{_≡_};
 ghost use lib.ListN.{length};
 ghost use Rattle.lists.specs.Lists.{pasted};
+ghost use Rattle.image.specs.Images.{imageOf};
+ghost use Rattle.answer_numbers.specs.Said.{saidOf};
 ghost use Rattle.exports_engine.specs.Opening.{Opening};
 ghost use Rattle.exports_engine.specs.Figures.{figuresNumbers, figuresIn};
-ghost use Rattle.exports_engine.specs.Calls.{timeWidth, saidOf, StepsTo, Calls};
+ghost use Rattle.exports_engine.specs.Calls.{timeWidth, StepsTo, Calls};
 
 const TIME_WIDTH: usize = 6;
 
 // The number of an opening that is refused.
 const REFUSED: u64 = 41;
 
-// An answer in two numbers.
-fn said_of(answer: Answer) -> [u64; 2]
-    ensures { λ r. ⌜ r ≡ saidOf answer ⌝ }
-{
-    match answer {
-        Answer::Accepted(id) => [0, id],
-        Answer::Rejected(reason) => [1, answers::number_of(reason)],
-        Answer::Dked(reason) => [2, answers::number_of(reason)],
-    }
-}
-
+// Writes an answer in two numbers.
 fn put_answer(said: &mut [u64], answer: Answer)
     ensures { λ _. ⌜ now (said .exit) ≡ pasted (now (said .entry)) 0 (saidOf answer) ⌝ }
 {
-    let two = said_of(answer);
+    let two = answer_numbers::said_of(answer);
     numbers::put_numbers(&mut *said, &two);
 }
 
@@ -40,7 +32,7 @@ fn six_of(time: &[u8]) -> [u8; 6]
     [time[0], time[1], time[2], time[3], time[4], time[5]]
 }
 
-// The frame call on a book that was read: the book after it is written back.
+// The frame call on the book that was read from the words: the book after it is written back, but not after a silent refusal, which moves nothing.
 fn step_on(
     image: &mut [u64],
     book: Book,
@@ -51,14 +43,17 @@ fn step_on(
     out: &mut [u8],
     said: &mut [u64],
 )
-    requires { ⌜ length (now keys) ≡ length (now numbers) ⌝ }
+    requires { ⌜ (length (now keys) ≡ length (now numbers)) × (imageOf book ≡ now image) ⌝ }
     ensures { λ _. ⌜ StepsTo book (now (image .entry)) (now (numbers .entry)) (now (keys .entry)) (now (body .entry)) time (now (out .entry)) (now (said .entry)) (now (image .exit)) (now (numbers .exit)) (now (keys .exit)) (now (out .exit)) (now (said .exit)) ⌝ }
 {
     let stepped = engine::step(book, &mut *numbers, &mut *keys, body, time, &mut *out);
     let answer = stepped.answer;
     let after = stepped.book;
-    image::write_book(&mut *image, after);
     put_answer(&mut *said, answer);
+    if answers::is_silent(answer) {
+        return;
+    }
+    image::write_book(&mut *image, after);
 }
 
 // The frame call on the book that words say. Words that are no book's, slices of unequal lengths and time bytes that are not six are refused with 42.

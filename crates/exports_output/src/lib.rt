@@ -1,15 +1,11 @@
-// Lends the tally and what goes out to Rust and C: each exported function writes into a lent slice.
+// Lends what goes out to Rust and C: each exported function writes into a lent slice.
 use acknowledgment::Acknowledged;
 use sequence::Inbound;
 use sequence::Outbound;
-use tally::MessageType;
-use tally::Outcome;
-use tally::Tally;
 ghost use mathlib.Core.Path.{_≡_};
 ghost use Prim.Native.Nat.{_+_, _≤_};
 ghost use lib.ListN.{length};
 ghost use Rattle.lists.specs.Lists.{part};
-ghost use Rattle.exports_output.specs.Rows.{typeOf, outcomeOf, rowsRaised};
 ghost use Rattle.exports_output.specs.Said.{aaSaid, txSaid, withAa, withTx, stamped};
 
 // What an AA is told: subscriber, connection, internal ID, time bytes and original sequence.
@@ -51,58 +47,6 @@ fn sixteen_at(s: &[u8], at: usize) -> [u8; 16]
     let mut bytes = [0u8; 16];
     output::put_part(&mut bytes, 0, s, at, 16);
     bytes
-}
-
-fn type_of(n: u64) -> MessageType
-    ensures { λ r. ⌜ r ≡ typeOf n ⌝ }
-{
-    match n {
-        0 => MessageType::On,
-        1 => MessageType::Cc,
-        2 => MessageType::Dk,
-        3 => MessageType::Cx,
-        _ => MessageType::Other,
-    }
-}
-
-fn outcome_of(n: u64) -> Outcome
-    ensures { λ r. ⌜ r ≡ outcomeOf n ⌝ }
-{
-    match n {
-        0 => Outcome::Accepted,
-        1 => Outcome::Rejected,
-        _ => Outcome::Dked,
-    }
-}
-
-fn tally_of(rows: &[[u32; 3]]) -> Tally
-    requires { ⌜ length (now rows) ≡ 4 ⌝ }
-    ensures { λ r. ⌜ r ≡ now (rows .entry) ⌝ }
-{
-    [rows[0], rows[1], rows[2], rows[3]]
-}
-
-fn put_rows(rows: &mut [[u32; 3]], t: Tally)
-    requires { ⌜ length (now rows) ≡ 4 ⌝ }
-    ensures { λ _. ⌜ now (rows .exit) ≡ t ⌝ }
-{
-    rows[0] = t[0];
-    rows[1] = t[1];
-    rows[2] = t[2];
-    rows[3] = t[3];
-}
-
-// Raises the cell of a type and an answer among four rows.
-#[no_mangle]
-pub extern "C" fn rhoikandra_tally_raise(rows: &mut [[u32; 3]], kind: u64, outcome: u64)
-    ensures { λ _. ⌜ now (rows .exit) ≡ rowsRaised (now (rows .entry)) kind outcome ⌝ }
-{
-    if rows.len() != tally::TYPES {
-        return;
-    }
-    let before = tally_of(rows);
-    let after = tally::raise(before, type_of(kind), outcome_of(outcome));
-    put_rows(&mut *rows, after);
 }
 
 // Writes an AA from at and gives the number that it is stamped with.

@@ -5,7 +5,7 @@ use mathlib.Core.Bool.{Bool, true, false, cond, not, _&&_, and-false}
 use Prim.Native.Nat.{ℕ, _+_, _-_, _≤_, _<_}
 use native.Mathlib.Omega.{arith}
 use native.Mathlib.Decide.{ℕ-discrete, decLt}
-use lib.ListN.{length, take}
+use lib.ListN.{length, take, length-take}
 use lib.Dec.{eqb}
 use borrow.Author.Tests.{eq-eqb, ne-eqb}
 use Rattle.lists.specs.Lists.{tab, any, same}
@@ -26,6 +26,15 @@ twins r s = eqb (r .message) (s .message) && sameFields (liveFields r) (liveFiel
 pub once-apart : (rs : List Pool) → fieldsOnce rs ≡ apart twins rs
 once-apart [] = refl
 once-apart (r ∷ rs) = ap (λ (b : Bool). not (any (twins r) rs) && b) (once-apart rs)
+
+-- a record alone has no twin
+pub few-once : (n : ℕ) (rs : List Pool) → n < 2 → true ≡ fieldsOnce (take n rs)
+few-once n rs h = go (take n rs) (rw length-take (omega (arith, h)))
+  where
+    go : (ss : List Pool) → length ss < 2 → true ≡ fieldsOnce ss
+    go [] l = refl
+    go (r ∷ []) l = refl
+    go (r ∷ s ∷ ss) l = absurd (omega (arith, l))
 
 same-back : (a b : List ℕ) → same a b ≡ true → same b a ≡ true
 same-back a b e = rw (same-equal a b e) (same-refl b)

@@ -57,8 +57,8 @@ fn stands(keys: &[[u8; 22]], back: &[u32], last: usize, start: usize, i: usize) 
     false
 }
 
-// Whether the live records have no matched fields twice under one message ID, where they are in order: a row is sought among those of its own message before it.
-pub fn fields_once(numbers: &[[u64; 6]], keys: &[[u8; 22]], live: usize) -> bool
+// The search for matched fields that stand twice: a row is sought among those of its own message before it.
+fn search_rows(numbers: &[[u64; 6]], keys: &[[u8; 22]], live: usize) -> bool
     requires { ⌜ (length (now keys) ≡ length (now numbers)) × (live ≤ length (now numbers)) × (length (now numbers) ≤ recordsMax) × (inOrder (take live (tableOf (now numbers) (now keys))) ≡ true) ⌝ }
     ensures { λ r. ⌜ r ≡ fieldsOnce (take live (tableOf (now (numbers .entry)) (now (keys .entry)))) ⌝ }
 {
@@ -78,6 +78,17 @@ pub fn fields_once(numbers: &[[u64; 6]], keys: &[[u8; 22]], live: usize) -> bool
         seen[b] = narrow(i);
     }
     true
+}
+
+// Whether the live records have no matched fields twice under one message ID, where they are in order. A single one cannot.
+pub fn fields_once(numbers: &[[u64; 6]], keys: &[[u8; 22]], live: usize) -> bool
+    requires { ⌜ (length (now keys) ≡ length (now numbers)) × (live ≤ length (now numbers)) × (length (now numbers) ≤ recordsMax) × (inOrder (take live (tableOf (now numbers) (now keys))) ≡ true) ⌝ }
+    ensures { λ r. ⌜ r ≡ fieldsOnce (take live (tableOf (now (numbers .entry)) (now (keys .entry)))) ⌝ }
+{
+    if live < 2 {
+        return true;
+    }
+    search_rows(numbers, keys, live)
 }
 
 fn is_new(d: Detail) -> bool

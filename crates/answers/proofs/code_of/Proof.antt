@@ -3,39 +3,28 @@ use Rattle.book.specs.Reasons.{codeOf}
 use borrow.Author.Needs.{needs}
 use Rattle.answers.proofs.code_of.Statement.{statement}
 use Rattle.answers.proofs.code_of.Tie as tie
-use Rattle.answers.proofs.code_of.Reads as reads
-use Rattle.answers.proofs.code_of.Lts as lts
-use Rattle.answers.proofs.number_of.Reads as number-of-reads
 
--- src/lib.rt:64:32
 enum-told : tie.Need-enum-told
 enum-told c = search needs
 
--- src/lib.rt:65:26
 enum-known-answer : tie.Need-enum-known-answer
 enum-known-answer c = search needs
 
--- src/lib.rt:65:37
 number-of-requires : tie.Need-number-of-requires
 number-of-requires c κs = search needs
 
--- src/lib.rt:66:22
 enum-known-answer-2 : tie.Need-enum-known-answer-2
 enum-known-answer-2 c = search needs
 
--- src/lib.rt:66:33
 number-of-requires-2 : tie.Need-number-of-requires-2
 number-of-requires-2 c κs = search needs
 
--- src/lib.rt:60:1
 returns : tie.Need-returns
 returns c = search needs
 
--- src/lib.rt:60:1
 returns-2 : tie.Need-returns-2
 returns-2 c = c .number-of .ensures ∙ sym (ap codeOf (c .before .before .answer .given .1))
 
--- src/lib.rt:60:1
 returns-3 : tie.Need-returns-3
 returns-3 c = c .number-of2 .ensures ∙ sym (ap codeOf (c .before .before .answer2 .given .1))
 

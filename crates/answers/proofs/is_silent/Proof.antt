@@ -3,39 +3,28 @@ use Rattle.book.specs.Step.{isSilent}
 use borrow.Author.Needs.{needs}
 use Rattle.answers.proofs.is_silent.Statement.{statement}
 use Rattle.answers.proofs.is_silent.Tie as tie
-use Rattle.answers.proofs.is_silent.Reads as reads
-use Rattle.answers.proofs.is_silent.Lts as lts
-use Rattle.answers.proofs.is_silent_for.Reads as is-silent-for-reads
 
--- src/lib.rt:117:32
 enum-told : tie.Need-enum-told
 enum-told c = search needs
 
--- src/lib.rt:118:26
 enum-known-answer : tie.Need-enum-known-answer
 enum-known-answer c = search needs
 
--- src/lib.rt:118:37
 is-silent-for-requires : tie.Need-is-silent-for-requires
 is-silent-for-requires c κs = search needs
 
--- src/lib.rt:119:22
 enum-known-answer-2 : tie.Need-enum-known-answer-2
 enum-known-answer-2 c = search needs
 
--- src/lib.rt:119:33
 is-silent-for-requires-2 : tie.Need-is-silent-for-requires-2
 is-silent-for-requires-2 c κs = search needs
 
--- src/lib.rt:113:1
 returns : tie.Need-returns
 returns c = search needs
 
--- src/lib.rt:113:1
 returns-2 : tie.Need-returns-2
 returns-2 c = c .is-silent-for .ensures ∙ sym (ap isSilent (c .before .before .answer .given .1))
 
--- src/lib.rt:113:1
 returns-3 : tie.Need-returns-3
 returns-3 c = c .is-silent-for2 .ensures ∙ sym (ap isSilent (c .before .before .answer2 .given .1))
 

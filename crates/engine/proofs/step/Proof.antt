@@ -4,78 +4,55 @@ use Rattle.engine.proofs.Stepping.{frame-unsound, frame-steps, sender-r
 use borrow.Author.Needs.{needs}
 use Rattle.engine.proofs.step.Statement.{statement}
 use Rattle.engine.proofs.step.Tie as tie
-use Rattle.engine.proofs.step.Reads as reads
-use Rattle.engine.proofs.step.Lts as lts
-use Rattle.engine.proofs.refuse.Reads as refuse-reads
-use Rattle.engine.proofs.step_on.Reads as step-on-reads
-use Rattle.sender.proofs.first_of_sender.Reads as first-of-sender-reads
-use Rattle.soundness.proofs.is_sound.Reads as is-sound-reads
 
--- src/lib.rt:184:9
 is-sound-requires : tie.Need-is-sound-requires
 is-sound-requires c κs = search needs
 
--- src/lib.rt:185:9
 same-length : tie.Need-same-length
 same-length c = search needs
 
--- src/lib.rt:185:9
 same-length-2 : tie.Need-same-length-2
 same-length-2 c = search needs
 
--- src/lib.rt:185:9
 returns : tie.Need-returns
 returns c = frame-unsound (c .before .before .before .before .before .before .args .book) (c .before .before .before .before .before .before .args .numbers .now) (c .before .before .before .before .before .before .args .keys .now) (c .before .before .before .before .before .before .args .body .now) (c .before .before .before .before .before .before .args .time) (c .before .before .before .before .before .before .args .out .now) _ (c .before .is-sound .ensures) (c .if1 .taken)
 
--- src/lib.rt:190:9
 first-of-sender-requires : tie.Need-first-of-sender-requires
 first-of-sender-requires c κs = search needs
 
--- src/lib.rt:192:24
 enum-known-first : tie.Need-enum-known-first
 enum-known-first c = search needs
 
--- src/lib.rt:192:35
 refuse-requires : tie.Need-refuse-requires
 refuse-requires c κs = sender-header (c .before .before .before .before .before .before .before .before .before .before .before .args .book) (c .before .before .before .before .before .before .before .before .before .before .before .args .numbers .now) (c .before .before .before .before .before .before .before .before .before .before .before .args .keys .now) (c .before .before .before .before .before .before .before .before .before .before .before .args .body .now) (c .before .before .before .before .before .before .before .before .before .before .before .args .time) (c .before .before .before .before .before .before .before .before .before .before .before .args .out .now) _ (c .before .before .before .before .before .before .is-sound .ensures) (c .before .before .before .before .before .if1 .left) _ (sym (c .before .before .before .before .first-of-sender .ensures (tableOf (c .before .before .before .before .before .before .before .before .before .before .before .args .numbers .now) (c .before .before .before .before .before .before .before .before .before .before .before .args .keys .now))) ∙ c .before .before .first .given .1)
 
--- src/lib.rt:193:42
 enum-told : tie.Need-enum-told
 enum-told c = search needs
 
--- src/lib.rt:193:28
 step-on-requires : tie.Need-step-on-requires
 step-on-requires c κs = (sender-ready (c .before .before .before .before .before .before .before .before .before .before .before .before .args .book) (c .before .before .before .before .before .before .before .before .before .before .before .before .args .numbers .now) (c .before .before .before .before .before .before .before .before .before .before .before .before .args .keys .now) (c .before .before .before .before .before .before .before .before .before .before .before .before .args .body .now) (c .before .before .before .before .before .before .before .before .before .before .before .before .args .time) (c .before .before .before .before .before .before .before .before .before .before .before .before .args .out .now) _ (c .before .before .before .before .before .before .before .is-sound .ensures) (c .before .before .before .before .before .before .if1 .left) (sym (c .before .before .before .before .before .first-of-sender .ensures (tableOf (c .before .before .before .before .before .before .before .before .before .before .before .before .args .numbers .now) (c .before .before .before .before .before .before .before .before .before .before .before .before .args .keys .now))) ∙ c .before .before .before .enum-told .given .1), (sym (c .before .before .before .before .before .first-of-sender .ensures (tableOf (c .before .before .before .before .before .before .before .before .before .before .before .before .args .numbers .now) (c .before .before .before .before .before .before .before .before .before .before .before .before .args .keys .now))) ∙ c .before .before .before .enum-told .given .1))
 
--- src/lib.rt:174:1
 same-length-3 : tie.Need-same-length-3
 same-length-3 c = search needs
 
--- src/lib.rt:174:1
 same-length-4 : tie.Need-same-length-4
 same-length-4 c = search needs
 
--- src/lib.rt:174:1
 same-length-5 : tie.Need-same-length-5
 same-length-5 c = search needs
 
--- src/lib.rt:174:1
 returns-2 : tie.Need-returns-2
 returns-2 c = frame-steps (c .before .before .before .before .before .before .before .before .before .before .before .before .before .before .args .book) (c .before .before .before .before .before .before .before .before .before .before .before .before .before .before .args .numbers .now) (c .before .before .before .before .before .before .before .before .before .before .before .before .before .before .args .keys .now) (c .before .before .before .before .before .before .before .before .before .before .before .before .before .before .args .body .now) (c .before .before .before .before .before .before .before .before .before .before .before .before .before .before .args .time) (c .before .before .before .before .before .before .before .before .before .before .before .before .before .before .args .out .now) _ (c .before .before .before .before .before .before .before .before .before .is-sound .ensures) (c .before .before .before .before .before .before .before .before .if1 .left) _ _ _ _ (refused-steps (c .before .before .before .before .before .before .before .before .before .before .before .before .before .before .args .book) (c .before .before .before .before .before .before .before .before .before .before .before .before .before .before .args .numbers .now) (c .before .before .before .before .before .before .before .before .before .before .before .before .before .before .args .keys .now) (c .before .before .before .before .before .before .before .before .before .before .before .before .before .before .args .body .now) (c .before .before .before .before .before .before .before .before .before .before .before .before .before .before .args .time) (c .before .before .before .before .before .before .before .before .before .before .before .before .before .before .args .out .now) (c .before .before .before .before .before .first .given .0 .0) (sender-refuses (c .before .before .before .before .before .before .before .before .before .before .before .before .before .before .args .book) (c .before .before .before .before .before .before .before .before .before .before .before .before .before .before .args .numbers .now) (c .before .before .before .before .before .before .before .before .before .before .before .before .before .before .args .keys .now) (c .before .before .before .before .before .before .before .before .before .before .before .before .before .before .args .body .now) (c .before .before .before .before .before .before .before .before .before .before .before .before .before .before .args .time) (c .before .before .before .before .before .before .before .before .before .before .before .before .before .before .args .out .now) _ (c .before .before .before .before .before .before .before .before .before .is-sound .ensures) (c .before .before .before .before .before .before .before .before .if1 .left) _ (sym (c .before .before .before .before .before .before .before .first-of-sender .ensures (tableOf (c .before .before .before .before .before .before .before .before .before .before .before .before .before .before .args .numbers .now) (c .before .before .before .before .before .before .before .before .before .before .before .before .before .before .args .keys .now))) ∙ c .before .before .before .before .before .first .given .1)) _ _ (c .before .before .refuse .ensures .0) (c .before .before .refuse .ensures .1) (c .before .before .refuse .ensures .2))
 
--- src/lib.rt:174:1
 same-length-6 : tie.Need-same-length-6
 same-length-6 c = search needs
 
--- src/lib.rt:174:1
 same-length-7 : tie.Need-same-length-7
 same-length-7 c = search needs
 
--- src/lib.rt:174:1
 same-length-8 : tie.Need-same-length-8
 same-length-8 c = search needs
 
--- src/lib.rt:174:1
 returns-3 : tie.Need-returns-3
 returns-3 c = frame-steps (c .before .before .before .before .before .before .before .before .before .before .before .before .before .before .before .before .before .args .book) (c .before .before .before .before .before .before .before .before .before .before .before .before .before .before .before .before .before .args .numbers .now) (c .before .before .before .before .before .before .before .before .before .before .before .before .before .before .before .before .before .args .keys .now) (c .before .before .before .before .before .before .before .before .before .before .before .before .before .before .before .before .before .args .body .now) (c .before .before .before .before .before .before .before .before .before .before .before .before .before .before .before .before .before .args .time) (c .before .before .before .before .before .before .before .before .before .before .before .before .before .before .before .before .before .args .out .now) _ (c .before .before .before .before .before .before .before .before .before .before .before .before .is-sound .ensures) (c .before .before .before .before .before .before .before .before .before .before .before .if1 .left) _ _ _ _ (c .before .before .before .before .step-on .ensures)
 

@@ -2,61 +2,43 @@ use Rattle.engine.proofs.Stepping.{refused-steps, trader-refuses, trade
 use borrow.Author.Needs.{needs}
 use Rattle.engine.proofs.step_on.Statement.{statement}
 use Rattle.engine.proofs.step_on.Tie as tie
-use Rattle.engine.proofs.step_on.Reads as reads
-use Rattle.engine.proofs.step_on.Lts as lts
-use Rattle.engine.proofs.accept.Reads as accept-reads
-use Rattle.engine.proofs.refuse.Reads as refuse-reads
-use Rattle.trader.proofs.decide.Reads as decide-reads
 
--- src/lib.rt:157:9
 decide-requires : tie.Need-decide-requires
 decide-requires c κs = search needs
 
--- src/lib.rt:160:24
 enum-known-verdict : tie.Need-enum-known-verdict
 enum-known-verdict c = search needs
 
--- src/lib.rt:160:35
 refuse-requires : tie.Need-refuse-requires
 refuse-requires c κs = λ z. trader-header (c .before .before .before .before .before .before .before .before .before .args .book) (c .before .before .before .before .before .before .before .before .before .args .numbers .now) (c .before .before .before .before .before .before .before .before .before .args .keys .now) (c .before .before .before .before .before .before .before .before .before .args .body .now) (c .before .before .before .before .before .before .before .before .before .args .time) (c .before .before .before .before .before .before .before .before .before .args .out .now) (c .before .before .before .before .before .before .before .before .before .pre .0) (c .before .before .before .before .before .before .before .before .before .pre .1) _ (c .before .before .before .before .decide .ensures)
 
--- src/lib.rt:163:13
 enum-told : tie.Need-enum-told
 enum-told c = search needs
 
--- src/lib.rt:161:28
 accept-requires : tie.Need-accept-requires
 accept-requires c κs = acceptable (c .before .before .before .before .before .before .before .before .before .before .args .book) (c .before .before .before .before .before .before .before .before .before .before .args .numbers .now) (c .before .before .before .before .before .before .before .before .before .before .args .keys .now) (c .before .before .before .before .before .before .before .before .before .before .args .body .now) (c .before .before .before .before .before .before .before .before .before .before .args .time) (c .before .before .before .before .before .before .before .before .before .before .args .out .now) (c .before .before .before .before .before .before .before .before .before .before .pre .0) (c .before .before .before .before .before .before .before .before .before .before .pre .1) _ (c .before .before .before .before .before .decide .ensures) (c .before .before .before .enum-told .given .1)
 
--- src/lib.rt:145:1
 same-length : tie.Need-same-length
 same-length c = search needs
 
--- src/lib.rt:145:1
 same-length-2 : tie.Need-same-length-2
 same-length-2 c = search needs
 
--- src/lib.rt:145:1
 same-length-3 : tie.Need-same-length-3
 same-length-3 c = search needs
 
--- src/lib.rt:145:1
 returns : tie.Need-returns
 returns c = refused-steps (c .before .before .before .before .before .before .before .before .before .before .before .before .args .book) (c .before .before .before .before .before .before .before .before .before .before .before .before .args .numbers .now) (c .before .before .before .before .before .before .before .before .before .before .before .before .args .keys .now) (c .before .before .before .before .before .before .before .before .before .before .before .before .args .body .now) (c .before .before .before .before .before .before .before .before .before .before .before .before .args .time) (c .before .before .before .before .before .before .before .before .before .before .before .before .args .out .now) (c .before .before .before .before .before .verdict .given .0 .0) (trader-refuses (c .before .before .before .before .before .before .before .before .before .before .before .before .args .book) (c .before .before .before .before .before .before .before .before .before .before .before .before .args .numbers .now) (c .before .before .before .before .before .before .before .before .before .before .before .before .args .keys .now) (c .before .before .before .before .before .before .before .before .before .before .before .before .args .body .now) (c .before .before .before .before .before .before .before .before .before .before .before .before .args .time) (c .before .before .before .before .before .before .before .before .before .before .before .before .args .out .now) (c .before .before .before .before .before .before .before .before .before .before .before .before .pre .0) (c .before .before .before .before .before .before .before .before .before .before .before .before .pre .1) _ (c .before .before .before .before .before .before .before .decide .ensures) _ (c .before .before .before .before .before .verdict .given .1)) _ _ (c .before .before .refuse .ensures .0) (c .before .before .refuse .ensures .1) (c .before .before .refuse .ensures .2)
 
--- src/lib.rt:145:1
 same-length-4 : tie.Need-same-length-4
 same-length-4 c = search needs
 
--- src/lib.rt:145:1
 same-length-5 : tie.Need-same-length-5
 same-length-5 c = search needs
 
--- src/lib.rt:145:1
 same-length-6 : tie.Need-same-length-6
 same-length-6 c = search needs
 
--- src/lib.rt:145:1
 returns-2 : tie.Need-returns-2
 returns-2 c = search needs
 

@@ -1,5 +1,5 @@
 -- The call is made where the test passes, on the book that was read; else it is refused.
-use Rattle.exports_engine.proofs.Calling.{test-paired, test-six, refused, called}
+use Rattle.exports_engine.proofs.Calling.{test-paired, test-six, test-image, refused, called}
 use borrow.Author.Needs.{needs}
 use Rattle.exports_engine.proofs.rhoikandra_step.Statement.{statement}
 use Rattle.exports_engine.proofs.rhoikandra_step.Tie as tie
@@ -25,8 +25,11 @@ six-of-requires c κs = let a = c .before .before .before .before .before .befor
     test-six (a .image .now) (a .numbers .now) (a .keys .now) (a .time .now) _ (c .before .read-book .ensures .0) (c .if1 .left)
 
 step-on-requires : tie.Need-step-on-requires
-step-on-requires c κs = let a = c .before .before .before .before .before .before .before .before .before .before .before .before .before .before .before .args in
-    test-paired (a .image .now) (a .numbers .now) (a .keys .now) (a .time .now) _ (c .before .before .before .before .before .before .before .before .read-book .ensures .0) (c .before .before .before .before .before .before .before .if1 .left)
+step-on-requires c κs =
+    let a = c .before .before .before .before .before .before .before .before .before .before .before .before .before .before .before .args in (
+      test-paired (a .image .now) (a .numbers .now) (a .keys .now) (a .time .now) _ (c .before .before .before .before .before .before .before .before .read-book .ensures .0) (c .before .before .before .before .before .before .before .if1 .left),
+      test-image (a .image .now) (a .numbers .now) (a .keys .now) (a .time .now) _ (c .before .before .before .before .before .before .before .before .read-book .ensures .0) _ (c .before .before .before .before .before .before .before .before .read-book .ensures .1) (c .before .before .before .before .before .before .before .if1 .left),
+    )
 
 same-length-3 : tie.Need-same-length-3
 same-length-3 c = search needs

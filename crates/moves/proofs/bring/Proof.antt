@@ -5,37 +5,25 @@ use Rattle.moves.proofs.Taking.{brings-room, brings-all, brings-none}
 use borrow.Author.Needs.{needs}
 use Rattle.moves.proofs.bring.Statement.{statement}
 use Rattle.moves.proofs.bring.Tie as tie
-use Rattle.moves.proofs.bring.Reads as reads
-use Rattle.moves.proofs.bring.Lts as lts
-use Rattle.header.proofs.message_type.Reads as message-type-reads
-use Rattle.moves.proofs.brings_lots.Reads as brings-lots-reads
-use Rattle.new_pools.proofs.put_lots.Reads as put-lots-reads
 
--- src/lib.rt:68:9
 message-type-requires : tie.Need-message-type-requires
 message-type-requires c κs = search needs
 
--- src/lib.rt:69:8
 brings-lots-requires : tie.Need-brings-lots-requires
 brings-lots-requires c κs = search needs
 
--- src/lib.rt:70:9
 put-lots-requires : tie.Need-put-lots-requires
 put-lots-requires c κs = (c .before .before .before .before .before .before .pre .0, brings-room (c .before .before .before .before .before .before .args .body .now) (c .before .before .before .before .before .before .args .message) (c .before .before .before .before .before .before .args .trade) _ _ (c .before .before .before .before .message-type .ensures) (c .before .before .before .brings-lots .ensures) (c .before .before .before .before .before .before .args .at) _ (c .before .before .if1 .taken) (c .before .before .before .before .before .before .pre .1))
 
--- src/lib.rt:70:9
 same-length : tie.Need-same-length
 same-length c = search needs
 
--- src/lib.rt:70:9
 same-length-2 : tie.Need-same-length-2
 same-length-2 c = search needs
 
--- src/lib.rt:70:9
 returns : tie.Need-returns
 returns c = brings-all (c .before .before .before .before .before .before .before .before .before .args .body .now) (c .before .before .before .before .before .before .before .before .before .args .message) (c .before .before .before .before .before .before .before .before .before .args .trade) _ _ (c .before .before .before .before .before .before .before .message-type .ensures) (c .before .before .before .before .before .before .brings-lots .ensures) (c .before .before .before .before .before .before .before .before .before .args .at) _ _ _ (c .before .before .before .before .before .if1 .taken) (c .before .before .put-lots .ensures .0) (c .before .before .put-lots .ensures .1)
 
--- src/lib.rt:56:1
 returns-2 : tie.Need-returns-2
 returns-2 c = brings-none (c .before .before .before .before .args .body .now) (c .before .before .before .before .args .message) (c .before .before .before .before .args .trade) _ _ (c .before .before .message-type .ensures) (c .before .brings-lots .ensures) (tableOf (c .before .before .before .before .args .numbers .now) (c .before .before .before .before .args .keys .now)) (c .before .before .before .before .args .at) (c .if1 .left) (omega (arith, c .before .before .before .before .pre .1, length-table (c .before .before .before .before .args .numbers .now) (c .before .before .before .before .args .keys .now)))
 

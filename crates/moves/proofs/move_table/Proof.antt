@@ -6,28 +6,19 @@ use Rattle.moves.proofs.Taking.{moved}
 use borrow.Author.Needs.{needs}
 use Rattle.moves.proofs.move_table.Statement.{statement}
 use Rattle.moves.proofs.move_table.Tie as tie
-use Rattle.moves.proofs.move_table.Reads as reads
-use Rattle.moves.proofs.move_table.Lts as lts
-use Rattle.moves.proofs.bring.Reads as bring-reads
-use Rattle.moves.proofs.take_off.Reads as take-off-reads
 
--- src/lib.rt:90:9
 take-off-requires : tie.Need-take-off-requires
 take-off-requires c κs = search needs
 
--- src/lib.rt:91:5
 bring-requires : tie.Need-bring-requires
 bring-requires c κs = (omega (arith, c .before .before .before .before .before .before .before .before .before .pre .0 .paired), omega (arith, c .before .before .before .before .before .before .before .before .before .pre .1, c .before .before .before .before .take-off .ensures .0, length-append (remaining (c .before .before .before .before .before .before .before .before .before .args .body .now) (take (c .before .before .before .before .before .before .before .before .before .args .live) (tableOf (c .before .before .before .before .before .before .before .before .before .args .numbers .now) (c .before .before .before .before .before .before .before .before .before .args .keys .now)))) (bringing (c .before .before .before .before .before .before .before .before .before .args .body .now) (c .before .before .before .before .before .before .before .before .before .args .message) (c .before .before .before .before .before .before .before .before .before .args .trade))))
 
--- src/lib.rt:76:1
 same-length : tie.Need-same-length
 same-length c = search needs
 
--- src/lib.rt:76:1
 same-length-2 : tie.Need-same-length-2
 same-length-2 c = search needs
 
--- src/lib.rt:76:1
 returns : tie.Need-returns
 returns c = moved _ _ _ (remaining (c .before .before .before .before .before .before .before .before .before .before .before .before .args .body .now) (take (c .before .before .before .before .before .before .before .before .before .before .before .before .args .live) (tableOf (c .before .before .before .before .before .before .before .before .before .before .before .before .args .numbers .now) (c .before .before .before .before .before .before .before .before .before .before .before .before .args .keys .now)))) (bringing (c .before .before .before .before .before .before .before .before .before .before .before .before .args .body .now) (c .before .before .before .before .before .before .before .before .before .before .before .before .args .message) (c .before .before .before .before .before .before .before .before .before .before .before .before .args .trade)) _ _ (c .before .before .before .before .before .before .before .before .before .before .before .before .pre .1) (c .before .before .before .before .before .before .before .take-off .ensures .0) (c .before .before .before .before .before .before .before .take-off .ensures .1) (c .before .before .bring .ensures .0) (c .before .before .bring .ensures .1)
 

@@ -2,37 +2,25 @@ use Rattle.moves.proofs.Taking.{taken-off, left-all}
 use borrow.Author.Needs.{needs}
 use Rattle.moves.proofs.take_off.Statement.{statement}
 use Rattle.moves.proofs.take_off.Tie as tie
-use Rattle.moves.proofs.take_off.Reads as reads
-use Rattle.moves.proofs.take_off.Lts as lts
-use Rattle.header.proofs.message_type.Reads as message-type-reads
-use Rattle.moves.proofs.lists_pools.Reads as lists-pools-reads
-use Rattle.table.proofs.close_up.Reads as close-up-reads
 
--- src/lib.rt:48:9
 message-type-requires : tie.Need-message-type-requires
 message-type-requires c κs = search needs
 
--- src/lib.rt:49:8
 lists-pools-requires : tie.Need-lists-pools-requires
 lists-pools-requires c κs = search needs
 
--- src/lib.rt:50:9
 close-up-requires : tie.Need-close-up-requires
 close-up-requires c κs = search needs
 
--- src/lib.rt:50:9
 same-length : tie.Need-same-length
 same-length c = search needs
 
--- src/lib.rt:50:9
 same-length-2 : tie.Need-same-length-2
 same-length-2 c = search needs
 
--- src/lib.rt:50:9
 returns : tie.Need-returns
 returns c = taken-off (c .before .before .before .before .before .before .before .before .before .before .args .body .now) (c .before .before .before .before .before .before .before .before .before .before .args .numbers .now) (c .before .before .before .before .before .before .before .before .before .before .args .keys .now) (c .before .before .before .before .before .before .before .before .before .before .args .live) (c .before .before .before .before .before .before .before .before .before .before .args .marks .now) (c .before .before .before .before .before .before .before .before .before .before .pre) _ _ (c .before .before .close-up .ensures .0) (c .before .before .close-up .ensures .1)
 
--- src/lib.rt:37:1
 returns-2 : tie.Need-returns-2
 returns-2 c = left-all (c .before .before .before .before .before .args .body .now) (c .before .before .before .before .before .args .numbers .now) (c .before .before .before .before .before .args .keys .now) (c .before .before .before .before .before .args .live) (c .before .before .before .before .before .args .marks .now) (c .before .before .before .before .before .pre) _ _ (c .before .before .message-type .ensures) (c .before .lists-pools .ensures) (c .if1 .left)
 

@@ -2,29 +2,19 @@ use Rattle.reply.proofs.Replies.{before-told, before-none}
 use borrow.Author.Needs.{needs}
 use Rattle.reply.proofs.before_aa.Statement.{statement}
 use Rattle.reply.proofs.before_aa.Tie as tie
-use Rattle.reply.proofs.before_aa.Reads as reads
-use Rattle.reply.proofs.before_aa.Lts as lts
-use Rattle.reply.proofs.is_gap.Reads as is-gap-reads
-use Rattle.sequence.proofs.judge.Reads as judge-reads
-use Rattle.sequence.proofs.next.Reads as next-reads
 
--- src/lib.rt:65:15
 judge-requires : tie.Need-judge-requires
 judge-requires c κs = search needs
 
--- src/lib.rt:65:8
 is-gap-requires : tie.Need-is-gap-requires
 is-gap-requires c κs = search needs
 
--- src/lib.rt:66:9
 next-requires : tie.Need-next-requires
 next-requires c κs = search needs
 
--- src/lib.rt:66:9
 returns : tie.Need-returns
 returns c = before-told (c .before .before .before .before .args .line) (c .before .before .before .before .args .last) (c .before .before .before .before .args .number) _ _ (c .before .before .before .judge .ensures) (c .before .before .is-gap .ensures) _ (c .before .if1 .taken) (c .next .ensures)
 
--- src/lib.rt:62:1
 returns-2 : tie.Need-returns-2
 returns-2 c = before-none (c .before .before .before .args .line) (c .before .before .before .args .last) (c .before .before .before .args .number) _ _ (c .before .before .judge .ensures) (c .before .is-gap .ensures) (c .if1 .left)
 

@@ -2,51 +2,34 @@ use Rattle.reply.proofs.Replies.{told-out, plain-out, after-gap, no-gap
 use borrow.Author.Needs.{needs}
 use Rattle.reply.proofs.put_reply.Statement.{statement}
 use Rattle.reply.proofs.put_reply.Tie as tie
-use Rattle.reply.proofs.put_reply.Reads as reads
-use Rattle.reply.proofs.put_reply.Lts as lts
-use Rattle.acknowledgment.proofs.put_aa.Reads as put-aa-reads
-use Rattle.acknowledgment.proofs.put_tx.Reads as put-tx-reads
-use Rattle.reply.proofs.acknowledge.Reads as acknowledge-reads
-use Rattle.reply.proofs.is_gap.Reads as is-gap-reads
-use Rattle.sequence.proofs.judge.Reads as judge-reads
 
--- src/lib.rt:91:9
 acknowledge-requires : tie.Need-acknowledge-requires
 acknowledge-requires c κs = search needs
 
--- src/lib.rt:92:15
 judge-requires : tie.Need-judge-requires
 judge-requires c κs = search needs
 
--- src/lib.rt:92:8
 is-gap-requires : tie.Need-is-gap-requires
 is-gap-requires c κs = search needs
 
--- src/lib.rt:93:13
 put-tx-requires : tie.Need-put-tx-requires
 put-tx-requires c κs = search needs
 
--- src/lib.rt:102:9
 put-aa-requires : tie.Need-put-aa-requires
 put-aa-requires c κs = search needs
 
--- src/lib.rt:110:9
 same-length : tie.Need-same-length
 same-length c = search needs
 
--- src/lib.rt:110:9
 returns : tie.Need-returns
 returns c = told-out (c .before .before .before .before .before .before .before .before .before .before .before .before .before .before .before .before .before .before .before .before .args .book) (c .before .before .before .before .before .before .before .before .before .before .before .before .before .before .before .before .before .before .before .before .args .body .now) (c .before .before .before .before .before .before .before .before .before .before .before .before .before .before .before .before .before .before .before .before .args .number) (c .before .before .before .before .before .before .before .before .before .before .before .before .before .before .before .before .before .before .before .before .args .answer) (c .before .before .before .before .before .before .before .before .before .before .before .before .before .before .before .before .before .before .before .before .pre .1 .0) (c .before .before .before .before .before .before .before .before .before .before .before .before .before .before .before .before .before .before .before .before .args .time) (c .before .before .before .before .before .before .before .before .before .before .before .before .before .before .before .before .before .before .before .before .args .out .now) _ (c .before .before .before .before .before .before .before .before .before .before .before .acknowledge .ensures) (c .before .before .before .before .before .before .before .before .before .before .before .before .before .before .before .before .before .before .before .before .pre .1 .1) _ _ _ (after-gap (c .before .before .before .before .before .before .before .before .before .before .before .before .before .before .before .before .before .before .before .before .args .book .line) (c .before .before .before .before .before .before .before .before .before .before .before .before .before .before .before .before .before .before .before .before .args .book .values .outbound) (c .before .before .before .before .before .before .before .before .before .before .before .before .before .before .before .before .before .before .before .before .args .number) _ _ (c .before .before .before .before .before .before .before .before .before .before .judge .ensures) (c .before .before .before .before .before .before .before .before .before .is-gap .ensures) (c .before .before .before .before .before .before .before .before .if1 .taken)) (c .before .before .before .before .before .before .put-tx .ensures .0) (c .before .before .before .before .before .before .put-tx .ensures .1) (c .before .before .put-aa .ensures .0)
 
--- src/lib.rt:112:5
 put-aa-requires-2 : tie.Need-put-aa-requires-2
 put-aa-requires-2 c κs = search needs
 
--- src/lib.rt:72:1
 same-length-2 : tie.Need-same-length-2
 same-length-2 c = search needs
 
--- src/lib.rt:72:1
 returns-2 : tie.Need-returns-2
 returns-2 c = plain-out (c .before .before .before .before .before .before .before .before .before .before .before .before .before .before .before .before .args .book) (c .before .before .before .before .before .before .before .before .before .before .before .before .before .before .before .before .args .body .now) (c .before .before .before .before .before .before .before .before .before .before .before .before .before .before .before .before .args .number) (c .before .before .before .before .before .before .before .before .before .before .before .before .before .before .before .before .args .answer) (c .before .before .before .before .before .before .before .before .before .before .before .before .before .before .before .before .pre .1 .0) (c .before .before .before .before .before .before .before .before .before .before .before .before .before .before .before .before .args .time) (c .before .before .before .before .before .before .before .before .before .before .before .before .before .before .before .before .args .out .now) _ (c .before .before .before .before .before .before .before .acknowledge .ensures) (c .before .before .before .before .before .before .before .before .before .before .before .before .before .before .before .before .pre .1 .1) _ (no-gap (c .before .before .before .before .before .before .before .before .before .before .before .before .before .before .before .before .args .book .line) (c .before .before .before .before .before .before .before .before .before .before .before .before .before .before .before .before .args .book .values .outbound) (c .before .before .before .before .before .before .before .before .before .before .before .before .before .before .before .before .args .number) _ _ (c .before .before .before .before .before .before .judge .ensures) (c .before .before .before .before .before .is-gap .ensures) (c .before .before .before .before .if1 .left)) (c .before .before .put-aa2 .ensures .0)
 

@@ -3,34 +3,22 @@ use Rattle.reply.proofs.Replies.{silent-counters, moved-counters}
 use borrow.Author.Needs.{needs}
 use Rattle.reply.proofs.with_counters.Statement.{statement}
 use Rattle.reply.proofs.with_counters.Tie as tie
-use Rattle.reply.proofs.with_counters.Reads as reads
-use Rattle.reply.proofs.with_counters.Lts as lts
-use Rattle.answers.proofs.is_silent.Reads as is-silent-reads
-use Rattle.reply.proofs.before_aa.Reads as before-aa-reads
-use Rattle.sequence.proofs.after.Reads as after-reads
-use Rattle.sequence.proofs.next.Reads as next-reads
 
--- src/lib.rt:119:8
 is-silent-requires : tie.Need-is-silent-requires
 is-silent-requires c κs = search needs
 
--- src/lib.rt:120:9
 returns : tie.Need-returns
 returns c = λ body e. silent-counters (c .before .before .args .book) body (c .before .before .args .number) (c .before .before .args .answer) e (rw (sym (c .before .is-silent .ensures)) (c .if1 .taken))
 
--- src/lib.rt:125:9
 before-aa-requires : tie.Need-before-aa-requires
 before-aa-requires c κs = search needs
 
--- src/lib.rt:126:5
 next-requires : tie.Need-next-requires
 next-requires c κs = search needs
 
--- src/lib.rt:129:15
 after-requires : tie.Need-after-requires
 after-requires c κs = search needs
 
--- src/lib.rt:116:1
 returns-2 : tie.Need-returns-2
 returns-2 c = λ body e. moved-counters (c .before .before .before .before .before .before .before .before .args .book) body (c .before .before .before .before .before .before .before .before .args .number) (c .before .before .before .before .before .before .before .before .args .answer) e _ (c .before .before .before .before .before .before .before .is-silent .ensures) (c .before .before .before .before .before .before .if1 .left) _ _ _ (c .after .ensures) (c .before .before .before-aa .ensures) (c .before .next .ensures)
 

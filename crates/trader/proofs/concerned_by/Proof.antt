@@ -1,19 +1,13 @@
 use borrow.Author.Needs.{needs}
 use Rattle.trader.proofs.concerned_by.Statement.{statement}
 use Rattle.trader.proofs.concerned_by.Tie as tie
-use Rattle.trader.proofs.concerned_by.Reads as reads
-use Rattle.trader.proofs.concerned_by.Lts as lts
-use Rattle.trades.proofs.trade_of_on.Reads as trade-of-on-reads
 
--- src/lib.rt:202:9
 trade-of-on-requires : tie.Need-trade-of-on-requires
 trade-of-on-requires c κs = search needs
 
--- src/lib.rt:202:9
 returns : tie.Need-returns
 returns c = rw (c .before .if1 .taken) (c .trade-of-on .ensures)
 
--- src/lib.rt:198:1
 returns-2 : tie.Need-returns-2
 returns-2 c = rw (c .if1 .left)
 

@@ -6,47 +6,31 @@ use Rattle.trader.proofs.Deciding.{refused-by, within, run-stop, there-
 use borrow.Author.Needs.{needs}
 use Rattle.trader.proofs.decide.Statement.{statement}
 use Rattle.trader.proofs.decide.Tie as tie
-use Rattle.trader.proofs.decide.Reads as reads
-use Rattle.trader.proofs.decide.Lts as lts
-use Rattle.places.proofs.target_run.Reads as target-run-reads
-use Rattle.trader.proofs.decide_moves.Reads as decide-moves-reads
-use Rattle.trader.proofs.first_of_terms.Reads as first-of-terms-reads
-use Rattle.trader.proofs.refused.Reads as refused-reads
-use Rattle.trader.proofs.target_trade.Reads as target-trade-reads
 
--- src/lib.rt:269:9
 target-run-requires : tie.Need-target-run-requires
 target-run-requires c κs = within (c .before .before .args .book) (c .before .before .args .numbers .now) (c .before .before .args .keys .now) (c .before .before .args .body .now) (c .before .before .pre)
 
--- src/lib.rt:271:9
 target-trade-requires : tie.Need-target-trade-requires
 target-trade-requires c κs = run-stop (c .before .before .before .before .args .book) (c .before .before .before .before .args .numbers .now) (c .before .before .before .before .args .keys .now) (c .before .before .before .before .args .body .now) (c .before .before .before .before .pre) _ (c .before .target-run .ensures)
 
--- src/lib.rt:272:9
 first-of-terms-requires : tie.Need-first-of-terms-requires
 first-of-terms-requires c κs = search needs
 
--- src/lib.rt:274:24
 enum-known-terms : tie.Need-enum-known-terms
 enum-known-terms c = search needs
 
--- src/lib.rt:274:35
 refused-requires : tie.Need-refused-requires
 refused-requires c κs = search needs
 
--- src/lib.rt:275:28
 enum-told : tie.Need-enum-told
 enum-told c = search needs
 
--- src/lib.rt:275:28
 decide-moves-requires : tie.Need-decide-moves-requires
 decide-moves-requires c κs = (c .before .before .before .before .before .before .before .before .pre, target-is (c .before .before .before .before .before .before .before .before .args .book) (c .before .before .before .before .before .before .before .before .args .numbers .now) (c .before .before .before .before .before .before .before .before .args .keys .now) (c .before .before .before .before .before .before .before .before .args .body .now) (c .before .before .before .before .before .before .before .before .pre) _ (c .before .before .before .before .before .target-run .ensures) ∙ sym (c .before .before .before .target-trade .ensures))
 
--- src/lib.rt:264:1
 returns : tie.Need-returns
 returns c = λ room. refused-by traderChecks (c .before .before .before .before .before .before .before .before .before .before .args .book) (c .before .before .before .before .before .before .before .before .before .before .args .numbers .now) (c .before .before .before .before .before .before .before .before .before .before .args .keys .now) (c .before .before .before .before .before .before .before .before .before .before .args .body .now) room _ _ (c .refused .ensures) (sym (first-early (callOn (c .before .before .before .before .before .before .before .before .before .before .args .book) (c .before .before .before .before .before .before .before .before .before .before .args .numbers .now) (c .before .before .before .before .before .before .before .before .before .before .args .keys .now) (c .before .before .before .before .before .before .before .before .before .before .args .body .now) room) 7 traderChecks _ (sym (c .before .before .before .before .first-of-terms .ensures (c .before .before .before .before .before .before .before .before .before .before .args .book) (tableOf (c .before .before .before .before .before .before .before .before .before .before .args .numbers .now) (c .before .before .before .before .before .before .before .before .before .before .args .keys .now)) room refl (there-is (c .before .before .before .before .before .before .before .before .before .before .args .book) (c .before .before .before .before .before .before .before .before .before .before .args .numbers .now) (c .before .before .before .before .before .before .before .before .before .before .args .keys .now) (c .before .before .before .before .before .before .before .before .before .before .args .body .now) (c .before .before .before .before .before .before .before .before .before .before .pre) _ (c .before .before .before .before .before .before .before .target-run .ensures)) (target-is (c .before .before .before .before .before .before .before .before .before .before .args .book) (c .before .before .before .before .before .before .before .before .before .before .args .numbers .now) (c .before .before .before .before .before .before .before .before .before .before .args .keys .now) (c .before .before .before .before .before .before .before .before .before .before .args .body .now) (c .before .before .before .before .before .before .before .before .before .before .pre) _ (c .before .before .before .before .before .before .before .target-run .ensures) ∙ sym (c .before .before .before .before .before .target-trade .ensures))) ∙ c .before .before .terms .given .1)))
 
--- src/lib.rt:264:1
 returns-2 : tie.Need-returns-2
 returns-2 c = λ room. decided-late (c .before .before .before .before .before .before .before .before .before .args .book) (c .before .before .before .before .before .before .before .before .before .args .numbers .now) (c .before .before .before .before .before .before .before .before .before .args .keys .now) (c .before .before .before .before .before .before .before .before .before .args .body .now) room _ (sym (c .before .enum-told .given .1) ∙ c .before .before .before .first-of-terms .ensures (c .before .before .before .before .before .before .before .before .before .args .book) (tableOf (c .before .before .before .before .before .before .before .before .before .args .numbers .now) (c .before .before .before .before .before .before .before .before .before .args .keys .now)) room refl (there-is (c .before .before .before .before .before .before .before .before .before .args .book) (c .before .before .before .before .before .before .before .before .before .args .numbers .now) (c .before .before .before .before .before .before .before .before .before .args .keys .now) (c .before .before .before .before .before .before .before .before .before .args .body .now) (c .before .before .before .before .before .before .before .before .before .pre) _ (c .before .before .before .before .before .before .target-run .ensures)) (target-is (c .before .before .before .before .before .before .before .before .before .args .book) (c .before .before .before .before .before .before .before .before .before .args .numbers .now) (c .before .before .before .before .before .before .before .before .before .args .keys .now) (c .before .before .before .before .before .before .before .before .before .args .body .now) (c .before .before .before .before .before .before .before .before .before .pre) _ (c .before .before .before .before .before .before .target-run .ensures) ∙ sym (c .before .before .before .before .target-trade .ensures))) (c .decide-moves .ensures room)
 

@@ -6,84 +6,55 @@ use Rattle.trader.proofs.Deciding.{refused-by, findable, weighable, wit
 use borrow.Author.Needs.{needs}
 use Rattle.trader.proofs.decide_moves.Statement.{statement}
 use Rattle.trader.proofs.decide_moves.Tie as tie
-use Rattle.trader.proofs.decide_moves.Reads as reads
-use Rattle.trader.proofs.decide_moves.Lts as lts
-use Rattle.header.proofs.message_type.Reads as message-type-reads
-use Rattle.places.proofs.weight_of_marked.Reads as weight-of-marked-reads
-use Rattle.terms.proofs.brought_weight.Reads as brought-weight-reads
-use Rattle.trader.proofs.concerned_by.Reads as concerned-by-reads
-use Rattle.trader.proofs.is_cc.Reads as is-cc-reads
-use Rattle.trader.proofs.is_on.Reads as is-on-reads
-use Rattle.trader.proofs.par_fits.Reads as par-fits-reads
-use Rattle.trader.proofs.refused.Reads as refused-reads
-use Rattle.trader.proofs.table_fits.Reads as table-fits-reads
-use Rattle.trader.proofs.taken_by.Reads as taken-by-reads
 
--- src/lib.rt:236:9
 message-type-requires : tie.Need-message-type-requires
 message-type-requires c κs = search needs
 
--- src/lib.rt:237:9
 is-on-requires : tie.Need-is-on-requires
 is-on-requires c κs = search needs
 
--- src/lib.rt:238:9
 is-cc-requires : tie.Need-is-cc-requires
 is-cc-requires c κs = search needs
 
--- src/lib.rt:239:9
 taken-by-requires : tie.Need-taken-by-requires
 taken-by-requires c κs = findable (c .before .before .before .before .before .before .args .book) (c .before .before .before .before .before .before .args .numbers .now) (c .before .before .before .before .before .before .args .keys .now) (c .before .before .before .before .before .before .args .body .now) (c .before .before .before .before .before .before .pre .0)
 
--- src/lib.rt:241:9
 refused-requires : tie.Need-refused-requires
 refused-requires c κs = search needs
 
--- src/lib.rt:241:9
 returns : tie.Need-returns
 returns c = λ room. refused-by (drop 7 traderChecks) (c .before .before .before .before .before .before .before .before .before .before .args .book) (c .before .before .before .before .before .before .before .before .before .before .args .numbers .now) (c .before .before .before .before .before .before .before .before .before .before .args .keys .now) (c .before .before .before .before .before .before .before .before .before .before .args .body .now) room _ _ (c .refused .ensures) (listed-fails (c .before .before .before .before .before .before .before .before .before .before .args .book) (c .before .before .before .before .before .before .before .before .before .before .args .numbers .now) (c .before .before .before .before .before .before .before .before .before .before .args .keys .now) (c .before .before .before .before .before .before .before .before .before .before .args .body .now) (c .before .before .before .before .before .before .before .before .before .before .pre .0) room _ _ _ (c .before .before .before .before .before .before .message-type .ensures) (c .before .before .before .before .before .is-on .ensures) (c .before .before .before .before .is-cc .ensures) _ (c .before .before .before .before .before .before .before .before .before .before .pre .1) _ (c .before .before .before .taken-by .ensures) (c .before .if1 .taken))
 
--- src/lib.rt:244:49
 slice-aggregate-weight-of-marked : tie.Need-slice-aggregate-weight-of-marked
 slice-aggregate-weight-of-marked c = search needs
 
--- src/lib.rt:244:9
 weight-of-marked-requires : tie.Need-weight-of-marked-requires
 weight-of-marked-requires c κs = weighable (c .before .before .before .before .before .before .before .before .before .before .before .args .book) (c .before .before .before .before .before .before .before .before .before .before .before .args .numbers .now) (c .before .before .before .before .before .before .before .before .before .before .before .args .keys .now) (c .before .before .before .before .before .before .before .before .before .before .before .args .body .now) (c .before .before .before .before .before .before .before .before .before .before .before .pre .0) _ (c .before .before .before .before .taken-by .ensures .size)
 
--- src/lib.rt:245:9
 brought-weight-requires : tie.Need-brought-weight-requires
 brought-weight-requires c κs = search needs
 
--- src/lib.rt:246:9
 concerned-by-requires : tie.Need-concerned-by-requires
 concerned-by-requires c κs = search needs
 
--- src/lib.rt:248:16
 par-fits-requires : tie.Need-par-fits-requires
 par-fits-requires c κs = search needs
 
--- src/lib.rt:249:9
 refused-requires-2 : tie.Need-refused-requires-2
 refused-requires-2 c κs = search needs
 
--- src/lib.rt:249:9
 returns-2 : tie.Need-returns-2
 returns-2 c = λ room. refused-by (drop 7 traderChecks) (c .before .before .before .before .before .before .before .before .before .before .before .before .before .before .before .before .before .args .book) (c .before .before .before .before .before .before .before .before .before .before .before .before .before .before .before .before .before .args .numbers .now) (c .before .before .before .before .before .before .before .before .before .before .before .before .before .before .before .before .before .args .keys .now) (c .before .before .before .before .before .before .before .before .before .before .before .before .before .before .before .before .before .args .body .now) room _ _ (c .refused2 .ensures) (par-fails (c .before .before .before .before .before .before .before .before .before .before .before .before .before .before .before .before .before .args .book) (c .before .before .before .before .before .before .before .before .before .before .before .before .before .before .before .before .before .args .numbers .now) (c .before .before .before .before .before .before .before .before .before .before .before .before .before .before .before .before .before .args .keys .now) (c .before .before .before .before .before .before .before .before .before .before .before .before .before .before .before .before .before .args .body .now) (c .before .before .before .before .before .before .before .before .before .before .before .before .before .before .before .before .before .pre .0) room _ _ _ (c .before .before .before .before .before .before .before .before .before .before .before .before .before .message-type .ensures) (c .before .before .before .before .before .before .before .before .before .before .before .before .is-on .ensures) (c .before .before .before .before .before .before .before .before .before .before .before .is-cc .ensures) _ (c .before .before .before .before .before .before .before .before .before .before .before .before .before .before .before .before .before .pre .1) _ (c .before .before .before .before .before .before .before .before .before .before .taken-by .ensures) (c .before .before .before .before .before .before .before .before .if1 .left) _ _ _ (c .before .before .before .before .before .weight-of-marked .ensures) (c .before .before .before .before .brought-weight .ensures) (c .before .before .before .concerned-by .ensures) _ (c .before .before .par-fits .ensures) _ refl (c .before .if2 .taken))
 
--- src/lib.rt:251:16
 table-fits-requires : tie.Need-table-fits-requires
 table-fits-requires c κs = (omega (arith, within (c .before .before .before .before .before .before .before .before .before .before .before .before .before .before .before .before .args .book) (c .before .before .before .before .before .before .before .before .before .before .before .before .before .before .before .before .args .numbers .now) (c .before .before .before .before .before .before .before .before .before .before .before .before .before .before .before .before .args .keys .now) (c .before .before .before .before .before .before .before .before .before .before .before .before .before .before .before .before .args .body .now) (c .before .before .before .before .before .before .before .before .before .before .before .before .before .before .before .before .pre .0), few (c .before .before .before .before .before .before .before .before .before .before .before .before .before .before .before .before .args .book) (c .before .before .before .before .before .before .before .before .before .before .before .before .before .before .before .before .args .numbers .now) (c .before .before .before .before .before .before .before .before .before .before .before .before .before .before .before .before .args .keys .now) (c .before .before .before .before .before .before .before .before .before .before .before .before .before .before .before .before .args .body .now) (c .before .before .before .before .before .before .before .before .before .before .before .before .before .before .before .before .pre .0)), few (c .before .before .before .before .before .before .before .before .before .before .before .before .before .before .before .before .args .book) (c .before .before .before .before .before .before .before .before .before .before .before .before .before .before .before .before .args .numbers .now) (c .before .before .before .before .before .before .before .before .before .before .before .before .before .before .before .before .args .keys .now) (c .before .before .before .before .before .before .before .before .before .before .before .before .before .before .before .before .args .body .now) (c .before .before .before .before .before .before .before .before .before .before .before .before .before .before .before .before .pre .0))
 
--- src/lib.rt:252:9
 refused-requires-3 : tie.Need-refused-requires-3
 refused-requires-3 c κs = search needs
 
--- src/lib.rt:252:9
 returns-3 : tie.Need-returns-3
 returns-3 c = λ room. refused-by (drop 7 traderChecks) (c .before .before .before .before .before .before .before .before .before .before .before .before .before .before .before .before .before .before .before .args .book) (c .before .before .before .before .before .before .before .before .before .before .before .before .before .before .before .before .before .before .before .args .numbers .now) (c .before .before .before .before .before .before .before .before .before .before .before .before .before .before .before .before .before .before .before .args .keys .now) (c .before .before .before .before .before .before .before .before .before .before .before .before .before .before .before .before .before .before .before .args .body .now) room _ _ (c .refused3 .ensures) (table-fails (c .before .before .before .before .before .before .before .before .before .before .before .before .before .before .before .before .before .before .before .args .book) (c .before .before .before .before .before .before .before .before .before .before .before .before .before .before .before .before .before .before .before .args .numbers .now) (c .before .before .before .before .before .before .before .before .before .before .before .before .before .before .before .before .before .before .before .args .keys .now) (c .before .before .before .before .before .before .before .before .before .before .before .before .before .before .before .before .before .before .before .args .body .now) (c .before .before .before .before .before .before .before .before .before .before .before .before .before .before .before .before .before .before .before .pre .0) room _ _ _ (c .before .before .before .before .before .before .before .before .before .before .before .before .before .before .before .message-type .ensures) (c .before .before .before .before .before .before .before .before .before .before .before .before .before .before .is-on .ensures) (c .before .before .before .before .before .before .before .before .before .before .before .before .before .is-cc .ensures) _ (c .before .before .before .before .before .before .before .before .before .before .before .before .before .before .before .before .before .before .before .pre .1) _ (c .before .before .before .before .before .before .before .before .before .before .before .before .taken-by .ensures) (c .before .before .before .before .before .before .before .before .before .before .if1 .left) _ _ _ (c .before .before .before .before .before .before .before .weight-of-marked .ensures) (c .before .before .before .before .before .before .brought-weight .ensures) (c .before .before .before .before .before .concerned-by .ensures) _ (c .before .before .before .before .par-fits .ensures) _ refl (c .before .before .before .if2 .left) _ (c .before .before .table-fits .ensures) (c .before .if3 .taken))
 
--- src/lib.rt:222:1
 returns-4 : tie.Need-returns-4
 returns-4 c = λ room. all-pass (c .before .before .before .before .before .before .before .before .before .before .before .before .before .before .before .before .before .before .args .book) (c .before .before .before .before .before .before .before .before .before .before .before .before .before .before .before .before .before .before .args .numbers .now) (c .before .before .before .before .before .before .before .before .before .before .before .before .before .before .before .before .before .before .args .keys .now) (c .before .before .before .before .before .before .before .before .before .before .before .before .before .before .before .before .before .before .args .body .now) (c .before .before .before .before .before .before .before .before .before .before .before .before .before .before .before .before .before .before .pre .0) room _ _ _ (c .before .before .before .before .before .before .before .before .before .before .before .before .before .before .message-type .ensures) (c .before .before .before .before .before .before .before .before .before .before .before .before .before .is-on .ensures) (c .before .before .before .before .before .before .before .before .before .before .before .before .is-cc .ensures) _ (c .before .before .before .before .before .before .before .before .before .before .before .before .before .before .before .before .before .before .pre .1) _ (c .before .before .before .before .before .before .before .before .before .before .before .taken-by .ensures) (c .before .before .before .before .before .before .before .before .before .if1 .left) _ _ _ (c .before .before .before .before .before .before .weight-of-marked .ensures) (c .before .before .before .before .before .brought-weight .ensures) (c .before .before .before .before .concerned-by .ensures) _ (c .before .before .before .par-fits .ensures) _ refl (c .before .before .if2 .left) _ (c .before .table-fits .ensures) (c .if3 .left)
 

@@ -3,34 +3,25 @@ use Rattle.trader.proofs.Fits.{past-count, past-all, covered, weighed}
 use borrow.Author.Needs.{needs}
 use Rattle.trader.proofs.par_fits.Statement.{statement}
 use Rattle.trader.proofs.par_fits.Tie as tie
-use Rattle.trader.proofs.par_fits.Reads as reads
-use Rattle.trader.proofs.par_fits.Lts as lts
 
--- src/lib.rt:111:9
 returns : tie.Need-returns
 returns c = past-count (c .before .args .t1) (c .before .args .count) (c .before .args .trade) (c .before .args .off) (c .before .args .brought) (c .if1 .taken)
 
--- src/lib.rt:114:9
 returns-2 : tie.Need-returns-2
 returns-2 c = past-all (c .before .before .args .t1) (c .before .before .args .count) (c .before .before .args .trade) (c .before .before .args .off) (c .before .before .args .brought) (omega (arith, c .if2 .taken))
 
--- src/lib.rt:116:13
 mul-t : tie.Need-mul-t
 mul-t c = search needs
 
--- src/lib.rt:116:13
 array-copy-out-t : tie.Need-array-copy-out-t
 array-copy-out-t c = search needs
 
--- src/lib.rt:118:9
 returns-3 : tie.Need-returns-3
 returns-3 c = covered (c .before .before .before .before .args .t1) (c .before .before .before .before .args .count) (c .before .before .before .before .args .trade) (c .before .before .before .before .args .off) (c .before .before .before .before .args .brought) (omega arith) (omega arith) (c .if3 .taken)
 
--- src/lib.rt:120:5
 sub-result : tie.Need-sub-result
 sub-result c = search needs
 
--- src/lib.rt:101:1
 returns-4 : tie.Need-returns-4
 returns-4 c = weighed (c .before .before .before .before .before .args .t1) (c .before .before .before .before .before .args .count) (c .before .before .before .before .before .args .trade) (c .before .before .before .before .before .args .off) (c .before .before .before .before .before .args .brought) (omega arith) (omega arith) (omega arith)
 

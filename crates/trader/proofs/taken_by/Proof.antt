@@ -3,34 +3,22 @@ use Rattle.trader.proofs.Deciding.{either, takes-some, takes-none}
 use borrow.Author.Needs.{needs}
 use Rattle.trader.proofs.taken_by.Statement.{statement}
 use Rattle.trader.proofs.taken_by.Tie as tie
-use Rattle.trader.proofs.taken_by.Reads as reads
-use Rattle.trader.proofs.taken_by.Lts as lts
-use Rattle.header.proofs.message_type.Reads as message-type-reads
-use Rattle.listed.proofs.find_listed.Reads as find-listed-reads
-use Rattle.trader.proofs.is_cc.Reads as is-cc-reads
-use Rattle.trader.proofs.is_dk.Reads as is-dk-reads
 
--- src/lib.rt:185:9
 message-type-requires : tie.Need-message-type-requires
 message-type-requires c κs = search needs
 
--- src/lib.rt:186:9
 is-cc-requires : tie.Need-is-cc-requires
 is-cc-requires c κs = search needs
 
--- src/lib.rt:187:9
 is-dk-requires : tie.Need-is-dk-requires
 is-dk-requires c κs = search needs
 
--- src/lib.rt:189:9
 find-listed-requires : tie.Need-find-listed-requires
 find-listed-requires c κs = search needs
 
--- src/lib.rt:189:9
 returns : tie.Need-returns
 returns c = takes-some (c .before .before .before .before .message-type .result) (c .before .before .before .before .before .before .args .body .now) (c .before .before .before .is-cc .result) (c .before .before .is-dk .result) (c .before .before .before .before .message-type .ensures) (either (c .before .before .before .before .message-type .result) (c .before .before .before .is-cc .result) (c .before .before .is-dk .result) (c .before .before .before .is-cc .ensures) (c .before .before .is-dk .ensures)) (c .before .before .before .before .before .before .args .numbers .now) (c .before .before .before .before .before .before .args .keys .now) (c .before .before .before .before .before .before .args .live) _ (search needs) (c .before .before .before .before .before .before .pre .within) (c .before .if1 .taken) (c .find-listed .ensures)
 
--- src/lib.rt:181:1
 returns-2 : tie.Need-returns-2
 returns-2 c = takes-none (c .before .before .before .message-type .result) (c .before .before .before .before .before .args .body .now) (c .before .before .is-cc .result) (c .before .is-dk .result) (c .before .before .before .message-type .ensures) (either (c .before .before .before .message-type .result) (c .before .before .is-cc .result) (c .before .is-dk .result) (c .before .before .is-cc .ensures) (c .before .is-dk .ensures)) _ _ 4096 refl (c .if1 .left) refl refl
 

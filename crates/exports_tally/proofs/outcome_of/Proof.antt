@@ -1,8 +1,8 @@
 -- Each arm has the number that the definition asks for.
-use Rattle.exports_output.specs.Rows.{outcomeOf}
-use Rattle.exports_output.proofs.Rows.{dked}
-use Rattle.exports_output.proofs.outcome_of.Statement.{statement}
-use Rattle.exports_output.proofs.outcome_of.Tie as tie
+use Rattle.exports_tally.specs.Rows.{outcomeOf}
+use Rattle.exports_tally.proofs.Rows.{dked}
+use Rattle.exports_tally.proofs.outcome_of.Statement.{statement}
+use Rattle.exports_tally.proofs.outcome_of.Tie as tie
 
 returns : tie.Need-returns
 unfolding outcomeOf

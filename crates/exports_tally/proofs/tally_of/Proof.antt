@@ -2,8 +2,8 @@
 use mathlib.Core.Path.{sym}
 use borrow.Author.Needs.{needs}
 use Rattle.lists.proofs.Tables.{table-of}
-use Rattle.exports_output.proofs.tally_of.Statement.{statement}
-use Rattle.exports_output.proofs.tally_of.Tie as tie
+use Rattle.exports_tally.proofs.tally_of.Statement.{statement}
+use Rattle.exports_tally.proofs.tally_of.Tie as tie
 
 shared-slice-copy-out-t3 : tie.Need-shared-slice-copy-out-t3
 shared-slice-copy-out-t3 c = search needs

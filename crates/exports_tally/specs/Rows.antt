@@ -1,7 +1,7 @@
--- The tally by four rows: types in the order ON, CC, DK, CX, each with accepted, rejected and DKed.
+-- The tally by four rows (01, "What goes out"): types in the order ON, CC, DK, CX, each with accepted, rejected and DKed.
 use Prim.Native.Nat.{ℕ}
 use mathlib.Core.List.{List}
-use mathlib.Core.Bool.{cond}
+use mathlib.Core.Bool.{cond, _&&_}
 use lib.ListN.{length}
 use lib.Dec.{eqb}
 use Rattle.tally.specs.declared.MessageType.{MessageType}
@@ -9,6 +9,8 @@ use Rattle.tally.specs.declared.MessageType.the-variants.{On, Cc, Dk, Cx, Other
 use Rattle.tally.specs.declared.Outcome.{Outcome}
 use Rattle.tally.specs.declared.Outcome.the-variants.{Accepted, Rejected, Dked}
 use Rattle.tally.specs.Tally.{raised}
+use Rattle.book.specs.Step.{tallyAfter}
+use Rattle.answer_numbers.specs.Said.{isSaid, answerIn}
 
 -- a type by its number; what is not one of the four is another
 unfoldable pub typeOf : ℕ → MessageType
@@ -21,3 +23,7 @@ outcomeOf n = cond (eqb n 0) Accepted (cond (eqb n 1) Rejected Dked)
 -- four rows after an answer; rows of another number stay
 unfoldable pub rowsRaised : List (List ℕ) → ℕ → ℕ → List (List ℕ)
 rowsRaised rows type outcome = cond (eqb (length rows) 4) (raised rows (typeOf type) (outcomeOf outcome)) rows
+
+-- four rows after a frame call whose answer two numbers say; where none says them, or the rows are not four, they stay
+unfoldable pub rowsAfter : List ℕ → List ℕ → List (List ℕ) → List (List ℕ)
+rowsAfter body said rows = cond (eqb (length rows) 4 && isSaid said) (tallyAfter body (answerIn said) rows) rows

@@ -1,8 +1,8 @@
 -- Four rows are read as a tally, one cell is raised, and they are written back; any other number of rows stays.
 use borrow.Author.Needs.{needs}
-use Rattle.exports_output.proofs.Rows.{not-four, rows-raised}
-use Rattle.exports_output.proofs.rhoikandra_tally_raise.Statement.{statement}
-use Rattle.exports_output.proofs.rhoikandra_tally_raise.Tie as tie
+use Rattle.exports_tally.proofs.Rows.{not-four, rows-raised}
+use Rattle.exports_tally.proofs.rhoikandra_tally_raise.Statement.{statement}
+use Rattle.exports_tally.proofs.rhoikandra_tally_raise.Tie as tie
 
 returns : tie.Need-returns
 returns c = not-four _ _ _ (c .if1 .taken)

@@ -1,8 +1,8 @@
 -- Each arm has the number that the definition asks for.
-use Rattle.exports_output.specs.Rows.{typeOf}
-use Rattle.exports_output.proofs.Rows.{other-type}
-use Rattle.exports_output.proofs.type_of.Statement.{statement}
-use Rattle.exports_output.proofs.type_of.Tie as tie
+use Rattle.exports_tally.specs.Rows.{typeOf}
+use Rattle.exports_tally.proofs.Rows.{other-type}
+use Rattle.exports_tally.proofs.type_of.Statement.{statement}
+use Rattle.exports_tally.proofs.type_of.Tie as tie
 
 returns : tie.Need-returns
 unfolding typeOf

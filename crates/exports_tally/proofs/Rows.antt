@@ -10,7 +10,7 @@ use Rattle.tally.specs.declared.MessageType.the-variants.{Other}
 use Rattle.tally.specs.declared.Outcome.{Outcome}
 use Rattle.tally.specs.declared.Outcome.the-variants.{Dked}
 use Rattle.tally.specs.Tally.{raised}
-use Rattle.exports_output.specs.Rows.{typeOf, outcomeOf, rowsRaised}
+use Rattle.exports_tally.specs.Rows.{typeOf, outcomeOf, rowsRaised}
 
 pub other-type : (n : ℕ) → (n ≡ 0 → ⊥) → (n ≡ 1 → ⊥) → (n ≡ 2 → ⊥) → (n ≡ 3 → ⊥) → Other ≡ typeOf n
 unfolding typeOf

@@ -1,8 +1,8 @@
 -- The answer is the one that its pattern names, so its numbers are too.
-use Rattle.exports_engine.proofs.Calling.{said-accepted, said-rejected, said-dked}
+use Rattle.answer_numbers.proofs.Saying.{said-accepted, said-rejected, said-dked}
 use borrow.Author.Needs.{needs}
-use Rattle.exports_engine.proofs.said_of.Statement.{statement}
-use Rattle.exports_engine.proofs.said_of.Tie as tie
+use Rattle.answer_numbers.proofs.said_of.Statement.{statement}
+use Rattle.answer_numbers.proofs.said_of.Tie as tie
 
 enum-known-answer : tie.Need-enum-known-answer
 enum-known-answer c = search needs

@@ -1,8 +1,8 @@
 -- Each store changes its own row, and the four of the tally are left.
 use borrow.Author.Needs.{needs}
-use Rattle.exports_output.proofs.Rows.{four}
-use Rattle.exports_output.proofs.put_rows.Statement.{statement}
-use Rattle.exports_output.proofs.put_rows.Tie as tie
+use Rattle.exports_tally.proofs.Rows.{four}
+use Rattle.exports_tally.proofs.put_rows.Statement.{statement}
+use Rattle.exports_tally.proofs.put_rows.Tie as tie
 
 array-copy-out-rows : tie.Need-array-copy-out-rows
 array-copy-out-rows c = search needs
