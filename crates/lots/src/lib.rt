@@ -3,12 +3,12 @@ use layout::Detail;
 use terminator::LotRead;
 use terminator::Mark;
 ghost use mathlib.Core.Path.{_≡_};
-ghost use Prim.Native.Nat.{_<_};
+ghost use Prim.Native.Nat.{_*_, _≤_};
 ghost use lib.ListN.{drop};
 ghost use Rattle.lists.proofs.Folds.{fold};
-ghost use Rattle.layout.specs.Details.{details, poolCount, detailAt, placeOf};
-ghost use Rattle.terminator.specs.Terminators.{markOf};
+ghost use Rattle.layout.specs.Details.{details, poolsMax};
 ghost use Rattle.terminator.specs.Lots.{replacementCount, goodMillions, formedFor, firstLot, lots};
+ghost use Rattle.lots.specs.Sums.{countNext, sumNext};
 ghost use Rattle.lots.specs.Walks.{walkOn, walkNext};
 
 // A walk over the pools: whether the lots are formed so far, and the lot that is begun, its position one and whether it is bad.
@@ -19,45 +19,90 @@ struct Walk {
     bad: bool,
 }
 
-// What the terminator of the i-th pool says.
-fn mark_at(body: &[u8], i: usize) -> Mark
-    requires { ⌜ i < poolCount (now body) ⌝ }
-    ensures { λ r. ⌜ r ≡ markOf (detailAt (now (body .entry)) (placeOf i)) ⌝ }
+// How many of the pools passed are replacements.
+struct Counted {
+    pools: usize,
+}
+
+// One pool more.
+fn count_next(s: Counted, d: Detail) -> Counted
+    requires { ⌜ s .pools ≤ poolsMax ⌝ }
+    ensures { λ r. ⌜ r ≡ countNext s d ⌝ }
 {
-    let d = layout::pool_at(body, i);
-    terminator::mark_of(d)
+    let pools = s.pools;
+    let m = terminator::mark_of(d);
+    if m.one == terminator::REPLACEMENT {
+        return Counted { pools: pools + 1 };
+    }
+    s
+}
+
+// Every pool of a message, by the detail reader.
+fn count_pools(body: &[u8], s: Counted) -> Counted
+    requires { ⌜ s .pools ≡ 0 ⌝ }
+    ensures { λ r. ⌜ r ≡ fold countNext s (details (now (body .entry))) ⌝ }
+{
+    let n = layout::pool_count(body);
+    let mut d = reader::new(body);
+    let mut s = s;
+    let mut i: usize = 0;
+    while i < n {
+        let step = reader::next(d);
+        s = count_next(s, step.detail);
+        d = reader::moved(d, step.next);
+        i += 1;
+    }
+    s
 }
 
 // The number of replacement pools.
 pub fn replacement_count(body: &[u8]) -> usize
     ensures { λ r. ⌜ r ≡ replacementCount (details (now (body .entry))) ⌝ }
 {
+    let s = count_pools(body, Counted { pools: 0 });
+    s.pools
+}
+
+// The millions of the pools passed.
+struct Summed {
+    millions: u64,
+}
+
+// One pool more.
+fn sum_next(s: Summed, d: Detail) -> Summed
+    requires { ⌜ s .millions ≤ 99 * poolsMax ⌝ }
+    ensures { λ r. ⌜ r ≡ sumNext s d ⌝ }
+{
+    let m = terminator::mark_of(d);
+    Summed {
+        millions: s.millions + m.millions,
+    }
+}
+
+// Every pool of a message, by the detail reader.
+fn sum_pools(body: &[u8], s: Summed) -> Summed
+    requires { ⌜ s .millions ≡ 0 ⌝ }
+    ensures { λ r. ⌜ r ≡ fold sumNext s (details (now (body .entry))) ⌝ }
+{
     let n = layout::pool_count(body);
-    let mut count: usize = 0;
+    let mut d = reader::new(body);
+    let mut s = s;
     let mut i: usize = 0;
     while i < n {
-        let m = mark_at(body, i);
+        let step = reader::next(d);
+        s = sum_next(s, step.detail);
+        d = reader::moved(d, step.next);
         i += 1;
-        if m.one == terminator::REPLACEMENT {
-            count += 1;
-        }
     }
-    count
+    s
 }
 
 // The sum of the good millions of a message's lots.
 pub fn good_millions(body: &[u8]) -> u64
     ensures { λ r. ⌜ r ≡ goodMillions (details (now (body .entry))) ⌝ }
 {
-    let n = layout::pool_count(body);
-    let mut sum: u64 = 0;
-    let mut i: usize = 0;
-    while i < n {
-        let m = mark_at(body, i);
-        i += 1;
-        sum += m.millions;
-    }
-    sum
+    let s = sum_pools(body, Summed { millions: 0 });
+    s.millions
 }
 
 fn walk_on(w: Walk, m: Mark, cc: bool) -> Walk
