@@ -21,14 +21,14 @@ abbrev pub rowsOf : ℕ → ℕ → ℕ
 rowsOf records live = min records (min recordsMax (live + poolsMax))
 
 -- a table whose first rows are those of the slices; rest tells whether its other records are zeros
-pub record Staged (b : Book) (ns ks : List (List ℕ)) (records : ℕ) (rest : Bool) (table : List Pool) : Type 0 where
-  pub size : length table ≡ records
-  pub rows : take (rowsOf records (b .live)) (tableOf ns ks) ≡ take (rowsOf records (b .live)) table
-  pub others : rest ≡ all isNone (drop (rowsOf records (b .live)) table)
+pub record Staged (b : Book) (ns ks : List (List ℕ)) (records : ℕ) (rest : Bool) (pools : List Pool) : Type 0 where
+  pub size : length pools ≡ records
+  pub rows : take (rowsOf records (b .live)) (tableOf ns ks) ≡ take (rowsOf records (b .live)) pools
+  pub others : rest ≡ all isNone (drop (rowsOf records (b .live)) pools)
 
 -- a table with the records from a up to e taken from the slices
 abbrev pub stored : List Pool → List (List ℕ) → List (List ℕ) → ℕ → ℕ → List Pool
-stored table ns ks a e = take a table ++ (tab (recordAt ns ks) (e - a) a ++ drop e table)
+stored pools ns ks a e = take a pools ++ (tab (recordAt ns ks) (e - a) a ++ drop e pools)
 
 -- ---- the records that a call changes: of so many live pools before it, and so many after it
 -- none where the message is refused; else from the first on, but an ON leaves every live pool where it is
