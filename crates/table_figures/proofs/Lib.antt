@@ -1,0 +1,3 @@
+pub mod MachineValues
+pub mod Blanks
+pub mod Saying
