@@ -1,6 +1,6 @@
 -- Two calls that differ in the table alone, and agree on its live records, on 42 and on 40: answer, book and output are alike.
 use Prim.Native.Nat.{ℕ}
-use mathlib.Core.Path.{_≡_, refl, sym, ap, _∙_}
+use mathlib.Core.Path.{_≡_, refl, ap, _∙_}
 use mathlib.Core.List.{List, [], _∷_}
 use mathlib.Core.Bool.{not}
 use Rattle.lists.specs.Lists.{any}

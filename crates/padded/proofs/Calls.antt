@@ -3,31 +3,23 @@ use Prim.Native.Nat.{ℕ, _+_, _-_, _≤_}
 use native.Mathlib.Omega.{arith}
 use mathlib.Core.Logic.{_⊎_, inl, inr}
 use mathlib.Core.Path.{_≡_, refl, sym, ap, _∙_}
-use mathlib.Core.List.{List, [], _++_, append-assoc}
-use mathlib.Core.Bool.{Bool, true, false, cond, not, _&&_, and-false}
-use lib.ListN.{length, take, drop, replicate, take-append-drop, length-append, length-drop, length-replicate, replicate-append-replicate}
-use lib.Seq.{length-take-le, take-append-le, take-append-seam, drop-append-seam, drop-drop}
-use lib.Dec.{leb}
-use borrow.Author.Tests.{le-leb, leb-true}
-use Rattle.lists.specs.Lists.{all, keep}
-use Rattle.lists.proofs.Tests.{all-right, keep-all}
+use mathlib.Core.List.{List, _++_, append-assoc}
+use mathlib.Core.Bool.{Bool, true, false, cond}
+use lib.ListN.{length, take, drop, replicate, take-append-drop, length-drop, replicate-append-replicate}
+use lib.Seq.{length-take-le}
+use borrow.Author.Tests.{le-leb}
 use Rattle.layout.specs.Details.{poolsMax, details}
 use Rattle.layout.proofs.Lengths.{count-max}
 use Rattle.layout.proofs.Reader.{length-details}
 use Rattle.faces.specs.Faces.{isNew, newPools}
-use Rattle.tally.specs.declared.MessageType.the-variants.{On}
 use Rattle.book.specs.declared.Book.{Book}
 use Rattle.book.specs.declared.Pool.{Pool}
-use Rattle.book.specs.Reasons.{isAccepted}
-use Rattle.book.specs.Records.{Fields, noPool, liveFields, recordsOf}
-use Rattle.book.specs.Messages.{typeOf, targetOf, under, listed, brought}
-use Rattle.book.specs.Soundness.{isNone, Sound}
-use Rattle.book.specs.Checks.{Call, live, concerned, isTaken, tableFine, answerOf}
+use Rattle.book.specs.Records.{noPool}
+use Rattle.book.specs.Messages.{listed}
+use Rattle.book.specs.Checks.{Call, tableFine, answerOf}
 use Rattle.book.specs.Step.{liveMoved, tableMoved, accepted, bookAfter, tableAfter, outputAfter}
-use Rattle.book.proofs.ListLaws.{all-replicate}
 use Rattle.book.proofs.Passed.{fine}
 use Rattle.book.proofs.Reached.{is-sound, moved-fits}
-use Rattle.book.proofs.Stepping.{listed-as}
 use Rattle.moves.proofs.Taking.{keep-most}
 use Rattle.engine.proofs.Bounds.{zeros-are}
 use Rattle.padded.proofs.Sound.{Padded, whole, same-live, same-sound}

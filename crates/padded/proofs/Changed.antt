@@ -16,7 +16,7 @@ use Rattle.book.specs.declared.Pool.{Pool}
 use Rattle.book.specs.Records.{fieldsOf, noPool, recordsOf}
 use Rattle.book.specs.Messages.{typeOf, targetOf, under, listedOf, listed, brought}
 use Rattle.book.specs.Soundness.{isNone, Sound}
-use Rattle.book.specs.Checks.{Call, live, concerned, isOn, isTaken, answerOf}
+use Rattle.book.specs.Checks.{Call, live, concerned, isOn, isTaken}
 use Rattle.book.specs.Step.{liveMoved, tableMoved, accepted, bookAfter, tableAfter}
 use Rattle.book.proofs.ListLaws.{all-replicate}
 use Rattle.book.proofs.Passed.{fine}
@@ -103,9 +103,6 @@ module _ (c : Call) where
     module _ (o : isOn (typeOf (c .body)) ≡ true) where
       size : length (live c) ≡ c .book .live
       size = length-take-le (c .book .live) (c .table) live-within
-
-      pub on-grows : c .book .live ≤ bookAfter c .live
-      on-grows = omega (arith, live-after, ap length (on-moved o), length-append (live c) new, size)
 
       pub on-stays : take (c .book .live) (tableAfter c) ≡ take (c .book .live) (c .table)
       on-stays =

@@ -1,8 +1,8 @@
 -- The two ways of an opening over a table of so many records, and the table with zeros in as many as it says.
 use Prim.Native.Nat.{ℕ}
-use mathlib.Core.Path.{_≡_, refl, sym, ap, _∙_}
+use mathlib.Core.Path.{_≡_, refl, sym, _∙_}
 use mathlib.Core.List.{List, _++_, append-nil}
-use mathlib.Core.Bool.{Bool, true, false, cond, not, _&&_, true≢false}
+use mathlib.Core.Bool.{Bool, true, false, not, _&&_}
 use lib.ListN.{length, drop, replicate}
 use lib.Seq.{drop-length}
 use lib.Dec.{leb}
@@ -36,3 +36,14 @@ module _ (v : Values) (records : ℕ) (values : Bool) (values-is : values ≡ va
         book = book-is;
         count = refl;
       }
+
+-- with zeros in as many records as it says, the table is the one that opening leaves
+pub opens : (v : Values) (t : List Pool) (r : Cleared) → OpensRecords v (length t) r → (t′ : List Pool) → t′ ≡ replicate (r .count) noPool ++ drop (r .count) t → Opens v t (r .opened) t′
+unfolding cleared
+opens v t r o t′ e =
+    record {
+      fine = o .fine t refl;
+      book = o .book;
+      zeros = λ f. e ∙ rw (o .count, f, drop-length t) (append-nil (replicate (length t) noPool));
+      stays = λ f. e ∙ rw (o .count, f);
+    }

@@ -1,9 +1,9 @@
 -- The first rows of two slices, and a table with some records taken from the rows.
 use Prim.Native.Nat.{ℕ, _+_, _-_, _≤_, _<_}
 use native.Mathlib.Omega.{arith}
-use mathlib.Core.Path.{_≡_, refl, sym, ap, _∙_}
+use mathlib.Core.Path.{_≡_, sym, ap, _∙_}
 use mathlib.Core.List.{List, [], _++_}
-use lib.ListN.{length, take, drop, getD, take-append-drop, length-append, length-drop, List·getD-append}
+use lib.ListN.{length, take, drop, take-append-drop, length-drop, List·getD-append}
 use lib.Seq.{length-take-le, drop-append-le, take-append-le, getD-take, drop-drop}
 use Rattle.lists.specs.Lists.{tab}
 use Rattle.lists.proofs.Tables.{take-tab, tab-same}

@@ -1,6 +1,6 @@
 -- A trade's figures by the staged rows are those by the table.
 use Prim.Native.Nat.{ℕ, _≤_}
-use mathlib.Core.Path.{_≡_, refl, sym, ap, _∙_}
+use mathlib.Core.Path.{_≡_, sym, ap, _∙_}
 use mathlib.Core.List.{List}
 use mathlib.Core.Bool.{Bool, true, false, not, _||_}
 use lib.ListN.{length, take}
@@ -13,7 +13,7 @@ use Rattle.book.specs.Soundness.{isSound}
 use Rattle.table.specs.Rows.{tableOf}
 use Rattle.figures.specs.declared.Figures.{Figures}
 use Rattle.figures.specs.Saying.{unknown, figuresOf}
-use Rattle.padded.specs.Staged.{rowsOf, Staged}
+use Rattle.padded.specs.Staged.{rowsOf}
 use Rattle.padded.specs.Moving.{SaysRows}
 use Rattle.padded.proofs.Sound.{Padded, same-live, same-sound}
 use Rattle.padded.proofs.Staging.{counted, test-unsound, test-padded, staged-rows}

@@ -4,17 +4,16 @@ use native.Mathlib.Omega.{arith}
 use mathlib.Core.Logic.{_⊎_, inl, inr}
 use mathlib.Core.Path.{_≡_, refl, sym, ap, _∙_}
 use mathlib.Core.List.{List, _++_}
-use mathlib.Core.Bool.{Bool, true, false, _&&_, and-false}
+use mathlib.Core.Bool.{Bool, true, false, _&&_}
 use lib.ListN.{length, take, drop, take-append-drop}
-use lib.Seq.{length-take-le, take-all, take-take, drop-append-le, drop-drop}
-use lib.Dec.{leb}
-use borrow.Author.Tests.{le-leb, lt-leb, leb-true}
+use lib.Seq.{length-take-le, take-all, take-take, drop-append-le}
+use borrow.Author.Tests.{le-leb, leb-true}
 use Rattle.lists.specs.Lists.{all}
 use Rattle.lists.proofs.Tests.{all-append, all-right, clash, un-true}
 use Rattle.layout.specs.Details.{poolsMax}
 use Rattle.book.specs.declared.Book.{Book}
 use Rattle.book.specs.declared.Pool.{Pool}
-use Rattle.book.specs.Opening.{recordsMax, valuesFine}
+use Rattle.book.specs.Opening.{recordsMax}
 use Rattle.book.specs.Soundness.{liveOf, isNone, Sound, isSound}
 use Rattle.book.proofs.Reached.{is-sound}
 

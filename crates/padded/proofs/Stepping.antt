@@ -1,5 +1,5 @@
 -- The frame call on the staged rows leaves what the frame call on the table leaves.
-use Prim.Native.Nat.{ℕ, _≤_, _<_}
+use Prim.Native.Nat.{ℕ, _≤_}
 use native.Mathlib.Omega.{arith}
 use mathlib.Core.Path.{_≡_, refl, sym, ap, _∙_}
 use mathlib.Core.List.{List, _++_}
@@ -22,7 +22,8 @@ use Rattle.engine.specs.declared.Stepped.{Stepped}
 use Rattle.engine.specs.Frames.{Steps, Frames}
 use Rattle.engine.proofs.Answering.{unsound-answer}
 use Rattle.padded.specs.declared.Moved.{Moved}
-use Rattle.padded.specs.Staged.{rowsOf, fromOf, toOf, Staged}
+use Rattle.padded.specs.Staged.{rowsOf, fromOf, toOf, stored, Staged}
+use Rattle.padded.specs.Calls.{Framed}
 use Rattle.padded.specs.Moving.{Moves, StepsRows}
 use Rattle.padded.proofs.Sound.{Padded}
 use Rattle.padded.proofs.Alike.{on}
@@ -48,6 +49,7 @@ module _ (b : Book) (body time out : List ℕ) where
         ordered = omega arith;
         within = omega arith;
         staged = omega arith;
+        stagedKeys = omega arith;
       }
 
   module _ (ns ks : List (List ℕ)) (records : ℕ) (rest : Bool) where
@@ -80,6 +82,9 @@ module _ (b : Book) (body time out : List ℕ) where
       long : length (ms ++ drop rows ns) ≡ length ns
       long = length-front ns ms rows ln
 
+      long-keys : length (js ++ drop rows ks) ≡ length ks
+      long-keys = length-front ks js rows lk
+
       rows-move : (t : List Pool) → Staged b ns ks records rest t
           → Moves b t body time out (record { stepped = r; from = from; to = to }) (ms ++ drop rows ns) (js ++ drop rows ks) out′
       rows-move t s =
@@ -91,6 +96,7 @@ module _ (b : Book) (body time out : List ℕ) where
             ordered = rw (from-is, to-is) (st .ordered);
             within = omega (arith, to-is, st .within, p .within);
             staged = omega (arith, to-is, st .within, long, hn);
+            stagedKeys = omega (arith, to-is, st .within, long-keys, hk);
           }
         where
           p : Padded b t m
@@ -124,4 +130,9 @@ module _ (b : Book) (body time out : List ℕ) where
           to-is = et ∙ rw (answer, book)
 
       pub rows-step : StepsRows b ns ks records rest body time out (record { stepped = r; from = from; to = to }) (ms ++ drop rows ns) (js ++ drop rows ks) out′
-      rows-step = record { moves = rows-move; numbers = long; keys = length-front ks js rows lk }
+      rows-step = record { moves = rows-move; numbers = long; keys = long-keys }
+
+-- with the records that it names stored, the table is that after the frame call
+pub framed : (b : Book) (t : List Pool) (body time out : List ℕ) (r : Moved) (ns ks : List (List ℕ)) (out′ : List ℕ) → Moves b t body time out r ns ks out′
+    → (t′ : List Pool) → t′ ≡ stored t ns ks (r .from) (r .to) → Framed b t body time out (r .stepped) t′ out′
+framed b t body time out r ns ks out′ m t′ e = record { answer = m .answer; book = m .book; table = e ∙ m .table; output = m .output }

@@ -17,7 +17,7 @@ use Rattle.padded.specs.Staged.{fromOf, toOf, stored}
 use Rattle.padded.proofs.Sound.{Padded}
 use Rattle.padded.proofs.Alike.{on}
 use Rattle.padded.proofs.Calls.{same-answer, same-book, table-padded}
-use Rattle.padded.proofs.Changed.{refused-table, live-within, after-within, rest-stays, on-grows, on-stays}
+use Rattle.padded.proofs.Changed.{refused-table, live-within, after-within, rest-stays, on-stays}
 use Rattle.padded.proofs.Rows.{stored-is}
 
 -- records from a up to e, of which there are m, make a table of another

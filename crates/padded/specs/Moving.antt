@@ -2,7 +2,7 @@
 use Prim.Native.Nat.{ℕ, _≤_}
 use mathlib.Core.Path.{_≡_}
 use mathlib.Core.List.{List}
-use mathlib.Core.Bool.{Bool, true, cond}
+use mathlib.Core.Bool.{Bool, cond}
 use lib.ListN.{length}
 use Rattle.book.specs.declared.Values.{Values}
 use Rattle.book.specs.declared.Book.{Book}
@@ -25,6 +25,7 @@ pub record Moves (b : Book) (pools : List Pool) (body time out : List ℕ) (r : 
   pub ordered : r .from ≤ r .to
   pub within : r .to ≤ length pools
   pub staged : r .to ≤ length ns′
+  pub stagedKeys : r .to ≤ length ks′
 
 pub record StepsRows (b : Book) (ns ks : List (List ℕ)) (records : ℕ) (rest : Bool) (body time out : List ℕ) (r : Moved) (ns′ ks′ : List (List ℕ)) (out′ : List ℕ) : Type 0 where
   pub moves : (pools : List Pool) → Staged b ns ks records rest pools → Moves b pools body time out r ns′ ks′ out′

@@ -8,7 +8,7 @@ use figures::Figures;
 use opened::Opened;
 use tally::MessageType;
 ghost use mathlib.Core.Path.{_≡_};
-ghost use Prim.Native.Nat.{_+_, _≤_, min, max};
+ghost use Prim.Native.Nat.{_+_, _≤_, min};
 ghost use lib.ListN.{length};
 ghost use Rattle.layout.specs.Details.{poolsMax};
 ghost use Rattle.book.specs.Opening.{recordsMax};

@@ -1,3 +1,4 @@
+-- A table that fails the test is unsound; of every other the rows say what the table says.
 use Rattle.padded.proofs.Staging.{counted}
 use Rattle.padded.proofs.Saying.{unsound-says, rows-say}
 use borrow.Author.Needs.{needs}

@@ -1,3 +1,4 @@
+-- The book and the test of 41 come from the two calls before the branch.
 use Rattle.padded.proofs.Opening.{refused, passed}
 use borrow.Author.Needs.{needs}
 use Rattle.padded.proofs.open_rows.Statement.{statement}

@@ -1,3 +1,4 @@
+-- A table that fails the test is unsound; of every other the call on the rows is the call on the table.
 use Rattle.padded.proofs.Staging.{counted}
 use Rattle.padded.proofs.Stepping.{unsound-rows, rows-step}
 use borrow.Author.Needs.{needs}

@@ -1,3 +1,4 @@
+-- The end is the greater of the two counts of live pools where the answer is accepted.
 use native.Mathlib.Omega.{arith}
 use borrow.Author.Needs.{needs}
 use Rattle.padded.proofs.to_of.Statement.{statement}
