@@ -5,7 +5,6 @@ use Prim.Native.Nat.{ℕ}
 use lib.ListN.{length, getD}
 use Rattle.lists.specs.Lists.{part}
 use Rattle.lists.proofs.Tables.{table-of}
-use Rattle.book.specs.declared.Pool.{Pool}
 use Rattle.table.proofs.Rows.{recordIn}
 
 pub record-bytes : (row key : List ℕ) → length key ≡ 22

@@ -1,8 +1,10 @@
 -- A list into which the elements that a function of the index gives are written one after another, from a place on.
 --     written f from ys i      the elements from that place up to i are written, and the others are those of ys
+--     written-is               the same, written out
 --     written-none             nothing is written yet
+--     length-written           the list is as long as before
 --     written-more             the element at i is written next
---     written-same             where one element is written from the front
+--     written-same             the same element is written everywhere, from the front
 use mathlib.Core.Path.{_≡_, refl, sym, ap, _∙_}
 use mathlib.Core.List.{List, [], _∷_, _++_, append-assoc}
 use Prim.Native.Nat.{ℕ, zero, suc, _+_, _-_, _≤_, _<_}
@@ -73,7 +75,7 @@ module _ {A : Type 0} (f : ℕ → A) (from : ℕ) (ys : List A) where
         ∙ ap (λ (l : List A). take from ys ++ l) (sym (append-assoc (tab f (i - from) from) (f i ∷ []) (drop (suc i) ys)))
         ∙ ap (λ (l : List A). take from ys ++ (l ++ drop (suc i) ys)) (sym one-after)
 
--- one element from the front
+-- the same element everywhere, from the front
 pub written-same : {A : Type 0} (z : A) (ys : List A) (n : ℕ) → written (λ _. z) 0 ys n ≡ replicate n z ++ drop n ys
 unfolding written
 written-same {A} z ys n = ap (λ (l : List A). l ++ drop n ys) (ap (λ (k : ℕ). tab (λ _. z) k 0) (sub-zero n) ∙ tab-same-element z n 0)

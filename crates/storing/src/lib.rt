@@ -3,7 +3,7 @@ use book::Pool;
 ghost use mathlib.Core.Path.{_≡_};
 ghost use mathlib.Core.List.{[], _∷_, _++_};
 ghost use Prim.Native.Nat.{_-_, _<_, _≤_};
-ghost use lib.ListN.{length, take, drop};
+ghost use lib.ListN.{length, take, drop, replicate};
 ghost use Rattle.lists.specs.Lists.{tab};
 ghost use Rattle.book.specs.Records.{noPool};
 ghost use Rattle.table.specs.Rows.{recordAt};
@@ -36,7 +36,7 @@ fn record_in(row: [u64; 6], key: [u8; 22]) -> Pool
 }
 
 // The i-th record of the rows.
-pub fn record_of(numbers: &[[u64; 6]], keys: &[[u8; 22]], i: usize) -> Pool
+fn record_of(numbers: &[[u64; 6]], keys: &[[u8; 22]], i: usize) -> Pool
     requires { ⌜ (i < length (now numbers)) × (i < length (now keys)) ⌝ }
     ensures { λ r. ⌜ r ≡ recordAt (now (numbers .entry)) (now (keys .entry)) i ⌝ }
 {
@@ -46,7 +46,7 @@ pub fn record_of(numbers: &[[u64; 6]], keys: &[[u8; 22]], i: usize) -> Pool
 }
 
 // The record of zeros.
-pub fn none() -> Pool
+fn none() -> Pool
     ensures { λ r. ⌜ r ≡ noPool ⌝ }
 {
     Pool {
@@ -71,6 +71,19 @@ pub fn store(pools: &mut [Pool], from: usize, to: usize, numbers: &[[u64; 6]], k
     let mut i = from;
     while i < to {
         let p = record_of(numbers, keys, i);
+        pools[i] = p;
+        i += 1;
+    }
+}
+
+// Puts zeros into the first records of the table.
+pub fn clear(pools: &mut [Pool], count: usize)
+    requires { ⌜ count ≤ length (now pools) ⌝ }
+    ensures { λ _. ⌜ now (pools .exit) ≡ replicate count noPool ++ drop count (now (pools .entry)) ⌝ }
+{
+    let p = none();
+    let mut i: usize = 0;
+    while i < count {
         pools[i] = p;
         i += 1;
     }
