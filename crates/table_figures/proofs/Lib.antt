@@ -1,3 +1,2 @@
 pub mod MachineValues
-pub mod Blanks
 pub mod Saying

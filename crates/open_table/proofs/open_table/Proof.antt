@@ -44,7 +44,7 @@ use Rattle.records.proofs.Row.{R}
 use Rattle.padded.specs.declared.Cleared.{Cleared}
 use Rattle.padded.specs.Moving.{OpensRecords}
 use Rattle.padded.specs.Calls.{Opens}
-use Rattle.open_table.proofs.MachineValues.{ValuesR, valuesVal, valuesVals, values-tells, values-makes, values-typed, OpenedR, openedVal, openedVals, opened-makes, opened-typed, ClearedR, clearedVal, cleared-typed, cleared-is, opened-of, count-fits}
+use Rattle.open_table.proofs.MachineValues.{ValuesR, valuesVal, valuesVals, values-tells, values-makes, values-typed, OpenedR, openedVal, openedVals, opened-makes, opened-typed, ClearedR, cleared-typed, cleared-is, opened-of, count-fits}
 use Rattle.open_table.proofs.Cleared.{within, opens}
 use Rattle.padded.proofs.open_rows as op
 use Rattle.padded.proofs.open_rows.Symbol as open-def
