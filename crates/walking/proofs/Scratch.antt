@@ -1,5 +1,6 @@
 -- A local array `[x; n]` in a walk of the MIR: as it is made, as the elements that are lent as a slice, and as room again.
 --     repeatVal        the machine value of n times u
+--     repeat-is        it is that of n times x, where u is x's
 --     repeat-typed     it has the array's MIR type
 --     repeat-out       the array in its local  ⊢  its n elements
 --     elems-room       n elements  ⊢  room for the array
@@ -40,7 +41,7 @@ module _ (R : RattleType) where
   each-is zero x u g = tt
   each-is (suc n) x u g = (g, each-is n x u g)
 
-  repeat-is : (n : ℕ) (x : R .Denot) (u : Val) → Is R x (u ∷ []) → Is (Array R n) (replicate n x) (repeatVal n u ∷ [])
+  pub repeat-is : (n : ℕ) (x : R .Denot) (u : Val) → Is R x (u ∷ []) → Is (Array R n) (replicate n x) (repeatVal n u ∷ [])
   repeat-is n x u g = (replicate n u, ((refl, length-replicate n x), each-is n x u g))
 
   module _ {M : Type 1} (𝓤 : URA M) (H : Heap 𝓤) (A : Atoms 𝓤) (W : Given 𝓤 H A) where
