@@ -1,6 +1,6 @@
 -- A local array `[x; n]` in a walk of the MIR: as it is made, as the elements that are lent as a slice, and as room again.
 --     repeatVal        the machine value of n times u
---     repeat-is        it is that of n times x
+--     repeat-is        it is that of n times x, where u is x's
 --     repeat-typed     it has the array's MIR type
 --     repeat-out       the array in its local  ⊢  its n elements
 --     elems-room       n elements  ⊢  room for the array

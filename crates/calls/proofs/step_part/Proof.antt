@@ -1,6 +1,6 @@
 -- `step_part` meets its contract, by a walk of its MIR: two local arrays of rows are lent to `step_with`, and table, tape and output are handed on.
 use mathlib.Core.Path.{_≡_, refl, sym, _∙_, subst}
-use Prim.Native.Nat.{ℕ, zero, suc, _-_, _<_, _≤_, _^_}
+use Prim.Native.Nat.{ℕ, _-_, _<_, _≤_, _^_}
 use mathlib.Core.List.{List, [], _∷_}
 use lib.ListN.{length, replicate, length-replicate}
 use lib.Dec.{T as Holds, lit<}
@@ -24,11 +24,10 @@ use types.Tokens.{lft-new, lft-end}
 use types.Run.{look, init, forget, stop, hop, fld, from, load, lit, addr, and-then, no-more, assigns, land, returns, enter, alloc1, alloc0, params1, pass1, pass0, free1, free0}
 use sound.WpLaws.{fmOf, WpFn-mono}
 use denote.RattleType.{RattleType, owns}
-use denote.Shadow.{shadow}
 use denote.Laws.{Is, shows}
 use denote.Memory as memory
 use denote.Plain.{uint-makes, uint-lawful, uint-vals, uint-tells}
-use denote.Array.{Array, each, array-lawful, array-makes}
+use denote.Array.{Array, array-lawful, array-makes}
 use denote.Builtin.{u8, u64, usize}
 use denote.Ref.{RefT, now}
 use denote.Slice.{sliceVal, ShrSlice, MutSlice, Room, finally, slice-vals, shr-slice-tells, mut-slice-tells}
@@ -44,7 +43,7 @@ use denote.Triple.Table.{entered, cited}
 use denote.Triple.Walked.{says, needs, Stays, stay-dropped, gave-slice, walkOf, goes-dropped, goes-gave-slice, Walks, ends-at, walked, walk-meets}
 use denote.Exit.{yes}
 use Rattle.walking.proofs.Count.{tyOf, big-lit}
-use Rattle.walking.proofs.Scratch.{repeatVal, repeat-typed, repeat-out, elems-room}
+use Rattle.walking.proofs.Scratch.{repeatVal, repeat-is, repeat-typed, repeat-out, elems-room}
 use Rattle.lists.specs.Lists.{part}
 use Rattle.book.specs.declared.Book.{Book}
 use Rattle.book.specs.declared.Pool.{Pool}
@@ -122,14 +121,6 @@ rows-are n row = refl
 long : (row : List ℕ) → length (rowsOf 4096 row) ≡ 4096
 long row = subst (λ (zs : Rows). length zs ≡ 4096) (rows-are 4096 row) (length-replicate 4096 row)
 
-each-number : (n : ℕ) → shadow (each ℕ (u64 .own) (replicate n 0) (replicate n (vint w64 0)))
-each-number zero = tt
-each-number (suc n) = ((refl, lit< tt), each-number n)
-
-each-byte : (n : ℕ) → shadow (each ℕ (u8 .own) (replicate n 0) (replicate n (vint w8 0)))
-each-byte zero = tt
-each-byte (suc n) = ((refl, lit< tt), each-byte n)
-
 abbrev number-row : List ℕ
 number-row = replicate 6 0
 
@@ -137,10 +128,10 @@ abbrev key-row : List ℕ
 key-row = replicate 22 0
 
 is-number-row : Is N number-row (repeatVal 6 (vint w64 0) ∷ [])
-is-number-row = (replicate 6 (vint w64 0), ((refl, refl), each-number 6))
+is-number-row = repeat-is u64 6 0 (vint w64 0) (refl, lit< tt)
 
 is-key-row : Is K key-row (repeatVal 22 (vint w8 0) ∷ [])
-is-key-row = (replicate 22 (vint w8 0), ((refl, refl), each-byte 22))
+is-key-row = repeat-is u8 22 0 (vint w8 0) (refl, lit< tt)
 
 -- the arrays as they are made, with a variable for the count
 module _ {M : Type 1} (𝓤 : URA M) (H : Heap 𝓤) (A : Atoms 𝓤) (W : Given 𝓤 H A) (m : ℕ) where
