@@ -2,31 +2,42 @@
 use Prim.Native.Nat.{ℕ}
 use mathlib.Core.Path.{_≡_, refl, sym, ap, _∙_}
 use mathlib.Core.List.{List}
-use mathlib.Core.Bool.{Bool, true, false, not, true≢false, _&&_}
+use mathlib.Core.Bool.{Bool, true, false, cond, true≢false}
 use lib.ListN.{length}
-use lib.Dec.{eqb}
-use borrow.Author.Tests.{eqb-true, not-true, not-false}
-use Rattle.lists.proofs.Tests.{and-left, and-right}
 use Rattle.lists.specs.Lists.{pasted}
+use Rattle.lists.proofs.Tests.{and-left}
+use Rattle.lists.proofs.Pasting.{paste-whole}
 use Rattle.book.specs.declared.Book.{Book}
+use Rattle.book.specs.declared.Pool.{Pool}
 use Rattle.book.specs.declared.Answer.{Answer}
 use Rattle.book.specs.declared.Answer.the-variants.{Accepted, Rejected, Dked}
 use Rattle.book.specs.declared.Reason.the-variants.{Unsound}
 use Rattle.book.specs.Reasons.{isAccepted}
 use Rattle.book.specs.Checks.{Call, answerOf}
-use Rattle.book.specs.Step.{isSilent, bookAfter}
-use Rattle.trader.specs.Decisions.{callOn}
-use Rattle.lists.proofs.Pasting.{paste-whole}
-use Rattle.image.proofs.Kept.{image-again}
+use Rattle.book.specs.Step.{isSilent, bookAfter, tableAfter, outputAfter, outputFor, callWith}
 use Rattle.answer_numbers.specs.Said.{saidOf}
 use Rattle.image.specs.Images.{isImage, bookIn, imageOf}
+use Rattle.image.proofs.Kept.{image-again}
 use Rattle.engine.specs.declared.Stepped.{Stepped}
-use Rattle.engine.specs.Frames.{Frames}
-use Rattle.exports_engine.specs.Calls.{timeWidth, callable, StepsTo, Calls}
+use Rattle.engine.proofs.Answering.{unsound-answer}
+use Rattle.padded.specs.Calls.{Framed}
+use Rattle.exports_engine.specs.Reading.{Reads}
+use Rattle.exports_engine.specs.Calls.{timeWidth, callable, Finishes, StepsTo, Refuses, Calls}
+use Rattle.exports_engine.proofs.Reading.{values-unsound, callable-six}
 
-pub answer-written : (said after two : List ℕ) (a : Answer) → after ≡ pasted said 0 two → two ≡ saidOf a → after ≡ pasted said 0 (saidOf a)
-answer-written said after two a e n = e ∙ ap (pasted said 0) n
+-- ---- the end of a call
+module _ (ws said : List ℕ) (r : Stepped) (silent : Bool) (silent-is : silent ≡ isSilent (r .answer)) (two said′ : List ℕ) (two-is : two ≡ saidOf (r .answer)) (said-is : said′ ≡ pasted said 0 two) where
+  pub finish-silent : silent ≡ true → Finishes ws said r ws said′
+  finish-silent t =
+      let e : isSilent (r .answer) ≡ true = sym silent-is ∙ t in
+      record { image = rw e; answer = said-is ∙ ap (pasted said 0) two-is }
 
+  pub finish-written : silent ≡ false → (ws′ : List ℕ) → ws′ ≡ pasted ws 0 (imageOf (r .book)) → Finishes ws said r ws′ said′
+  finish-written n ws′ w =
+      let e : isSilent (r .answer) ≡ false = sym silent-is ∙ n in
+      record { image = rw e w; answer = said-is ∙ ap (pasted said 0) two-is }
+
+-- ---- the call
 silent-refuses : (a : Answer) → isSilent a ≡ true → isAccepted a ≡ false
 silent-refuses (Accepted id) e = absurd (true≢false (sym e))
 silent-refuses (Rejected r) e = refl
@@ -36,67 +47,57 @@ silent-book : (c : Call) → isSilent (answerOf c) ≡ true → bookAfter c ≡ 
 unfolding bookAfter
 silent-book c e = rw (e, silent-refuses (answerOf c) e)
 
-module _ (ws : List ℕ) (ns ks : List (List ℕ)) (body time out said ws′ : List ℕ) (ns′ ks′ : List (List ℕ)) (out′ said′ : List ℕ) where
-  pub stepped : (b : Book) (r : Stepped) → length ks ≡ length ns → Frames b ns ks body time out r ns′ ks′ out′
-      → ws′ ≡ pasted ws 0 (imageOf (r .book)) → said′ ≡ pasted said 0 (saidOf (r .answer))
-      → StepsTo b ws ns ks body time out said ws′ ns′ ks′ out′ said′
-  stepped b r l f ei es =
-      let s = f .steps l in
+-- a silent refusal moves nothing, so the words of the book after it are the words as they are
+either : (ws : List ℕ) (b : Book) (silent : Bool) → (silent ≡ true → imageOf b ≡ ws) → cond silent ws (pasted ws 0 (imageOf b)) ≡ pasted ws 0 (imageOf b)
+either ws b true e = sym (paste-whole ws ws refl) ∙ ap (pasted ws 0) (sym (e refl))
+either ws b false e = refl
+
+module _ (b : Book) (ws : List ℕ) (pools : List Pool) (body time out said : List ℕ) (r : Stepped) (ws′ : List ℕ) (pools′ : List Pool) (out′ said′ : List ℕ) (framed : Framed b pools body time out r pools′ out′) (ended : Finishes ws said r ws′ said′) where
+  abbrev c : Call
+  c = callWith b pools body out
+
+  steps-to : imageOf b ≡ ws → StepsTo b ws pools body time out said ws′ pools′ out′ said′
+  steps-to e =
       record {
-        image = ei ∙ ap (λ (k : Book). pasted ws 0 (imageOf k)) (s .book);
-        table = s .table;
-        output = s .output;
-        answer = es ∙ ap (λ (a : Answer). pasted said 0 (saidOf a)) (s .answer);
+        image = ended .image ∙ either ws (r .book) (isSilent (r .answer)) kept ∙ ap (λ (k : Book). pasted ws 0 (imageOf k)) (framed .book);
+        table = framed .table;
+        output = framed .output;
+        answer = ended .answer ∙ ap (λ (a : Answer). pasted said 0 (saidOf a)) (framed .answer);
+      }
+    where
+      kept : isSilent (r .answer) ≡ true → imageOf (r .book) ≡ ws
+      kept s = ap imageOf (framed .book ∙ silent-book c (sym (ap isSilent (framed .answer)) ∙ s)) ∙ e
+
+  table-stays : answerOf c ≡ Rejected Unsound → tableAfter c ≡ pools
+  unfolding tableAfter
+  table-stays e = rw e
+
+  output-stays : answerOf c ≡ Rejected Unsound → outputAfter c time out ≡ out
+  unfolding outputAfter outputFor
+  output-stays e = rw e
+
+  refused-with : answerOf c ≡ Rejected Unsound → Refuses ws pools out said ws′ pools′ out′ said′
+  refused-with e =
+      let a : r .answer ≡ Rejected Unsound = framed .answer ∙ e in
+      record {
+        image = ended .image ∙ ap (λ (k : Answer). cond (isSilent k) ws (pasted ws 0 (imageOf (r .book)))) a;
+        table = framed .table ∙ table-stays e;
+        output = framed .output ∙ output-stays e;
+        answer = ended .answer ∙ ap (λ (k : Answer). pasted said 0 (saidOf k)) a;
       }
 
-  -- a silent refusal moves nothing, so the words stay as they are
-  pub silently : (b : Book) (r : Stepped) (silent : Bool) → length ks ≡ length ns → imageOf b ≡ ws → Frames b ns ks body time out r ns′ ks′ out′
-      → silent ≡ isSilent (r .answer) → silent ≡ true → said′ ≡ pasted said 0 (saidOf (r .answer))
-      → StepsTo b ws ns ks body time out said ws ns′ ks′ out′ said′
-  silently b r silent l ew f e t es =
-      let s = f .steps l in
-      let kept : bookAfter (callOn b ns ks body (length out)) ≡ b = silent-book (callOn b ns ks body (length out)) (sym (ap isSilent (s .answer)) ∙ sym e ∙ t) in
-      record {
-        image = sym (paste-whole ws ws refl) ∙ ap (pasted ws 0) (sym ew ∙ ap imageOf (sym kept));
-        table = s .table;
-        output = s .output;
-        answer = es ∙ ap (λ (a : Answer). pasted said 0 (saidOf a)) (s .answer);
-      }
+image-known : (ws time : List ℕ) → callable ws time ≡ true → isImage ws ≡ true
+unfolding callable
+image-known ws time e = and-left (isImage ws) _ e
 
-module _ (ws : List ℕ) (ns ks : List (List ℕ)) (time : List ℕ) (known : Bool) (known-is : known ≡ isImage ws) where
-  abbrev pub test : Bool
-  test = known && (eqb (length ks) (length ns) && eqb (length time) timeWidth)
-
-  test-is : test ≡ callable ws ns ks time
-  unfolding callable
-  test-is = rw known-is
-
-  pub test-paired : not test ≡ false → length ks ≡ length ns
-  test-paired n = eqb-true (length ks) (length ns) (and-left (eqb (length ks) (length ns)) (eqb (length time) timeWidth) (and-right known (eqb (length ks) (length ns) && eqb (length time) timeWidth) (not-false test n)))
-
-  pub test-six : not test ≡ false → length time ≡ timeWidth
-  test-six n = eqb-true (length time) timeWidth (and-right (eqb (length ks) (length ns)) (eqb (length time) timeWidth) (and-right known (eqb (length ks) (length ns) && eqb (length time) timeWidth) (not-false test n)))
-
-  test-known : not test ≡ false → known ≡ true
-  test-known n = and-left known (eqb (length ks) (length ns) && eqb (length time) timeWidth) (not-false test n)
-
-  pub test-image : (b : Book) → (known ≡ true → b ≡ bookIn ws) → not test ≡ false → imageOf b ≡ ws
-  test-image b eb n = ap imageOf (eb (test-known n)) ∙ image-again ws (sym known-is ∙ test-known n)
-
-  pub refused : (body out said said′ : List ℕ) → not test ≡ true → said′ ≡ pasted said 0 (saidOf (Rejected Unsound))
-      → Calls ws ns ks body time out said ws ns ks out said′
-  refused body out said said′ n e =
-      record {
-        steps = λ t. absurd (true≢false (sym t ∙ sym test-is ∙ not-true test n));
-        refuses = λ f. record { image = refl; numbers = refl; keys = refl; output = refl; answer = e };
-      }
-
-  pub called : (b : Book) (six body out said ws′ : List ℕ) (ns′ ks′ : List (List ℕ)) (out′ said′ : List ℕ)
-      → (known ≡ true → b ≡ bookIn ws) → not test ≡ false → six ≡ time
-      → StepsTo b ws ns ks body six out said ws′ ns′ ks′ out′ said′
-      → Calls ws ns ks body time out said ws′ ns′ ks′ out′ said′
-  called b six body out said ws′ ns′ ks′ out′ said′ eb n et s =
-      record {
-        steps = λ t. rw (eb (test-known n), et) at s;
-        refuses = λ f. absurd (true≢false (sym (not-false test n) ∙ test-is ∙ f));
-      }
+pub called : (ws : List ℕ) (pools : List Pool) (body time out said : List ℕ) (b : Book) (six : List ℕ) (r : Stepped) (ws′ : List ℕ) (pools′ : List Pool) (out′ said′ : List ℕ)
+    → Reads (callable ws time) ws b → (length time ≡ timeWidth → six ≡ time) → Framed b pools body six out r pools′ out′ → Finishes ws said r ws′ said′
+    → Calls ws pools body time out said ws′ pools′ out′ said′
+called ws pools body time out said b six r ws′ pools′ out′ said′ reads sixes framed ended =
+    record {
+      steps = λ t.
+          let eb : b ≡ bookIn ws = reads .book t in
+          let et : six ≡ time = sixes (callable-six ws time t) in
+          rw (eb, et) at (steps-to b ws pools body six out said r ws′ pools′ out′ said′ framed ended (ap imageOf eb ∙ image-again ws (image-known ws time t)));
+      refuses = λ n. refused-with b ws pools body six out said r ws′ pools′ out′ said′ framed ended (unsound-answer (callWith b pools body out) (values-unsound b pools (reads .none n)));
+    }

@@ -1,3 +1,5 @@
+mod Reading
+mod Passing
 mod Calling
 mod Opening
 mod Saying

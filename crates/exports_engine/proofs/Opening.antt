@@ -1,55 +1,63 @@
--- The ways of an opening on words: words that are no book's, values or a table that 41 refuses, and an opening that passes.
+-- An opening on words passes where it can, and is refused where it cannot.
 use Prim.Native.Nat.{ℕ}
-use mathlib.Core.Path.{_≡_, refl, sym, ap, _∙_}
+use mathlib.Core.Path.{_≡_, refl, ap, _∙_}
 use mathlib.Core.List.{List}
-use mathlib.Core.Bool.{Bool, true, false, not, true≢false, _&&_}
-use lib.ListN.{length}
-use lib.Dec.{eqb}
-use borrow.Author.Tests.{not-true, not-false}
+use mathlib.Core.Bool.{Bool, true, false, cond, _&&_}
 use Rattle.lists.specs.Lists.{pasted}
+use Rattle.book.specs.declared.Values.{Values}
 use Rattle.book.specs.declared.Book.{Book}
-use Rattle.book.specs.Opening.{openingFine}
-use Rattle.table.specs.Rows.{tableOf}
+use Rattle.book.specs.declared.Pool.{Pool}
+use Rattle.book.specs.Opening.{openingFine, opened}
 use Rattle.image.specs.Images.{isImage, bookIn, imageOf}
 use Rattle.opened.specs.declared.Opened.{Opened}
-use Rattle.opened.specs.Opening.{Opens}
-use Rattle.exports_engine.specs.Opening.{openable, Opening}
+use Rattle.padded.specs.Calls.{Opens}
+use Rattle.exports_engine.specs.Reading.{ReadsValues}
+use Rattle.exports_engine.specs.Opening.{openable, OpensTo, Opening}
+use Rattle.exports_engine.proofs.Reading.{values-refused}
 
-module _ (ws : List ℕ) (ns ks : List (List ℕ)) (known : Bool) (known-is : known ≡ isImage ws) where
-  no-book : known ≡ false → openable ws ns ks ≡ false
+-- ---- the end of an opening
+pub finish-refused : (ws : List ℕ) (o : Opened) → o .fine ≡ false → OpensTo ws o ws 41
+finish-refused ws o e = record { code = rw e; image = rw e }
+
+pub finish-passed : (ws : List ℕ) (o : Opened) (ws′ : List ℕ) → o .fine ≡ true → ws′ ≡ pasted ws 0 (imageOf (o .book)) → OpensTo ws o ws′ 0
+finish-passed ws o ws′ e w = record { code = rw e; image = rw e w }
+
+-- ---- the opening
+module _ (ws : List ℕ) (pools : List Pool) (v : Values) (o : Opened) (ws′ : List ℕ) (pools′ : List Pool) (n : ℕ) (reads : ReadsValues ws v) (opens : Opens v pools o pools′) (ended : OpensTo ws o ws′ n) where
+  -- whether it passes, by whether the words say a book
+  test-is : o .fine ≡ openable ws pools
   unfolding openable
-  no-book n = let e : isImage ws ≡ false = sym known-is ∙ n in rw e
+  test-is = go (isImage ws) refl
+    where
+      go : (k : Bool) → isImage ws ≡ k → o .fine ≡ (k && openingFine (bookIn ws .values) pools)
+      go true e = opens .fine ∙ ap (λ (u : Values). openingFine u pools) (reads .values e)
+      go false e = opens .fine ∙ values-refused v pools (reads .none e)
 
-  tested : (b : Book) (ns′ ks′ : List (List ℕ)) (o : Opened) → known ≡ true → b ≡ bookIn ws → Opens (b .values) ns ks ns′ ks′ o → openable ws ns ks ≡ o .fine
+  image-known : openable ws pools ≡ true → isImage ws ≡ true
   unfolding openable
-  tested b ns′ ks′ o n eb s =
-      let e : isImage ws ≡ true = sym known-is ∙ n in
-      let f : (eqb (length ks) (length ns) && openingFine (bookIn ws .values) (tableOf ns ks)) ≡ o .fine = ap (λ (k : Book). eqb (length ks) (length ns) && openingFine (k .values) (tableOf ns ks)) (sym eb) ∙ sym (s .fine) in
-      rw e f
+  image-known = go (isImage ws)
+    where
+      go : (k : Bool) → (k && openingFine (bookIn ws .values) pools) ≡ true → k ≡ true
+      go true e = refl
+      go false e = e
 
-  pub open-unknown : not known ≡ true → Opening ws ns ks ws ns ks 41
-  open-unknown n =
+  pub opening-made : Opening ws pools ws′ pools′ n
+  opening-made =
       record {
-        passes = λ t. absurd (true≢false (sym t ∙ no-book (not-true known n)));
-        refuses = λ f. record { code = refl; image = refl; numbers = refl; keys = refl };
+        passes = λ t.
+            let e : o .fine ≡ true = test-is ∙ t in
+            record {
+              code = ended .code ∙ ap (λ (k : Bool). cond k 0 41) e;
+              image =
+                  ended .image ∙ ap (λ (k : Bool). cond k (pasted ws 0 (imageOf (o .book))) ws) e ∙ ap (λ (k : Book). pasted ws 0 (imageOf k)) (opens .book)
+                  ∙ ap (λ (u : Values). pasted ws 0 (imageOf (opened u))) (reads .values (image-known t));
+              zeros = opens .zeros e;
+            };
+        refuses = λ f.
+            let e : o .fine ≡ false = test-is ∙ f in
+            record {
+              code = ended .code ∙ ap (λ (k : Bool). cond k 0 41) e;
+              image = ended .image ∙ ap (λ (k : Bool). cond k (pasted ws 0 (imageOf (o .book))) ws) e;
+              table = opens .stays e;
+            };
       }
-
-  module _ (b : Book) (ns′ ks′ : List (List ℕ)) (o : Opened) (read : known ≡ true → b ≡ bookIn ws) (n : not known ≡ false) (s : Opens (b .values) ns ks ns′ ks′ o) where
-    test-is : openable ws ns ks ≡ o .fine
-    test-is = tested b ns′ ks′ o (not-false known n) (read (not-false known n)) s
-
-    pub open-refused : not (o .fine) ≡ true → Opening ws ns ks ws ns′ ks′ 41
-    open-refused m =
-        let stays = s .stays (not-true (o .fine) m) in
-        record {
-          passes = λ t. absurd (true≢false (sym t ∙ test-is ∙ not-true (o .fine) m));
-          refuses = λ f. record { code = refl; image = refl; numbers = stays .0; keys = stays .1 };
-        }
-
-    pub open-passed : (ws′ : List ℕ) → not (o .fine) ≡ false → ws′ ≡ pasted ws 0 (imageOf (o .book)) → Opening ws ns ks ws′ ns′ ks′ 0
-    open-passed ws′ m e =
-        let eb : b ≡ bookIn ws = read (not-false known n) in
-        record {
-          passes = λ t. record { code = refl; image = rw eb at (e ∙ ap (λ (k : Book). pasted ws 0 (imageOf k)) (s .book)); zeros = s .zeros (not-false (o .fine) m) };
-          refuses = λ f. absurd (true≢false (sym (not-false (o .fine) m) ∙ sym test-is ∙ f));
-        }

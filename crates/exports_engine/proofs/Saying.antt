@@ -1,36 +1,33 @@
 -- What is said of a trade is what the book that was read says of it, and nothing where none was.
 use Prim.Native.Nat.{ℕ}
-use mathlib.Core.Path.{_≡_, sym, ap, _∙_}
+use mathlib.Core.Path.{_≡_, refl, ap, _∙_}
 use mathlib.Core.List.{List, [], _∷_}
-use mathlib.Core.Bool.{Bool, true, false, not}
-use lib.ListN.{length}
-use lib.Dec.{eqb}
-use borrow.Author.Tests.{not-true, not-false}
+use mathlib.Core.Bool.{Bool, true, false, cond}
 use Rattle.lists.specs.Lists.{pasted}
 use Rattle.numbers.specs.Bit.{bit}
 use Rattle.book.specs.declared.Book.{Book}
-use Rattle.table.specs.Rows.{tableOf}
+use Rattle.book.specs.declared.Pool.{Pool}
+use Rattle.book.specs.Soundness.{isSound}
 use Rattle.image.specs.Images.{isImage, bookIn}
 use Rattle.figures.specs.declared.Figures.{Figures}
 use Rattle.figures.specs.Saying.{unknown, figuresOf}
+use Rattle.padded.specs.Calls.{Says}
+use Rattle.exports_engine.specs.Reading.{Reads}
 use Rattle.exports_engine.specs.Figures.{figuresNumbers, figuresIn}
+use Rattle.exports_engine.proofs.Reading.{values-unsound}
 
-pub numbers-listed : (f : Figures) (k : ℕ) → k ≡ bit (f .known) → k ∷ f .left ∷ f .millions ∷ [] ≡ figuresNumbers f
+pub figures-written : (out out′ : List ℕ) (f : Figures) (k : ℕ) → k ≡ bit (f .known) → out′ ≡ pasted out 0 (k ∷ f .left ∷ f .millions ∷ []) → out′ ≡ pasted out 0 (figuresNumbers f)
 unfolding figuresNumbers
-numbers-listed f k e = rw e
+figures-written out out′ f k e w = rw e at w
 
-pub figures-written : (out after three : List ℕ) (f g : Figures) → after ≡ pasted out 0 three → three ≡ figuresNumbers f → f ≡ g → after ≡ pasted out 0 (figuresNumbers g)
-figures-written out after three f g e n q = e ∙ ap (pasted out 0) (n ∙ ap figuresNumbers q)
+unsound-unknown : (b : Book) (pools : List Pool) (trade : ℕ) → isSound b pools ≡ false → figuresOf true b pools trade ≡ unknown
+unfolding figuresOf
+unsound-unknown b pools trade e = rw e
 
-module _ (ws : List ℕ) (ns ks : List (List ℕ)) (trade : ℕ) (known : Bool) (known-is : known ≡ isImage ws) where
-  pub figures-unknown : not known ≡ true → unknown ≡ figuresIn ws ns ks trade
-  unfolding figuresIn
-  figures-unknown n = let e : isImage ws ≡ false = sym known-is ∙ not-true known n in rw e
-
-  pub figures-known : (b : Book) (f : Figures) → (known ≡ true → b ≡ bookIn ws) → not known ≡ false
-      → f ≡ figuresOf (eqb (length ks) (length ns)) b (tableOf ns ks) trade → f ≡ figuresIn ws ns ks trade
-  unfolding figuresIn
-  figures-known b f read n ef =
-      let e : isImage ws ≡ true = sym known-is ∙ not-false known n in
-      let q : f ≡ figuresOf (eqb (length ks) (length ns)) (bookIn ws) (tableOf ns ks) trade = ef ∙ ap (λ (k : Book). figuresOf (eqb (length ks) (length ns)) k (tableOf ns ks) trade) (read (not-false known n)) in
-      rw e q
+pub figures-said : (ws : List ℕ) (pools : List Pool) (trade : ℕ) (b : Book) (f : Figures) → Reads (isImage ws) ws b → Says b pools trade f → f ≡ figuresIn ws pools trade
+unfolding figuresIn
+figures-said ws pools trade b f reads said = go (isImage ws) reads
+  where
+    go : (k : Bool) → Reads k ws b → f ≡ cond k (figuresOf true (bookIn ws) pools trade) unknown
+    go true r = said .figures ∙ ap (λ (k : Book). figuresOf true k pools trade) (r .book refl)
+    go false r = said .figures ∙ unsound-unknown b pools trade (values-unsound b pools (r .none refl))

@@ -2,42 +2,46 @@
 use Prim.Native.Nat.{ℕ}
 use mathlib.Core.Path.{_≡_}
 use mathlib.Core.List.{List}
-use mathlib.Core.Bool.{Bool, true, false, _&&_}
+use mathlib.Core.Bool.{Bool, true, false, cond, _&&_}
 use lib.ListN.{length}
 use lib.Dec.{eqb}
 use Rattle.lists.specs.Lists.{pasted}
 use Rattle.book.specs.declared.Book.{Book}
+use Rattle.book.specs.declared.Pool.{Pool}
 use Rattle.book.specs.declared.Answer.the-variants.{Rejected}
 use Rattle.book.specs.declared.Reason.the-variants.{Unsound}
 use Rattle.book.specs.Checks.{answerOf}
-use Rattle.book.specs.Step.{bookAfter, tableAfter, outputAfter}
-use Rattle.table.specs.Rows.{tableOf}
-use Rattle.trader.specs.Decisions.{callOn}
+use Rattle.book.specs.Step.{isSilent, bookAfter, tableAfter, outputAfter, callWith}
 use Rattle.answer_numbers.specs.Said.{saidOf}
 use Rattle.image.specs.Images.{isImage, bookIn, imageOf}
+use Rattle.engine.specs.declared.Stepped.{Stepped}
 
 abbrev pub timeWidth : ℕ
 timeWidth = 6
 
--- words that are a book's, as many rows of bytes as of numbers, and six time bytes
-unfoldable pub callable : List ℕ → List (List ℕ) → List (List ℕ) → List ℕ → Bool
-callable ws ns ks time = isImage ws && (eqb (length ks) (length ns) && eqb (length time) timeWidth)
+-- words that are a book's, and six time bytes
+unfoldable pub callable : List ℕ → List ℕ → Bool
+callable ws time = isImage ws && eqb (length time) timeWidth
 
--- what a frame call on a book leaves of words, two slices, an output and what is said
-pub record StepsTo (b : Book) (ws : List ℕ) (ns ks : List (List ℕ)) (body time out said : List ℕ) (ws′ : List ℕ) (ns′ ks′ : List (List ℕ)) (out′ said′ : List ℕ) : Type 0 where
-  pub image : ws′ ≡ pasted ws 0 (imageOf (bookAfter (callOn b ns ks body (length out))))
-  pub table : tableOf ns′ ks′ ≡ tableAfter (callOn b ns ks body (length out))
-  pub output : out′ ≡ outputAfter (callOn b ns ks body (length out)) time out
-  pub answer : said′ ≡ pasted said 0 (saidOf (answerOf (callOn b ns ks body (length out))))
+-- the end of a call: the answer in two numbers, and the words of the book after it, which stay after a silent refusal
+pub record Finishes (ws said : List ℕ) (r : Stepped) (ws′ said′ : List ℕ) : Type 0 where
+  pub image : ws′ ≡ cond (isSilent (r .answer)) ws (pasted ws 0 (imageOf (r .book)))
+  pub answer : said′ ≡ pasted said 0 (saidOf (r .answer))
+
+-- what a frame call on a book leaves of words, a table, an output and what is said
+pub record StepsTo (b : Book) (ws : List ℕ) (pools : List Pool) (body time out said : List ℕ) (ws′ : List ℕ) (pools′ : List Pool) (out′ said′ : List ℕ) : Type 0 where
+  pub image : ws′ ≡ pasted ws 0 (imageOf (bookAfter (callWith b pools body out)))
+  pub table : pools′ ≡ tableAfter (callWith b pools body out)
+  pub output : out′ ≡ outputAfter (callWith b pools body out) time out
+  pub answer : said′ ≡ pasted said 0 (saidOf (answerOf (callWith b pools body out)))
 
 -- a call that cannot be made is refused with 42, and nothing else moves
-pub record Refuses (ws : List ℕ) (ns ks : List (List ℕ)) (out said : List ℕ) (ws′ : List ℕ) (ns′ ks′ : List (List ℕ)) (out′ said′ : List ℕ) : Type 0 where
+pub record Refuses (ws : List ℕ) (pools : List Pool) (out said : List ℕ) (ws′ : List ℕ) (pools′ : List Pool) (out′ said′ : List ℕ) : Type 0 where
   pub image : ws′ ≡ ws
-  pub numbers : ns′ ≡ ns
-  pub keys : ks′ ≡ ks
+  pub table : pools′ ≡ pools
   pub output : out′ ≡ out
   pub answer : said′ ≡ pasted said 0 (saidOf (Rejected Unsound))
 
-pub record Calls (ws : List ℕ) (ns ks : List (List ℕ)) (body time out said : List ℕ) (ws′ : List ℕ) (ns′ ks′ : List (List ℕ)) (out′ said′ : List ℕ) : Type 0 where
-  pub steps : callable ws ns ks time ≡ true → StepsTo (bookIn ws) ws ns ks body time out said ws′ ns′ ks′ out′ said′
-  pub refuses : callable ws ns ks time ≡ false → Refuses ws ns ks out said ws′ ns′ ks′ out′ said′
+pub record Calls (ws : List ℕ) (pools : List Pool) (body time out said : List ℕ) (ws′ : List ℕ) (pools′ : List Pool) (out′ said′ : List ℕ) : Type 0 where
+  pub steps : callable ws time ≡ true → StepsTo (bookIn ws) ws pools body time out said ws′ pools′ out′ said′
+  pub refuses : callable ws time ≡ false → Refuses ws pools out said ws′ pools′ out′ said′

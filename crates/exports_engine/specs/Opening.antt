@@ -2,31 +2,34 @@
 use Prim.Native.Nat.{ℕ}
 use mathlib.Core.Path.{_≡_}
 use mathlib.Core.List.{List}
-use mathlib.Core.Bool.{Bool, true, false, _&&_}
-use lib.ListN.{length}
-use lib.Dec.{eqb}
+use mathlib.Core.Bool.{Bool, true, false, cond, _&&_}
 use Rattle.lists.specs.Lists.{pasted}
+use Rattle.book.specs.declared.Pool.{Pool}
 use Rattle.book.specs.Opening.{openingFine, opened, cleared}
-use Rattle.table.specs.Rows.{tableOf}
 use Rattle.image.specs.Images.{isImage, bookIn, imageOf}
+use Rattle.opened.specs.declared.Opened.{Opened}
 
--- words that are a book's, as many rows of bytes as of numbers, and values and a table that 41 lets pass
-unfoldable pub openable : List ℕ → List (List ℕ) → List (List ℕ) → Bool
-openable ws ns ks = isImage ws && (eqb (length ks) (length ns) && openingFine (bookIn ws .values) (tableOf ns ks))
+-- words that are a book's, and values and a table that 41 lets pass
+unfoldable pub openable : List ℕ → List Pool → Bool
+openable ws pools = isImage ws && openingFine (bookIn ws .values) pools
+
+-- the end of an opening: where it passes, the words of the opened book
+pub record OpensTo (ws : List ℕ) (o : Opened) (ws′ : List ℕ) (r : ℕ) : Type 0 where
+  pub code : r ≡ cond (o .fine) 0 41
+  pub image : ws′ ≡ cond (o .fine) (pasted ws 0 (imageOf (o .book))) ws
 
 -- the words of the opened book and a table of zeros
-pub record Passed (ws : List ℕ) (ns ks : List (List ℕ)) (ws′ : List ℕ) (ns′ ks′ : List (List ℕ)) (r : ℕ) : Type 0 where
+pub record Passed (ws : List ℕ) (pools : List Pool) (ws′ : List ℕ) (pools′ : List Pool) (r : ℕ) : Type 0 where
   pub code : r ≡ 0
   pub image : ws′ ≡ pasted ws 0 (imageOf (opened (bookIn ws .values)))
-  pub zeros : tableOf ns′ ks′ ≡ cleared (tableOf ns ks)
+  pub zeros : pools′ ≡ cleared pools
 
 -- all stays as it is
-pub record Refused (ws : List ℕ) (ns ks : List (List ℕ)) (ws′ : List ℕ) (ns′ ks′ : List (List ℕ)) (r : ℕ) : Type 0 where
+pub record Refused (ws : List ℕ) (pools : List Pool) (ws′ : List ℕ) (pools′ : List Pool) (r : ℕ) : Type 0 where
   pub code : r ≡ 41
   pub image : ws′ ≡ ws
-  pub numbers : ns′ ≡ ns
-  pub keys : ks′ ≡ ks
+  pub table : pools′ ≡ pools
 
-pub record Opening (ws : List ℕ) (ns ks : List (List ℕ)) (ws′ : List ℕ) (ns′ ks′ : List (List ℕ)) (r : ℕ) : Type 0 where
-  pub passes : openable ws ns ks ≡ true → Passed ws ns ks ws′ ns′ ks′ r
-  pub refuses : openable ws ns ks ≡ false → Refused ws ns ks ws′ ns′ ks′ r
+pub record Opening (ws : List ℕ) (pools : List Pool) (ws′ : List ℕ) (pools′ : List Pool) (r : ℕ) : Type 0 where
+  pub passes : openable ws pools ≡ true → Passed ws pools ws′ pools′ r
+  pub refuses : openable ws pools ≡ false → Refused ws pools ws′ pools′ r
