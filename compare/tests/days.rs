@@ -90,8 +90,11 @@ fn both(
 fn whole(day: &Day, cases: &mut Cases, met: &mut Met) {
     let mut table = vec![PoolRecord::EMPTY; day.records];
     let mut book = reference::opening::open(&day.opening, &mut table).expect("an opening in range");
-    let mut client = held(&book, &table);
-    // Opening sets the live pools itself, whatever the words say of them.
+    // Opening sets the live pools itself, whatever the words say of them, and zeroes the table, whatever it holds.
+    let used = cases.random.percent(30);
+    let lent: Vec<PoolRecord> =
+        table.iter().map(|&record| if used { any_record(&mut cases.random) } else { record }).collect();
+    let mut client = held(&book, &lent);
     *client.words.last_mut().unwrap() = cases.random.below(9);
     if cases.random.percent(30) {
         fill_past_trades(&mut client.words, day.opening.trades.len());
@@ -99,6 +102,7 @@ fn whole(day: &Day, cases: &mut Cases, met: &mut Met) {
     let filled = client.words.clone();
     assert_eq!(client.open(), Ok(()), "the day of seed {}", day.seed);
     assert_eq!(client.words, words_over(&book, &filled));
+    assert!(same_table(&client, &table), "the table is zeros after opening");
     let mut tally = any_tally(&mut cases.random);
     for call in &day.calls {
         // A book that was written down and read again is the same book.
@@ -256,7 +260,10 @@ fn images_that_are_no_book() {
             2 => client.words[received..][..2].copy_from_slice(&[0, cases.random.between(1, 9)]),
             3 => client.words[received..][..2].copy_from_slice(&[cases.random.between(2, 9), 0]),
             4 => client.words[received + 1] = 1 << cases.random.between(32, 63),
-            _ => client.words[cases.random.below(16) as usize] = 256 + cases.random.number() / 2,
+            _ => {
+                let byte = cases.random.below(16) as usize;
+                client.words[byte] = 256 + cases.random.pick(&[0, 0, 1]) * (cases.random.number() / 2);
+            }
         }
         let before = client.clone();
         let mut out = cases.random.bytes(217);

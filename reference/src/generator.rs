@@ -681,6 +681,9 @@ impl Sender<'_> {
                 ),
                 _ => draft.put_detail(any, CURRENT_FACE, b"           "),
             },
+            35 if random.percent(30) => {
+                crowd_the_last_lot(draft, self.book.values.limits.pools_a_million);
+            }
             // A lot is often at the edge of the variance: then a cent more or less is too much.
             35 if random.percent(50) => {
                 let cents = number_at(&draft.details[last], CURRENT_FACE);
@@ -721,6 +724,33 @@ impl Sender<'_> {
 /// The number in a detail's column, which the generator wrote.
 fn number_at(detail: &[u8; DETAIL_WIDTH], column: Column) -> u64 {
     number(&detail[column.first..column.first + column.width]).unwrap_or(0)
+}
+
+/// Pools of no face in a message's last lot, if it is good, until it has one too many.
+fn crowd_the_last_lot(draft: &mut Draft, pools_a_million: u64) {
+    let last = draft.details[draft.details.len() - 1];
+    let millions = number_at(&last, TERMINATOR) % 1_000;
+    let ends = |detail: &[u8; DETAIL_WIDTH]| number_at(detail, TERMINATOR) % 1_000 != 0;
+    let before =
+        draft.details.iter().rev().skip(1).take_while(|detail| !ends(detail)).count() as u64;
+    let most = pools_a_million * millions;
+    if !(1..=99).contains(&millions)
+        || before > most
+        || draft.details.len() as u64 + most - before > POOLS_MAX as u64
+    {
+        return;
+    }
+    for number in before..most {
+        let place = draft.details.len() - 1;
+        draft.details.insert(place, last);
+        draft.put_detail(place, TERMINATOR, &[last[TERMINATOR.first], b'0', b'0', b'0']);
+        draft.put_detail(place, POOL_NUMBER, &digits::<7>(number));
+        draft.put_detail(place, CURRENT_FACE, &digits::<11>(0));
+    }
+    if draft.header.starts_with(b"CC") {
+        let new = draft.details.iter().filter(|detail| detail[TERMINATOR.first] == b'7').count();
+        draft.put_number(NUMBER_OF_POOLS, new as u64);
+    }
 }
 
 /// Two canceled good lots side by side: a million more in one and a million less in the other keeps their sum.
