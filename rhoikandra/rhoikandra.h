@@ -34,23 +34,31 @@
 /* An output has room for a TX and an AA. */
 #define RHOIKANDRA_OUTPUT_LENGTH 217
 
-/* The rows of the table: six numbers and 22 bytes of matched fields for each record, as many of both. */
-typedef uint64_t rhoikandra_numbers[6];
-typedef uint8_t rhoikandra_key[22];
+/* A record of the table: the message ID that brought the pool, its lot's ordinal there, its trade, the matched fields as bytes, its
+   current face in cents, its lot's kind (1 good, 2 odd, 3 bad) and millions. A record that is not used is zeros. */
+typedef struct {
+    uint64_t message;
+    uint64_t ordinal;
+    uint64_t trade;
+    uint8_t lot[6];
+    uint8_t pool[7];
+    uint8_t original[9];
+    uint64_t current;
+    uint64_t kind;
+    uint64_t millions;
+} rhoikandra_pool;
 
-/* Opens a book: 0, or 41 and everything stays. */
-uint64_t rhoikandra_open(uint64_t *book, size_t book_len, rhoikandra_numbers *numbers, size_t numbers_len,
-                         rhoikandra_key *keys, size_t keys_len);
+/* Opens a book over a table of at most 4,096 records: 0, or 41 and everything stays. */
+uint64_t rhoikandra_open(uint64_t *book, size_t book_len, rhoikandra_pool *pools, size_t pools_len);
 
 /* Puts a frame's body to a book. said gets two numbers: 0 and the message ID, 1 and the number of a rejection, or 2 and that of a DK.
    time has six bytes. A damaged book is refused with 42, and everything stays. */
-void rhoikandra_step(uint64_t *book, size_t book_len, rhoikandra_numbers *numbers, size_t numbers_len, rhoikandra_key *keys,
-                     size_t keys_len, const uint8_t *body, size_t body_len, const uint8_t *time, size_t time_len, uint8_t *out,
-                     size_t out_len, uint64_t *said, size_t said_len);
+void rhoikandra_step(uint64_t *book, size_t book_len, rhoikandra_pool *pools, size_t pools_len, const uint8_t *body, size_t body_len,
+                     const uint8_t *time, size_t time_len, uint8_t *out, size_t out_len, uint64_t *said, size_t said_len);
 
 /* The figures of a trade, counted from 0: out gets 1, its open par in cents and its standing good millions, or three zeros. */
-void rhoikandra_figures(const uint64_t *book, size_t book_len, const rhoikandra_numbers *numbers, size_t numbers_len,
-                        const rhoikandra_key *keys, size_t keys_len, size_t trade, uint64_t *out, size_t out_len);
+void rhoikandra_figures(const uint64_t *book, size_t book_len, const rhoikandra_pool *pools, size_t pools_len, size_t trade,
+                        uint64_t *out, size_t out_len);
 
 /* A tally: a row for each of ON, CC, DK and CX, with the answers accepted, rejected and DKed. */
 #define RHOIKANDRA_TALLY_ROWS 4

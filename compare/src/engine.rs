@@ -4,7 +4,7 @@ use reference::answer::Answer;
 use reference::book::{Book, PoolRecord};
 use reference::digits::number;
 use reference::values::OpeningValues;
-use rhoikandra::{Limits, Opening, Trade};
+use rhoikandra::{Limits, Opening, Pool, Trade};
 
 /// A number that no eight digits make.
 const NO_DATE: u64 = u32::MAX as u64;
@@ -81,32 +81,29 @@ pub fn fill_past_trades(words: &mut [u64], trades: usize) {
     }
 }
 
-pub fn row(record: &PoolRecord) -> ([u64; 6], [u8; 22]) {
-    let mut key = [0; 22];
-    key[..6].copy_from_slice(&record.matched.lot_id);
-    key[6..13].copy_from_slice(&record.matched.pool_number);
-    key[13..].copy_from_slice(&record.matched.original_face);
-    let numbers = [
-        record.message_id,
-        record.ordinal,
-        record.trade as u64,
-        record.current_face_cents,
-        u64::from(record.kind),
-        record.lot_millions,
-    ];
-    (numbers, key)
+/// The reference's record as the engine's.
+pub fn pool(record: &PoolRecord) -> Pool {
+    Pool {
+        message: record.message_id,
+        ordinal: record.ordinal,
+        trade: record.trade as u64,
+        lot: record.matched.lot_id,
+        pool: record.matched.pool_number,
+        original: record.matched.original_face,
+        current: record.current_face_cents,
+        kind: u64::from(record.kind),
+        millions: record.lot_millions,
+    }
 }
 
 /// The reference's book and table as a client of the engine holds them.
 pub fn held(book: &Book, table: &[PoolRecord]) -> rhoikandra::Book {
-    let (numbers, keys) = table.iter().map(row).unzip();
-    rhoikandra::Book { words: words(book), numbers, keys }
+    rhoikandra::Book { words: words(book), pools: table.iter().map(pool).collect() }
 }
 
-/// Whether a table's rows are the reference's records.
+/// Whether a table's records are the reference's.
 pub fn same_table(held: &rhoikandra::Book, table: &[PoolRecord]) -> bool {
-    held.numbers.len() == table.len()
-        && table.iter().enumerate().all(|(i, record)| row(record) == (held.numbers[i], held.keys[i]))
+    held.pools.iter().copied().eq(table.iter().map(pool))
 }
 
 /// The engine's answer as the reference gives it.

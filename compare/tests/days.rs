@@ -222,9 +222,18 @@ fn one_place_after_the_live_pools() {
     for record in book.live_count..table.len() {
         for place in 0..28 {
             let mut client = held(&book, &table);
+            let (bit, byte) = (1 << cases.random.below(64), 1 << cases.random.below(8));
+            let pool = &mut client.pools[record];
             match place {
-                0..=5 => client.numbers[record][place] = 1 << cases.random.below(64),
-                _ => client.keys[record][place - 6] = 1 << cases.random.below(8),
+                0 => pool.message = bit,
+                1 => pool.ordinal = bit,
+                2 => pool.trade = bit,
+                3 => pool.current = bit,
+                4 => pool.kind = bit,
+                5 => pool.millions = bit,
+                6..=11 => pool.lot[place - 6] = byte,
+                12..=18 => pool.pool[place - 12] = byte,
+                _ => pool.original[place - 19] = byte,
             }
             let before = client.clone();
             let mut out = cases.random.bytes(217);
@@ -245,13 +254,12 @@ fn images_that_are_no_book() {
         let mut client = held(&book, &table);
         // Whether a number was received, and which.
         let received = client.words.len() - 4;
-        match cases.random.below(7) {
+        match cases.random.below(6) {
             0 => client.words.truncate(cases.random.below(2740) as usize),
             1 => client.words.push(0),
-            2 => drop(client.keys.pop()),
-            3 => client.words[received..][..2].copy_from_slice(&[0, cases.random.between(1, 9)]),
-            4 => client.words[received..][..2].copy_from_slice(&[cases.random.between(2, 9), 0]),
-            5 => client.words[received + 1] = 1 << cases.random.between(32, 63),
+            2 => client.words[received..][..2].copy_from_slice(&[0, cases.random.between(1, 9)]),
+            3 => client.words[received..][..2].copy_from_slice(&[cases.random.between(2, 9), 0]),
+            4 => client.words[received + 1] = 1 << cases.random.between(32, 63),
             _ => {
                 let byte = cases.random.below(16) as usize;
                 client.words[byte] = 256 + cases.random.pick(&[0, 0, 1]) * (cases.random.number() / 2);

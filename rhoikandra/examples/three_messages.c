@@ -15,8 +15,7 @@ struct pool {
 };
 
 static uint64_t book[RHOIKANDRA_BOOK_WORDS];
-static rhoikandra_numbers numbers[RECORDS];
-static rhoikandra_key keys[RECORDS];
+static rhoikandra_pool pools[RECORDS];
 static rhoikandra_tally_row tally[RHOIKANDRA_TALLY_ROWS];
 
 /* A byte takes a word. */
@@ -56,15 +55,13 @@ static size_t lay_body(uint8_t *body, const char *kind, int sequence, int millio
     return HEADER + DETAIL * (size_t)count;
 }
 
-static void send(const char *kind, int sequence, int millions, int target, const struct pool *pools, int count) {
+static void send(const char *kind, int sequence, int millions, int target, const struct pool *sent, int count) {
     uint8_t body[HEADER + 250 * DETAIL], out[RHOIKANDRA_OUTPUT_LENGTH];
     uint64_t said[2], figures[3];
-    size_t length = lay_body(body, kind, sequence, millions, target, pools, count);
-    rhoikandra_step(book, RHOIKANDRA_BOOK_WORDS, numbers, RECORDS, keys, RECORDS, body, length, (const uint8_t *)"093000", 6, out,
-                    sizeof out, said, 2);
+    size_t length = lay_body(body, kind, sequence, millions, target, sent, count);
+    rhoikandra_step(book, RHOIKANDRA_BOOK_WORDS, pools, RECORDS, body, length, (const uint8_t *)"093000", 6, out, sizeof out, said, 2);
     rhoikandra_tally(tally, RHOIKANDRA_TALLY_ROWS, body, length, said, 2);
-    rhoikandra_figures(book, RHOIKANDRA_BOOK_WORDS, (const rhoikandra_numbers *)numbers, RECORDS, (const rhoikandra_key *)keys,
-                       RECORDS, 0, figures, 3);
+    rhoikandra_figures(book, RHOIKANDRA_BOOK_WORDS, pools, RECORDS, 0, figures, 3);
     printf("%s %s %llu; open par %llu, standing millions %llu\n", kind,
            said[0] == 0   ? "accepted under"
            : said[0] == 1 ? "rejected with"
@@ -83,7 +80,7 @@ int main(void) {
     book[RHOIKANDRA_COUNT] = 1;
     put(RHOIKANDRA_SUBSCRIBER, "01231200");
     memcpy(book + RHOIKANDRA_LIMITS, limits, sizeof limits);
-    if (rhoikandra_open(book, RHOIKANDRA_BOOK_WORDS, numbers, RECORDS, keys, RECORDS) != 0)
+    if (rhoikandra_open(book, RHOIKANDRA_BOOK_WORDS, pools, RECORDS) != 0)
         return EXIT_FAILURE;
 
     /* Two good lots of one million each; then one of them is replaced; then the replacement is questioned, twice. */

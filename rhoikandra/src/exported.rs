@@ -1,22 +1,20 @@
 //! The exported functions of the proved engine. A lent slice is a pointer and a length.
 
+use crate::Pool;
+
 extern "C" {
     pub fn rhoikandra_open(
         image: *mut u64,
         image_len: usize,
-        numbers: *mut [u64; 6],
-        numbers_len: usize,
-        keys: *mut [u8; 22],
-        keys_len: usize,
+        pools: *mut Pool,
+        pools_len: usize,
     ) -> u64;
 
     pub fn rhoikandra_step(
         image: *mut u64,
         image_len: usize,
-        numbers: *mut [u64; 6],
-        numbers_len: usize,
-        keys: *mut [u8; 22],
-        keys_len: usize,
+        pools: *mut Pool,
+        pools_len: usize,
         body: *const u8,
         body_len: usize,
         time: *const u8,
@@ -30,10 +28,8 @@ extern "C" {
     pub fn rhoikandra_figures(
         image: *const u64,
         image_len: usize,
-        numbers: *const [u64; 6],
-        numbers_len: usize,
-        keys: *const [u8; 22],
-        keys_len: usize,
+        pools: *const Pool,
+        pools_len: usize,
         trade: usize,
         out: *mut u64,
         out_len: usize,

@@ -1,6 +1,6 @@
 //! The allocation book for Rust programs. Every call goes to the proved engine; this crate only lends it the memory.
 //!
-//! A [`Book`] is all that the engine keeps: words and the rows of its table. It may be cloned, written to disk and
+//! A [`Book`] is all that the engine keeps: words and the records of its table. It may be cloned, written to disk and
 //! handed back later. One that was damaged meanwhile is refused with 42 by the next call, and nothing moves.
 
 mod exported;
@@ -79,31 +79,44 @@ pub struct Figures {
     pub standing_millions: u64,
 }
 
-/// A book between two calls: its words, and for each record of its table a row of numbers and a row of matched fields.
+/// A live pool: the message ID that brought it, its lot's ordinal there, its trade, the matched fields as bytes, its
+/// current face in cents, its lot's kind (1 good, 2 odd, 3 bad) and millions. A record that is not used is zeros.
+#[repr(C)]
+#[derive(Clone, Copy, Debug, Default, PartialEq, Eq)]
+pub struct Pool {
+    pub message: u64,
+    pub ordinal: u64,
+    pub trade: u64,
+    pub lot: [u8; 6],
+    pub pool: [u8; 7],
+    pub original: [u8; 9],
+    pub current: u64,
+    pub kind: u64,
+    pub millions: u64,
+}
+
+/// A book between two calls: its words and the records of its table.
 #[derive(Clone, Debug, PartialEq, Eq)]
 pub struct Book {
     pub words: Vec<u64>,
-    pub numbers: Vec<[u64; 6]>,
-    pub keys: Vec<[u8; 22]>,
+    pub pools: Vec<Pool>,
 }
 
 impl Book {
     /// A book that is not opened yet, with a table of so many records.
     pub fn of(opening: &Opening, records: usize) -> Book {
-        Book { words: opening.words(), numbers: vec![[0; 6]; records], keys: vec![[0; 22]; records] }
+        Book { words: opening.words(), pools: vec![Pool::default(); records] }
     }
 
     /// Opens it, or says 41 and leaves it as it was.
     pub fn open(&mut self) -> Result<(), Number> {
-        let Book { words, numbers, keys } = self;
+        let Book { words, pools } = self;
         let code = unsafe {
             exported::rhoikandra_open(
                 words.as_mut_ptr(),
                 words.len(),
-                numbers.as_mut_ptr(),
-                numbers.len(),
-                keys.as_mut_ptr(),
-                keys.len(),
+                pools.as_mut_ptr(),
+                pools.len(),
             )
         };
         match code {
@@ -114,16 +127,14 @@ impl Book {
 
     /// Puts a frame's body to the book. TX and AA stand at the output's head; the rest of it stays.
     pub fn step(&mut self, body: &[u8], time: &[u8; 6], output: &mut [u8]) -> Answer {
-        let Book { words, numbers, keys } = self;
+        let Book { words, pools } = self;
         let mut said = [0; 2];
         unsafe {
             exported::rhoikandra_step(
                 words.as_mut_ptr(),
                 words.len(),
-                numbers.as_mut_ptr(),
-                numbers.len(),
-                keys.as_mut_ptr(),
-                keys.len(),
+                pools.as_mut_ptr(),
+                pools.len(),
                 body.as_ptr(),
                 body.len(),
                 time.as_ptr(),
@@ -139,16 +150,14 @@ impl Book {
 
     /// The figures of a trade, counted from 0 in opening order; none where there is no such trade or the book is damaged.
     pub fn figures(&self, trade: usize) -> Option<Figures> {
-        let Book { words, numbers, keys } = self;
+        let Book { words, pools } = self;
         let mut told = [0; 3];
         unsafe {
             exported::rhoikandra_figures(
                 words.as_ptr(),
                 words.len(),
-                numbers.as_ptr(),
-                numbers.len(),
-                keys.as_ptr(),
-                keys.len(),
+                pools.as_ptr(),
+                pools.len(),
                 trade,
                 told.as_mut_ptr(),
                 told.len(),
@@ -160,30 +169,49 @@ impl Book {
 
     /// The book as bytes, for a disk.
     pub fn to_bytes(&self) -> Vec<u8> {
-        let mut bytes = Vec::new();
-        for number in self.words.iter().chain(self.numbers.iter().flatten()) {
-            bytes.extend(number.to_le_bytes());
+        let mut bytes: Vec<u8> = self.words.iter().flat_map(|word| word.to_le_bytes()).collect();
+        for pool in &self.pools {
+            bytes.extend(pool.to_bytes());
         }
-        bytes.extend(self.keys.iter().flatten());
         bytes
     }
 
     /// A book from such bytes; none where their length is no book's. What they say is judged by the next call.
     pub fn from_bytes(bytes: &[u8]) -> Option<Book> {
-        const RECORD: usize = 6 * 8 + 22;
-        let rest = bytes.len().checked_sub(BOOK_WORDS * 8)?;
-        if rest % RECORD != 0 {
-            return None;
+        let (words, pools) = bytes.split_at_checked(BOOK_WORDS * 8)?;
+        let words = words.chunks_exact(8).map(word).collect();
+        let records = pools.chunks_exact(POOL_BYTES);
+        records.remainder().is_empty().then(|| Book { words, pools: records.map(Pool::from_bytes).collect() })
+    }
+}
+
+/// The bytes of a record on a disk: six numbers, then the matched fields.
+const POOL_BYTES: usize = 6 * 8 + 22;
+
+fn word(bytes: &[u8]) -> u64 {
+    u64::from_le_bytes(bytes.try_into().expect("eight bytes"))
+}
+
+impl Pool {
+    fn to_bytes(self) -> Vec<u8> {
+        let numbers = [self.message, self.ordinal, self.trade, self.current, self.kind, self.millions];
+        let numbers = numbers.into_iter().flat_map(u64::to_le_bytes);
+        numbers.chain(self.lot).chain(self.pool).chain(self.original).collect()
+    }
+
+    fn from_bytes(bytes: &[u8]) -> Pool {
+        let (numbers, fields) = bytes.split_at(6 * 8);
+        let number = |at: usize| word(&numbers[at * 8..][..8]);
+        Pool {
+            message: number(0),
+            ordinal: number(1),
+            trade: number(2),
+            lot: fields[..6].try_into().unwrap(),
+            pool: fields[6..13].try_into().unwrap(),
+            original: fields[13..].try_into().unwrap(),
+            current: number(3),
+            kind: number(4),
+            millions: number(5),
         }
-        let records = rest / RECORD;
-        let (words, rows) = bytes.split_at((BOOK_WORDS + 6 * records) * 8);
-        let words: Vec<u64> =
-            words.chunks_exact(8).map(|word| u64::from_le_bytes(word.try_into().unwrap())).collect();
-        let (words, numbers) = words.split_at(BOOK_WORDS);
-        Some(Book {
-            words: words.to_vec(),
-            numbers: numbers.chunks_exact(6).map(|row| row.try_into().unwrap()).collect(),
-            keys: rows.chunks_exact(22).map(|key| key.try_into().unwrap()).collect(),
-        })
     }
 }
