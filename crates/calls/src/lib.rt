@@ -2,13 +2,54 @@
 use book::Book;
 use book::Pool;
 use engine::Stepped;
+ghost use mathlib.Core.Path.{_≡_};
 ghost use Prim.Native.Nat.{_-_, _≤_};
+ghost use lib.Dec.{leb};
 ghost use lib.ListN.{length};
 ghost use Rattle.lists.specs.Lists.{part};
+ghost use Rattle.padded.specs.Staged.{rowsOf};
 ghost use Rattle.padded.specs.Calls.{Framed};
 
-// The frame call on the body that lies in a tape from one place up to another.
-pub fn step_part(
+// How many rows a call clears where its live pools and what a message brings are few.
+const FEW: usize = 1024;
+
+// Whether the rows of a call are few, on a table of so many records.
+fn few_enough(book: Book, records: usize) -> bool
+    ensures { λ r. ⌜ r ≡ leb (rowsOf records (book .live)) 1024 ⌝ }
+{
+    padded::rows_of(records, book.live) <= FEW
+}
+
+// The frame call by few rows.
+fn step_few(
+    book: Book,
+    pools: &mut [Pool],
+    tape: &[u8],
+    from: usize,
+    to: usize,
+    time: [u8; 6],
+    out: &mut [u8],
+) -> Stepped
+    requires { ⌜ (rowsOf (length (now pools)) (book .live) ≤ 1024) × (from ≤ to) × (to ≤ length (now tape)) ⌝ }
+    ensures { λ r. ⌜ Framed book (now (pools .entry)) (part (now (tape .entry)) from (to - from)) time (now (out .entry)) r (now (pools .exit)) (now (out .exit)) ⌝ }
+{
+    let mut numbers = [[0u64; 6]; FEW];
+    let mut keys = [[0u8; 22]; FEW];
+    staged::step_with(
+        book,
+        pools,
+        &mut numbers,
+        &mut keys,
+        tape,
+        from,
+        to,
+        time,
+        out,
+    )
+}
+
+// The frame call by as many rows as a table can have.
+fn step_many(
     book: Book,
     pools: &mut [Pool],
     tape: &[u8],
@@ -33,6 +74,25 @@ pub fn step_part(
         time,
         out,
     )
+}
+
+// The frame call on the body that lies in a tape from one place up to another.
+pub fn step_part(
+    book: Book,
+    pools: &mut [Pool],
+    tape: &[u8],
+    from: usize,
+    to: usize,
+    time: [u8; 6],
+    out: &mut [u8],
+) -> Stepped
+    requires { ⌜ (from ≤ to) × (to ≤ length (now tape)) ⌝ }
+    ensures { λ r. ⌜ Framed book (now (pools .entry)) (part (now (tape .entry)) from (to - from)) time (now (out .entry)) r (now (pools .exit)) (now (out .exit)) ⌝ }
+{
+    if few_enough(book, pools.len()) {
+        return step_few(book, pools, tape, from, to, time, out);
+    }
+    step_many(book, pools, tape, from, to, time, out)
 }
 
 // The frame call, on any book, table, body, time bytes and output.

@@ -3,11 +3,9 @@ use book::Book;
 use book::Pool;
 use engine::Stepped;
 use padded::Moved;
-ghost use mathlib.Core.Path.{_≡_};
 ghost use Prim.Native.Nat.{_-_, _≤_};
 ghost use lib.ListN.{length};
 ghost use Rattle.lists.specs.Lists.{part};
-ghost use Rattle.book.specs.Opening.{recordsMax};
 ghost use Rattle.padded.specs.Staged.{rowsOf};
 ghost use Rattle.padded.specs.Moving.{StepsRows};
 ghost use Rattle.padded.specs.Calls.{Framed};
@@ -63,7 +61,7 @@ pub fn step_with(
     time: [u8; 6],
     out: &mut [u8],
 ) -> Stepped
-    requires { ⌜ (length (now numbers) ≡ recordsMax) × (length (now keys) ≡ recordsMax) × (from ≤ to) × (to ≤ length (now tape)) ⌝ }
+    requires { ⌜ (rowsOf (length (now pools)) (book .live) ≤ length (now numbers)) × (rowsOf (length (now pools)) (book .live) ≤ length (now keys)) × (from ≤ to) × (to ≤ length (now tape)) ⌝ }
     ensures { λ r. ⌜ Framed book (now (pools .entry)) (part (now (tape .entry)) from (to - from)) time (now (out .entry)) r (now (pools .exit)) (now (out .exit)) ⌝ }
 {
     let rest = stage(pools, book.live, numbers, keys);

@@ -44,7 +44,6 @@ use Rattle.walking.proofs.Lent.{LentMut, LentShared, lends-mut, mut-back, lends
 use Rattle.lists.specs.Lists.{part}
 use Rattle.book.specs.declared.Book.{Book}
 use Rattle.book.specs.declared.Pool.{Pool}
-use Rattle.book.specs.Opening.{recordsMax}
 use Rattle.engine.specs.declared.Stepped.{Stepped}
 use Rattle.records.proofs.Row.{R}
 use Rattle.padded.specs.declared.Moved.{Moved}
@@ -52,7 +51,7 @@ use Rattle.padded.specs.Staged.{rowsOf, stored}
 use Rattle.padded.specs.Moving.{StepsRows}
 use Rattle.padded.specs.Calls.{Framed}
 use Rattle.staged.specs.Stages.{Stages}
-use Rattle.staged.proofs.Framing.{rows-enough, storable, framed}
+use Rattle.staged.proofs.Framing.{storable, framed}
 use Rattle.staged.proofs.Values.{BookR, bookVal, bookVals, book-tells, book-makes, book-typed, live-fits, SteppedR, steppedVal, steppedVals, stepped-makes, stepped-typed, MovedR, movedVal, moved-typed, moved-is, moved-its, stepped-of, from-fits, to-fits, TimeR, timeVal, timeVals, time-tells, time-makes, time-typed}
 use Rattle.staged.proofs.stage as sg
 use Rattle.staged.proofs.stage.Symbol as stage-def
@@ -320,7 +319,7 @@ module _ {M : Type 1} (𝓤 : URA M) (H : Heap 𝓤) (A : Atoms 𝓤) (W : Given
 
   module _ (𝓣 : Tables 𝓤 H) (known-stage : Triple 𝓤 (𝓣 .C #staged·stage) (Stage 𝓤 H A mem run)) (known-step : Triple 𝓤 (𝓣 .C #staged·step-part-rows) (Step 𝓤 H A mem run)) (known-store : Triple 𝓤 (𝓣 .C #storing·store) (Store 𝓤 H A mem run))
       (gk : Is BookR k (bookVals k)) (room : Room R (length ys)) (room₂ : Room N (length us)) (room₃ : Room K (length vs)) (room₄ : Room u8 (length ts)) (gs : start < 2 ^ 64) (gp : past < 2 ^ 64) (gt : Is TimeR time (timeVals time)) (room₅ : Room u8 (length os))
-      (within : (length us ≡ recordsMax) × (length vs ≡ recordsMax) × (start ≤ past) × (past ≤ length ts)) where
+      (within : (rowsOf (length ys) (k .live) ≤ length us) × (rowsOf (length ys) (k .live) ≤ length vs) × (start ≤ past) × (past ≤ length ts)) where
     module _ (l₀ l₁ l₂ l₃ l₄ l₅ l₆ l₇ l₈ l₉ l₁₀ l₁₁ l₁₂ l₁₃ l₁₄ l₁₅ l₁₆ l₁₇ l₁₈ l₁₉ l₂₀ l₂₁ l₂₂ l₂₃ l₂₄ l₂₅ l₂₆ l₂₇ l₂₈ l₂₉ l₃₀ l₃₁ : ℕ) where
       abbrev En : Env 𝓤 H
       En = (τ 0, l₀) ∷ (τ 1, l₁) ∷ (τ 2, l₂) ∷ (τ 3, l₃) ∷ (τ 4, l₄) ∷ (τ 5, l₅) ∷ (τ 6, l₆) ∷ (τ 7, l₇) ∷ (τ 8, l₈) ∷ (τ 9, l₉) ∷ (τ 10, l₁₀) ∷ (τ 11, l₁₁) ∷ (τ 12, l₁₂) ∷ (τ 13, l₁₃) ∷ (τ 14, l₁₄) ∷ (τ 15, l₁₅) ∷ (τ 16, l₁₆) ∷ (τ 17, l₁₇) ∷ (τ 18, l₁₈) ∷ (τ 19, l₁₉) ∷ (τ 20, l₂₀) ∷ (τ 21, l₂₁) ∷ (τ 22, l₂₂) ∷ (τ 23, l₂₃) ∷ (τ 24, l₂₄) ∷ (τ 25, l₂₅) ∷ (τ 26, l₂₆) ∷ (τ 27, l₂₇) ∷ (τ 28, l₂₈) ∷ (τ 29, l₂₉) ∷ (τ 30, l₃₀) ∷ (τ 31, l₃₁) ∷ []
@@ -401,7 +400,7 @@ module _ {M : Type 1} (𝓤 : URA M) (H : Heap 𝓤) (A : Atoms 𝓤) (W : Given
             nothing ! $ move ! (12 ∷ 0 ∷ []) $ join ! $ move ! (10 ∷ 0 ∷ []) $ join ! $ move ! (3 ∷ 0 ∷ []) $ join ! $ move ! (5 ∷ 0 ∷ []) $ join ! $
             move ! (7 ∷ 8 ∷ []) $ join ! $ move ! (2 ∷ 0 ∷ []) $ join ! $ move ! (3 ∷ 0 ∷ []) $ join ! $ move ! (1 ∷ 0 ∷ []) $
             use2 W (raw (Step 𝓤 H A mem run .pre (to-step rest ns ks ν δ ν₂ δ₂)))
-            (goes-step rest ns ks ν δ ν₂ δ₂ gk (room .0) gs gp gt (rows-enough (length ys) (k .live) (length ns) (ln ∙ within .0), rows-enough (length ys) (k .live) (length ks) (lk ∙ within .1), within .2, within .3)) $
+            (goes-step rest ns ks ν δ ν₂ δ₂ gk (room .0) gs gp gt (subst (λ (m : ℕ). rowsOf (length ys) (k .live) ≤ m) (sym ln) (within .0), subst (λ (m : ℕ). rowsOf (length ys) (k .live) ≤ m) (sym lk) (within .1), within .2, within .3)) $
             -- [what the step asks; what is kept of keys, of numbers; pools; its token; _31 at 5; …]
             calls-at ! (fmOf 𝓤 H (W .laws) 𝓣) (Step 𝓤 H A mem run) known-step (to-step rest ns ks ν δ ν₂ δ₂)
             (and-then ! (load ! (from ! (stop !)) (look ! 65 refl)) (and-then ! (load ! (from ! (stop !)) (look ! 29 refl)) (and-then ! (load ! (from ! (stop !)) (look ! 25 refl)) (and-then ! (load ! (from ! (stop !)) (look ! 23 refl)) (and-then ! (load ! (from ! (stop !)) (look ! 47 refl)) (and-then ! (load ! (from ! (stop !)) (look ! 57 refl)) (and-then ! (load ! (from ! (stop !)) (look ! 55 refl)) (and-then ! (load ! (from ! (stop !)) (look ! 53 refl)) (and-then ! (load ! (from ! (stop !)) (look ! 51 refl)) (and-then ! (load ! (from ! (stop !)) (look ! 19 refl)) (no-more !))))))))))) (λ w.
@@ -449,7 +448,7 @@ module _ {M : Type 1} (𝓤 : URA M) (H : Heap 𝓤) (A : Atoms 𝓤) (W : Given
         use2 W (later (some (λ (δ₃ : GName). ‵ (MutSlice (named 2) (ν₃ ∷ []) K .own (z δ₃ vs) (s₃ (length vs) ∷ [])) ⊛ ‵ (LentMut K κ₃ (ν₃ ∷ []) q₃ γ₃ b₃ o₃ δ₃ vs)))) (lends-mut K κ₃ (ν₃ ∷ []) q₃ γ₃ b₃ o₃ 𝓤 H A W (named 2) (named 2) vs) $ await ! tt $ pick ! (λ δ₃. split ! $
         -- [keys lent; what is kept; the token of ν₃; numbers lent; what is kept; the token of ν₂; pools lent; what is kept; the token of ν; tape; …]
         nothing ! $ move ! (3 ∷ 0 ∷ []) $ join ! $ move ! (5 ∷ 0 ∷ []) $ join ! $ move ! (7 ∷ 0 ∷ []) $ join ! $ move ! (3 ∷ 1 ∷ []) $ join ! $ move ! (1 ∷ 4 ∷ 0 ∷ []) $
-        use3 W (raw (Stage 𝓤 H A mem run .pre (to-stage ν δ ν₂ δ₂ ν₃ δ₃))) (goes-stage ν δ ν₂ δ₂ ν₃ δ₃ (live-fits k gk) (rows-enough (length ys) (k .live) (length us) (within .0), rows-enough (length ys) (k .live) (length vs) (within .1))) $
+        use3 W (raw (Stage 𝓤 H A mem run .pre (to-stage ν δ ν₂ δ₂ ν₃ δ₃))) (goes-stage ν δ ν₂ δ₂ ν₃ δ₃ (live-fits k gk) (within .0, within .1)) $
         -- [what `stage` asks; what is kept of keys, of numbers, of pools; tape; its token; output; its token; _31 at 8; …]
         calls-at ! (fmOf 𝓤 H (W .laws) 𝓣) (Stage 𝓤 H A mem run) known-stage (to-stage ν δ ν₂ δ₂ ν₃ δ₃)
         (and-then ! (load ! (from ! (stop !)) (look ! 44 refl)) (and-then ! (load ! (from ! (fld ! refl (stop !))) (look-in ! 68 (sub ! 2 refl (whole !)))) (and-then ! (load ! (from ! (stop !)) (look ! 40 refl)) (and-then ! (load ! (from ! (stop !)) (look ! 36 refl)) (no-more !))))) (λ w.
@@ -474,7 +473,7 @@ module _ {M : Type 1} (𝓤 : URA M) (H : Heap 𝓤) (A : Atoms 𝓤) (W : Given
   step-with-walks 𝓣 known-stage known-step known-store = walked 𝓤 H A f.ended stayed (f.clauses 𝓤 H A mem run) (WpFn 𝓤 H (𝓣 .C) (𝓣 .Λ) code.function)
       (λ κs. (bookVals, (slice-vals, (slice-vals, (slice-vals, (slice-vals, (uint-vals w64, (uint-vals w64, (timeVals, (slice-vals, tt))))))))))
       (λ κs. (book-tells, (mut-slice-tells (named 0) (κs .0) R, (mut-slice-tells (named 1) (κs .1 .0) N, (mut-slice-tells (named 2) (κs .1 .1 .0) K, (shr-slice-tells (named 3) (κs .1 .1 .1 .0) u8, (uint-tells w64, (uint-tells w64, (time-tells, (mut-slice-tells (named 4) (κs .1 .1 .1 .1 .0) u8, tt))))))))))
-      (λ κs qs bounds a g are. needs 𝓤 ((length (now (a .1 .1 .0)) ≡ recordsMax) × (length (now (a .1 .1 .1 .0)) ≡ recordsMax) × (a .1 .1 .1 .1 .1 .0 ≤ a .1 .1 .1 .1 .1 .1 .0) × (a .1 .1 .1 .1 .1 .1 .0 ≤ length (now (a .1 .1 .1 .1 .0)))) _
+      (λ κs qs bounds a g are. needs 𝓤 ((rowsOf (length (now (a .1 .0))) (a .0 .live) ≤ length (now (a .1 .1 .0))) × (rowsOf (length (now (a .1 .0))) (a .0 .live) ≤ length (now (a .1 .1 .1 .0))) × (a .1 .1 .1 .1 .1 .0 ≤ a .1 .1 .1 .1 .1 .1 .0) × (a .1 .1 .1 .1 .1 .1 .0 ≤ length (now (a .1 .1 .1 .1 .0)))) _
       (walk 𝓤 H A W mem run (κs .0) (κs .1 .0) (κs .1 .1 .0) (κs .1 .1 .1 .0) (κs .1 .1 .1 .1 .0) (qs .0) (qs .1 .0) (qs .1 .1 .0) (qs .1 .1 .1 .0) (qs .1 .1 .1 .1 .0) (a .0)
       (a .1 .0 .ptr .0) (a .1 .0 .ptr .1) (a .1 .0 .name) (a .1 .0 .now) (a .1 .1 .0 .ptr .0) (a .1 .1 .0 .ptr .1) (a .1 .1 .0 .name) (a .1 .1 .0 .now)
       (a .1 .1 .1 .0 .ptr .0) (a .1 .1 .1 .0 .ptr .1) (a .1 .1 .1 .0 .name) (a .1 .1 .1 .0 .now) (a .1 .1 .1 .1 .0 .ptr .0) (a .1 .1 .1 .1 .0 .ptr .1) (a .1 .1 .1 .1 .0 .name) (a .1 .1 .1 .1 .0 .now)

@@ -1,0 +1,16 @@
+-- `few_enough` meets its contract: the rows are counted, and compared.
+use borrow.Author.Needs.{needs}
+use mathlib.Core.Path.{ap}
+use Prim.Native.Nat.{ℕ}
+use lib.Dec.{leb}
+use Rattle.calls.proofs.few_enough.Statement.{statement}
+use Rattle.calls.proofs.few_enough.Tie as tie
+
+rows-of-requires : tie.Need-rows-of-requires
+rows-of-requires c κs = search needs
+
+returns : tie.Need-returns
+returns c = ap (λ (n : ℕ). leb n 1024) (c .rows-of .ensures)
+
+pub few-enough-spec : {M : Type 1} → statement M
+few-enough-spec = tie.close (tie.spec rows-of-requires returns)
