@@ -53,6 +53,7 @@ pub struct Book {
 
 // A live pool: under which message ID it came, its lot's ordinal there, its trade, the three matched fields as bytes,
 // its current face in cents, its lot's kind (1 good, 2 odd, 3 bad) and millions.
+#[repr(C)]
 pub struct Pool {
     pub message: u64,
     pub ordinal: u64,

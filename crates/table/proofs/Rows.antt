@@ -11,18 +11,11 @@ use Rattle.lists.specs.Lists.{part, tab}
 use Rattle.lists.proofs.Tables.{length-tab, getD-tab, take-tab, drop-tab, tab-turn, table-of}
 use Rattle.book.specs.declared.Pool.{Pool}
 use Rattle.book.specs.Records.{noPool}
-use Rattle.table.specs.Rows.{recordAt, tableOf}
+use Rattle.table.specs.Rows.{rowOf, keyOf, recordAt, tableOf}
 
 -- ---- a record of two rows
 abbrev pub recordIn : List ℕ → List ℕ → Pool
 recordIn row key = recordAt (row ∷ []) (key ∷ []) 0
-
--- the rows of a record
-abbrev pub rowOf : Pool → List ℕ
-rowOf p = p .message ∷ p .ordinal ∷ p .trade ∷ p .current ∷ p .kind ∷ p .millions ∷ []
-
-abbrev pub keyOf : Pool → List ℕ
-keyOf p = p .lot ++ (p .pool ++ p .original)
 
 module _ (lot pool original : List ℕ) (a : length lot ≡ 6) (b : length pool ≡ 7) (c : length original ≡ 9) where
   -- the bytes of the three fields one after another

@@ -9,8 +9,8 @@ use Rattle.lists.specs.Lists.{part}
 use Rattle.lists.proofs.Tables.{table-of}
 use Rattle.book.specs.declared.Pool.{Pool}
 use Rattle.book.specs.Records.{noPool}
-use Rattle.table.specs.Rows.{recordAt, tableOf}
-use Rattle.table.proofs.Rows.{recordIn, rowOf, keyOf, length-table, table-at}
+use Rattle.table.specs.Rows.{rowOf, keyOf, recordAt, tableOf}
+use Rattle.table.proofs.Rows.{recordIn, length-table, table-at}
 
 -- the rows of a record of two rows
 row-whole : (row key : List ℕ) → length row ≡ 6 → row ≡ rowOf (recordIn row key)

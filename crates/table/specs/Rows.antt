@@ -1,6 +1,6 @@
 -- The table as the calls are lent it (01, "The book"): for each record a row of six numbers, and a row of the twenty-two bytes of its matched fields.
 use Prim.Native.Nat.{ℕ}
-use mathlib.Core.List.{List, []}
+use mathlib.Core.List.{List, [], _∷_, _++_}
 use lib.ListN.{length, getD}
 use Rattle.lists.specs.Lists.{part, tab}
 use Rattle.book.specs.declared.Pool.{Pool}
@@ -31,3 +31,10 @@ recordAt ns ks i =
 -- the table: a record for each row of numbers
 unfoldable pub tableOf : List (List ℕ) → List (List ℕ) → List Pool
 tableOf ns ks = tab (recordAt ns ks) (length ns) 0
+
+-- the rows of a record
+abbrev pub rowOf : Pool → List ℕ
+rowOf p = p .message ∷ p .ordinal ∷ p .trade ∷ p .current ∷ p .kind ∷ p .millions ∷ []
+
+abbrev pub keyOf : Pool → List ℕ
+keyOf p = p .lot ++ (p .pool ++ p .original)

@@ -21,7 +21,7 @@ pub const KIND: usize = 4;
 pub const MILLIONS: usize = 5;
 
 // The matched fields as one row of bytes.
-fn key_of(lot: [u8; 6], pool: [u8; 7], original: [u8; 9]) -> [u8; 22]
+pub fn key_of(lot: [u8; 6], pool: [u8; 7], original: [u8; 9]) -> [u8; 22]
     ensures { λ r. ⌜ r ≡ lot ++ (pool ++ original) ⌝ }
 {
     [
