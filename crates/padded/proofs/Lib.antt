@@ -1,0 +1,10 @@
+pub mod Sound
+pub mod Alike
+pub mod Calls
+pub mod Changed
+pub mod Rows
+pub mod Storing
+pub mod Staging
+pub mod Stepping
+pub mod Saying
+pub mod Opening

@@ -1,0 +1,177 @@
+// The frame call, opening and the figures on the first rows of a table: where its other records are zeros, the rows are all that a call needs.
+use book::Answer;
+use book::Book;
+use book::Reason;
+use book::Values;
+use engine::Stepped;
+use figures::Figures;
+use opened::Opened;
+use tally::MessageType;
+ghost use mathlib.Core.Path.{_≡_};
+ghost use Prim.Native.Nat.{_+_, _≤_, min};
+ghost use lib.ListN.{length};
+ghost use Rattle.layout.specs.Details.{poolsMax};
+ghost use Rattle.book.specs.Opening.{recordsMax};
+ghost use Rattle.padded.specs.Staged.{rowsOf, fromOf, toOf};
+ghost use Rattle.padded.specs.Moving.{StepsRows, SaysRows, OpensRecords};
+
+// What a frame call on rows gives back: the book and the answer, and the records that changed, from one up to another.
+pub struct Moved {
+    pub stepped: Stepped,
+    pub from: usize,
+    pub to: usize,
+}
+
+// What opening gives back, and how many records of the table are to be zeros.
+pub struct Cleared {
+    pub opened: Opened,
+    pub count: usize,
+}
+
+// The rows of the live pools and of what a message brings, in a table as long as a table can be.
+fn rows_most(live: usize) -> usize
+    ensures { λ r. ⌜ r ≡ min recordsMax (live + poolsMax) ⌝ }
+{
+    if live < book::RECORDS_MAX - layout::POOLS_MAX {
+        return live + layout::POOLS_MAX;
+    }
+    book::RECORDS_MAX
+}
+
+// How many rows of a table are staged.
+pub fn rows_of(records: usize, live: usize) -> usize
+    ensures { λ r. ⌜ r ≡ rowsOf records live ⌝ }
+{
+    let most = rows_most(live);
+    if records < most {
+        return records;
+    }
+    most
+}
+
+// The first record that a call changes.
+fn from_of(kind: MessageType, answer: Answer, before: usize) -> usize
+    ensures { λ r. ⌜ r ≡ fromOf kind answer before ⌝ }
+{
+    match answer {
+        Answer::Accepted(_) => match kind {
+            MessageType::On => before,
+            MessageType::Cc => 0,
+            MessageType::Dk => 0,
+            MessageType::Cx => 0,
+            MessageType::Other => 0,
+        },
+        Answer::Rejected(_) => 0,
+        Answer::Dked(_) => 0,
+    }
+}
+
+// The end of the records that a call changes.
+fn to_of(answer: Answer, before: usize, after: usize) -> usize
+    ensures { λ r. ⌜ r ≡ toOf answer before after ⌝ }
+{
+    match answer {
+        Answer::Accepted(_) => {
+            if before < after {
+                return after;
+            }
+            before
+        },
+        Answer::Rejected(_) => 0,
+        Answer::Dked(_) => 0,
+    }
+}
+
+// The frame call on the first rows of a table of so many records; rest tells whether the other records are zeros.
+pub fn step_rows(
+    book: Book,
+    numbers: &mut [[u64; 6]],
+    keys: &mut [[u8; 22]],
+    records: usize,
+    rest: bool,
+    body: &[u8],
+    time: [u8; 6],
+    out: &mut [u8],
+) -> Moved
+    requires { ⌜ (rowsOf records (book .live) ≤ length (now numbers)) × (rowsOf records (book .live) ≤ length (now keys)) ⌝ }
+    ensures { λ r. ⌜ StepsRows book (now (numbers .entry)) (now (keys .entry)) records rest (now (body .entry)) time (now (out .entry)) r (now (numbers .exit)) (now (keys .exit)) (now (out .exit)) ⌝ }
+{
+    let live = book.live;
+    if (book::RECORDS_MAX < records) | !rest {
+        return Moved {
+            stepped: Stepped {
+                book: book,
+                answer: Answer::Rejected(Reason::Unsound),
+            },
+            from: 0,
+            to: 0,
+        };
+    }
+    let rows = rows_of(records, live);
+    let stepped = engine::step(
+        book,
+        &mut numbers[..rows],
+        &mut keys[..rows],
+        body,
+        time,
+        &mut *out,
+    );
+    let answer = stepped.answer;
+    let after = stepped.book.live;
+    let kind = header::message_type(body);
+    let from = from_of(kind, answer, live);
+    let to = to_of(answer, live, after);
+    Moved {
+        stepped: stepped,
+        from: from,
+        to: to,
+    }
+}
+
+// What a book says of a trade, by the first rows of a table.
+pub fn figures_rows(
+    book: Book,
+    numbers: &[[u64; 6]],
+    keys: &[[u8; 22]],
+    records: usize,
+    rest: bool,
+    trade: usize,
+) -> Figures
+    requires { ⌜ (rowsOf records (book .live) ≤ length (now numbers)) × (rowsOf records (book .live) ≤ length (now keys)) ⌝ }
+    ensures { λ r. ⌜ SaysRows book (now (numbers .entry)) (now (keys .entry)) records rest trade r ⌝ }
+{
+    let live = book.live;
+    if (book::RECORDS_MAX < records) | !rest {
+        return Figures {
+            known: false,
+            left: 0,
+            millions: 0,
+        };
+    }
+    let rows = rows_of(records, live);
+    figures::trade_figures(book, &numbers[..rows], &keys[..rows], trade)
+}
+
+// Opens a book over a table of so many records.
+pub fn open_rows(v: Values, records: usize) -> Cleared
+    ensures { λ r. ⌜ OpensRecords v records r ⌝ }
+{
+    let book = opening::opened_book(v);
+    let values = opening::values_fine(v);
+    if !(values & (records <= book::RECORDS_MAX)) {
+        return Cleared {
+            opened: Opened {
+                fine: false,
+                book: book,
+            },
+            count: 0,
+        };
+    }
+    Cleared {
+        opened: Opened {
+            fine: true,
+            book: book,
+        },
+        count: records,
+    }
+}
