@@ -1,2 +1,4 @@
 pub mod Row
 pub mod Loaded
+pub mod Zeros
+pub mod Blank

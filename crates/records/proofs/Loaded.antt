@@ -18,7 +18,7 @@ module _ (row : Pool → List ℕ) (ps : List Pool) where
   pub length-load : (n : ℕ) (rows : List (List ℕ)) → length (loadTo row ps n rows) ≡ length rows
   unfolding loadTo
   length-load zero rows = refl
-  length-load (suc n) rows = length-set (loadTo row ps n rows) n (row (getD ps n noPool)) ∙ length-load n rows
+  length-load (suc n) rows = length-set (loadTo row ps n rows) n _ ∙ length-load n rows
 
   placed : (n : ℕ) (rows : List (List ℕ)) → n < length rows → (k : ℕ) → (k < n → getD (loadTo row ps n rows) k [] ≡ row (getD ps k noPool)) → k < suc n → Dec (k ≡ n)
       → getD (set (loadTo row ps n rows) n (row (getD ps n noPool))) k [] ≡ row (getD ps k noPool)

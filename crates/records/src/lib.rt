@@ -1,9 +1,12 @@
 // The lent table of pool records: between the records themselves and the rows that the engine works on.
 use book::Pool;
 ghost use mathlib.Core.Path.{_≡_};
+ghost use mathlib.Core.Bool.{_&&_};
 ghost use Prim.Native.Nat.{ℕ, _<_, _≤_};
-ghost use lib.ListN.{length, getD, set};
+ghost use lib.ListN.{length, getD, set, drop};
+ghost use Rattle.lists.specs.Lists.{same, all};
 ghost use Rattle.book.specs.Records.{noPool};
+ghost use Rattle.book.specs.Soundness.{isNone};
 ghost use Rattle.table.specs.Rows.{rowOf, keyOf};
 ghost use Rattle.records.specs.Fit.{Fit};
 ghost use Rattle.records.specs.Loaded.{loadTo};
@@ -35,4 +38,52 @@ pub fn load(pools: &[Pool], count: usize, numbers: &mut [[u64; 6]], keys: &mut [
         put_row(numbers, keys, i, p);
         i += 1;
     }
+}
+
+// Whether the matched fields are zeros, without a branch.
+fn fields_none(lot: [u8; 6], pool: [u8; 7], original: [u8; 9]) -> bool
+    ensures { λ r. ⌜ r ≡ (same lot (noPool .lot) && (same pool (noPool .pool) && same original (noPool .original))) ⌝ }
+{
+    let lot_none = (lot[0] == 0)
+        & ((lot[1] == 0) & ((lot[2] == 0) & ((lot[3] == 0) & ((lot[4] == 0) & (lot[5] == 0)))));
+    let pool_none = (pool[0] == 0)
+        & ((pool[1] == 0)
+            & ((pool[2] == 0)
+                & ((pool[3] == 0) & ((pool[4] == 0) & ((pool[5] == 0) & (pool[6] == 0))))));
+    let original_none = (original[0] == 0)
+        & ((original[1] == 0)
+            & ((original[2] == 0)
+                & ((original[3] == 0)
+                    & ((original[4] == 0)
+                        & ((original[5] == 0)
+                            & ((original[6] == 0) & ((original[7] == 0) & (original[8] == 0))))))));
+    lot_none & (pool_none & original_none)
+}
+
+// Whether a record is zeros.
+fn is_none(p: Pool) -> bool
+    ensures { λ r. ⌜ r ≡ isNone p ⌝ }
+{
+    let lot = p.lot;
+    let pool = p.pool;
+    let original = p.original;
+    let fields = fields_none(lot, pool, original);
+    (p.message == 0)
+        & ((p.ordinal == 0)
+            & ((p.trade == 0)
+                & (fields & ((p.current == 0) & ((p.kind == 0) & (p.millions == 0))))))
+}
+
+// Whether every record from a place on is zeros.
+pub fn blank_from(pools: &[Pool], from: usize) -> bool
+    ensures { λ r. ⌜ r ≡ all isNone (drop from (now (pools .entry))) ⌝ }
+{
+    let mut blank = true;
+    let mut i = from;
+    while i < pools.len() {
+        let p = pools[i];
+        blank = blank & is_none(p);
+        i += 1;
+    }
+    blank
 }
