@@ -1,0 +1,33 @@
+-- The rows that hold the first records, with the word on the others, are what a call on rows asks for.
+use mathlib.Core.Path.{_≡_, refl, sym, _∙_, ap}
+use mathlib.Core.List.{List}
+use mathlib.Core.Bool.{Bool}
+use Prim.Native.Nat.{ℕ, _+_, _<_, _≤_, min}
+use native.Mathlib.Nat.{min-le-left}
+use lib.ListN.{length, getD, take, drop}
+use Rattle.lists.specs.Lists.{all}
+use Rattle.book.specs.declared.Pool.{Pool}
+use Rattle.book.specs.Records.{noPool}
+use Rattle.book.specs.Soundness.{isNone}
+use Rattle.table.specs.Rows.{rowOf, keyOf, tableOf}
+use Rattle.records.specs.Fit.{Fit}
+use Rattle.records.specs.Loaded.{loadTo}
+use Rattle.records.proofs.Loaded.{length-load, load-table}
+use Rattle.padded.specs.Staged.{rowsOf}
+use Rattle.calls.specs.Stages.{Stages}
+
+pub rows-within : (records live : ℕ) → rowsOf records live ≤ records
+rows-within records live = min-le-left records (min 4096 (live + 250))
+
+module _ (pools : List Pool) (live : ℕ) (ns ks ns′ ks′ : List (List ℕ)) where
+  abbrev rows : ℕ
+  rows = rowsOf (length pools) live
+
+  pub stages : (r : Bool) → rows ≤ length ns → rows ≤ length ks
+      → (ns′ ≡ loadTo rowOf pools rows ns) × (ks′ ≡ loadTo keyOf pools rows ks) × ((k : ℕ) → k < rows → Fit (getD pools k noPool)) → r ≡ all isNone (drop rows pools) → Stages pools live ns ks r ns′ ks′
+  stages r hn hk h e = record {
+    rows = ap (λ (ms : List (List ℕ)). take rows (tableOf ms ks′)) (h .0) ∙ ap (λ (js : List (List ℕ)). take rows (tableOf (loadTo rowOf pools rows ns) js)) (h .1) ∙ load-table pools rows ns ks (rows-within (length pools) live) hn hk (h .2);
+    others = e;
+    numbers = ap length (h .0) ∙ length-load rowOf pools rows ns;
+    keys = ap length (h .1) ∙ length-load keyOf pools rows ks;
+  }

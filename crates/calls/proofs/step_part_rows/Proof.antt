@@ -1,0 +1,43 @@
+-- The body is a part of the tape, so what the rows promise of it is promised of that part.
+use borrow.Author.Needs.{needs}
+use Rattle.lists.specs.Lists.{part}
+use Rattle.calls.proofs.step_part_rows.Statement.{statement}
+use Rattle.calls.proofs.step_part_rows.Tie as tie
+
+sub-step-rows : tie.Need-sub-step-rows
+sub-step-rows c = search needs
+
+part-step-rows-start : tie.Need-part-step-rows-start
+part-step-rows-start c = search needs
+
+part-step-rows-end : tie.Need-part-step-rows-end
+part-step-rows-end c = search needs
+
+step-rows-requires : tie.Need-step-rows-requires
+step-rows-requires c κs = search needs
+
+same-length : tie.Need-same-length
+same-length c = search needs
+
+same-length-2 : tie.Need-same-length-2
+same-length-2 c = search needs
+
+same-length-3 : tie.Need-same-length-3
+same-length-3 c = search needs
+
+returns : tie.Need-returns
+unfolding part
+returns c = search needs
+
+pub step-part-rows-spec : {M : Type 1} → statement M
+step-part-rows-spec =
+    tie.close
+    (tie.spec
+    sub-step-rows
+    part-step-rows-start
+    part-step-rows-end
+    step-rows-requires
+    same-length
+    same-length-2
+    same-length-3
+    returns)
