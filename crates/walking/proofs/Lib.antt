@@ -1,3 +1,4 @@
+pub mod Blanks
 pub mod Count
 pub mod Lent
 pub mod Scratch

@@ -1,13 +1,17 @@
-// The public calls on a lent table of pool records: the records that a call works on are copied into rows, the engine steps there, and the records that moved are written back.
+// The frame call on a lent table of pool records, by rows that are lent too: the records that a call works on are copied into the rows, the engine steps there, and the records that moved are written back.
 use book::Book;
 use book::Pool;
+use engine::Stepped;
 use padded::Moved;
+ghost use mathlib.Core.Path.{_≡_};
 ghost use Prim.Native.Nat.{_-_, _≤_};
 ghost use lib.ListN.{length};
 ghost use Rattle.lists.specs.Lists.{part};
+ghost use Rattle.book.specs.Opening.{recordsMax};
 ghost use Rattle.padded.specs.Staged.{rowsOf};
 ghost use Rattle.padded.specs.Moving.{StepsRows};
-ghost use Rattle.calls.specs.Stages.{Stages};
+ghost use Rattle.padded.specs.Calls.{Framed};
+ghost use Rattle.staged.specs.Stages.{Stages};
 
 // Copies the records that a call works on into the rows, and tells whether all others are zeros.
 pub fn stage(pools: &[Pool], live: usize, numbers: &mut [[u64; 6]], keys: &mut [[u8; 22]]) -> bool
@@ -45,4 +49,36 @@ fn step_part_rows(
         time,
         &mut *out,
     )
+}
+
+// The frame call on a lent table, by rows that are lent too.
+pub fn step_with(
+    book: Book,
+    pools: &mut [Pool],
+    numbers: &mut [[u64; 6]],
+    keys: &mut [[u8; 22]],
+    tape: &[u8],
+    from: usize,
+    to: usize,
+    time: [u8; 6],
+    out: &mut [u8],
+) -> Stepped
+    requires { ⌜ (length (now numbers) ≡ recordsMax) × (length (now keys) ≡ recordsMax) × (from ≤ to) × (to ≤ length (now tape)) ⌝ }
+    ensures { λ r. ⌜ Framed book (now (pools .entry)) (part (now (tape .entry)) from (to - from)) time (now (out .entry)) r (now (pools .exit)) (now (out .exit)) ⌝ }
+{
+    let rest = stage(pools, book.live, numbers, keys);
+    let moved = step_part_rows(
+        book,
+        numbers,
+        keys,
+        pools.len(),
+        rest,
+        tape,
+        from,
+        to,
+        time,
+        out,
+    );
+    storing::store(pools, moved.from, moved.to, numbers, keys);
+    moved.stepped
 }

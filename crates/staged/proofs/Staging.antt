@@ -1,5 +1,5 @@
 -- The rows that hold the first records, with the word on the others, are what a call on rows asks for.
-use mathlib.Core.Path.{_≡_, refl, sym, _∙_, ap}
+use mathlib.Core.Path.{_≡_, _∙_, ap}
 use mathlib.Core.List.{List}
 use mathlib.Core.Bool.{Bool}
 use Prim.Native.Nat.{ℕ, _+_, _<_, _≤_, min}
@@ -14,7 +14,7 @@ use Rattle.records.specs.Fit.{Fit}
 use Rattle.records.specs.Loaded.{loadTo}
 use Rattle.records.proofs.Loaded.{length-load, load-table}
 use Rattle.padded.specs.Staged.{rowsOf}
-use Rattle.calls.specs.Stages.{Stages}
+use Rattle.staged.specs.Stages.{Stages}
 
 pub rows-within : (records live : ℕ) → rowsOf records live ≤ records
 rows-within records live = min-le-left records (min 4096 (live + 250))

@@ -1,8 +1,8 @@
 -- The body is a part of the tape, so what the rows promise of it is promised of that part.
 use borrow.Author.Needs.{needs}
 use Rattle.lists.specs.Lists.{part}
-use Rattle.calls.proofs.step_part_rows.Statement.{statement}
-use Rattle.calls.proofs.step_part_rows.Tie as tie
+use Rattle.staged.proofs.step_part_rows.Statement.{statement}
+use Rattle.staged.proofs.step_part_rows.Tie as tie
 
 sub-step-rows : tie.Need-sub-step-rows
 sub-step-rows c = search needs

@@ -47,8 +47,8 @@ use Rattle.records.specs.Fit.{Fit}
 use Rattle.records.specs.Loaded.{loadTo}
 use Rattle.records.proofs.Row.{R}
 use Rattle.padded.specs.Staged.{rowsOf}
-use Rattle.calls.specs.Stages.{Stages}
-use Rattle.calls.proofs.Staging.{rows-within, stages}
+use Rattle.staged.specs.Stages.{Stages}
+use Rattle.staged.proofs.Staging.{rows-within, stages}
 use Rattle.padded.proofs.rows_of as ro
 use Rattle.padded.proofs.rows_of.Symbol as rows-def
 use Rattle.padded.proofs.rows_of.Symbol.{name as #padded·rows-of}
@@ -61,10 +61,10 @@ use Rattle.records.proofs.blank_from as bf
 use Rattle.records.proofs.blank_from.Symbol as blank-def
 use Rattle.records.proofs.blank_from.Symbol.{name as #records·blank-from}
 use Rattle.records.proofs.blank_from.Met as blank-thm
-use Rattle.calls.proofs.stage.Key.{name as #calls·stage}
-use Rattle.calls.proofs.stage as f
-use Rattle.calls.proofs.stage.Statement as stated
-use Rattle.calls.proofs.stage.Code as code
+use Rattle.staged.proofs.stage.Key.{name as #staged·stage}
+use Rattle.staged.proofs.stage as f
+use Rattle.staged.proofs.stage.Statement as stated
+use Rattle.staged.proofs.stage.Code as code
 
 abbrev τ : ℕ → Ty
 τ = tyOf code.function
@@ -263,7 +263,7 @@ pub stage-spec : {M : Type 1} → stated.statement M
 unfolding code.routine tablesOf
 stage-spec 𝓤 H 𝓜 𝓖 𝓡 =
     entered 𝓤 H (tripleOf 𝓤 H (𝓖 .A) f.signature (f.spec 𝓤 H (𝓖 .A) (𝓜 .mem) (𝓡 .run)))
-    (tables 𝓤 H 𝓜 𝓡 code.env .C) (tables 𝓤 H 𝓜 𝓡 code.env .Λ) #calls·stage code.function (code.unfolded 𝓤 H 𝓜 𝓡)
+    (tables 𝓤 H 𝓜 𝓡 code.env .C) (tables 𝓤 H 𝓜 𝓡 code.env .Λ) #staged·stage code.function (code.unfolded 𝓤 H 𝓜 𝓡)
     (stage-meets 𝓤 H (𝓖 .A) (givenOf 𝓤 H 𝓜 𝓖) (𝓜 .mem) (𝓡 .run) (tablesOf 𝓤 H 𝓜 (tables 𝓤 H 𝓜 𝓡 code.env))
     (cited 𝓤 H (RowsOf 𝓤 H (𝓖 .A) (𝓜 .mem) (𝓡 .run)) 𝓜 𝓡 code.env #padded·rows-of rows-def.routine code.calls-padded·rows-of (rows-thm.met 𝓤 H 𝓜 𝓖 𝓡))
     (cited 𝓤 H (Load 𝓤 H (𝓖 .A) (𝓜 .mem) (𝓡 .run)) 𝓜 𝓡 code.env #records·load load-def.routine code.calls-records·load (load-thm.met 𝓤 H 𝓜 𝓖 𝓡))

@@ -1,0 +1,2 @@
+pub mod MachineValues
+pub mod Cleared

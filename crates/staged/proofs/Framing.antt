@@ -1,0 +1,34 @@
+-- A call on the rows of a lent table, once the records that moved are written back, is the frame call on the table.
+use mathlib.Core.Path.{_≡_, refl, sym, _∙_, subst}
+use mathlib.Core.List.{List}
+use mathlib.Core.Bool.{Bool}
+use Prim.Native.Nat.{ℕ, _+_, _≤_, min}
+use native.Mathlib.Nat.{min-le-left, min-le-right}
+use native.Mathlib.Omega.{arith}
+use lib.ListN.{length}
+use Rattle.book.specs.declared.Book.{Book}
+use Rattle.book.specs.declared.Pool.{Pool}
+use Rattle.book.specs.Opening.{recordsMax}
+use Rattle.padded.specs.declared.Moved.{Moved}
+use Rattle.padded.specs.Staged.{rowsOf, stored}
+use Rattle.padded.specs.Moving.{Moves, StepsRows}
+use Rattle.padded.specs.Calls.{Framed}
+use Rattle.staged.specs.Stages.{Stages}
+
+-- as many rows as a table has at most are enough
+pub rows-enough : (records live : ℕ) (rows : ℕ) → rows ≡ recordsMax → rowsOf records live ≤ rows
+rows-enough records live rows e = omega (arith, e, min-le-right records (min 4096 (live + 250)), min-le-left 4096 (live + 250))
+
+module _ (b : Book) (pools : List Pool) (ns ks ns₁ ks₁ ns₂ ks₂ : List (List ℕ)) (rest : Bool) (body time out : List ℕ) (r : Moved) (out′ : List ℕ)
+    (staged : Stages pools (b .live) ns ks rest ns₁ ks₁) (stepped : StepsRows b ns₁ ks₁ (length pools) rest body time out r ns₂ ks₂ out′) where
+  pub moves : Moves b pools body time out r ns₂ ks₂ out′
+  moves = stepped .moves pools (record { size = refl; rows = staged .rows; others = staged .others })
+
+  -- what is asked of the records to write back
+  pub storable : length ns ≡ recordsMax → length ks ≡ recordsMax → (r .from ≤ r .to) × (r .to ≤ length pools) × (r .to ≤ length ns₂) × (r .to ≤ length ks₂)
+  storable en ek =
+      let same : length ns₂ ≡ length ks₂ = stepped .numbers ∙ staged .numbers ∙ en ∙ sym (stepped .keys ∙ staged .keys ∙ ek) in
+      (moves .ordered, moves .within, moves .staged, subst (λ (m : ℕ). r .to ≤ m) same (moves .staged))
+
+  pub framed : (pools′ : List Pool) → pools′ ≡ stored pools ns₂ ks₂ (r .from) (r .to) → Framed b pools body time out (r .stepped) pools′ out′
+  framed pools′ e = record { answer = moves .answer; book = moves .book; table = e ∙ moves .table; output = moves .output }

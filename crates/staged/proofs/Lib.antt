@@ -1,0 +1,3 @@
+pub mod Staging
+pub mod Values
+pub mod Framing

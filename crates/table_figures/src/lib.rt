@@ -1,0 +1,15 @@
+// A trade's figures on a lent table of pool records: the records that the figures are read from are copied into rows, and read there.
+use book::Book;
+use book::Pool;
+use figures::Figures;
+ghost use Rattle.padded.specs.Calls.{Says};
+
+// What a book says of a trade, on any book, table and place of a trade.
+pub fn table_figures(book: Book, pools: &[Pool], trade: usize) -> Figures
+    ensures { λ r. ⌜ Says book (now (pools .entry)) trade r ⌝ }
+{
+    let mut numbers = [[0u64; 6]; book::RECORDS_MAX];
+    let mut keys = [[0u8; 22]; book::RECORDS_MAX];
+    let rest = staged::stage(pools, book.live, &mut numbers, &mut keys);
+    padded::figures_rows(book, &numbers, &keys, pools.len(), rest, trade)
+}
