@@ -1,5 +1,5 @@
 -- A call on the rows of a lent table, once the records that moved are written back, is the frame call on the table.
-use mathlib.Core.Path.{_≡_, refl, sym, _∙_, subst}
+use mathlib.Core.Path.{_≡_, refl, _∙_}
 use mathlib.Core.List.{List}
 use mathlib.Core.Bool.{Bool}
 use Prim.Native.Nat.{ℕ, _+_, _≤_, min}
@@ -25,10 +25,8 @@ module _ (b : Book) (pools : List Pool) (ns ks ns₁ ks₁ ns₂ ks₂ : List (L
   moves = stepped .moves pools (record { size = refl; rows = staged .rows; others = staged .others })
 
   -- what is asked of the records to write back
-  pub storable : length ns ≡ recordsMax → length ks ≡ recordsMax → (r .from ≤ r .to) × (r .to ≤ length pools) × (r .to ≤ length ns₂) × (r .to ≤ length ks₂)
-  storable en ek =
-      let same : length ns₂ ≡ length ks₂ = stepped .numbers ∙ staged .numbers ∙ en ∙ sym (stepped .keys ∙ staged .keys ∙ ek) in
-      (moves .ordered, moves .within, moves .staged, subst (λ (m : ℕ). r .to ≤ m) same (moves .staged))
+  pub storable : (r .from ≤ r .to) × (r .to ≤ length pools) × (r .to ≤ length ns₂) × (r .to ≤ length ks₂)
+  storable = (moves .ordered, moves .within, moves .staged, moves .stagedKeys)
 
   pub framed : (pools′ : List Pool) → pools′ ≡ stored pools ns₂ ks₂ (r .from) (r .to) → Framed b pools body time out (r .stepped) pools′ out′
   framed pools′ e = record { answer = moves .answer; book = moves .book; table = e ∙ moves .table; output = moves .output }

@@ -1,0 +1,43 @@
+// The public calls on a lent table of pool records: a call's rows are its own, so the caller lends the table alone.
+use book::Book;
+use book::Pool;
+use engine::Stepped;
+ghost use Prim.Native.Nat.{_-_, _≤_};
+ghost use lib.ListN.{length};
+ghost use Rattle.lists.specs.Lists.{part};
+ghost use Rattle.padded.specs.Calls.{Framed};
+
+// The frame call on the body that lies in a tape from one place up to another.
+pub fn step_part(
+    book: Book,
+    pools: &mut [Pool],
+    tape: &[u8],
+    from: usize,
+    to: usize,
+    time: [u8; 6],
+    out: &mut [u8],
+) -> Stepped
+    requires { ⌜ (from ≤ to) × (to ≤ length (now tape)) ⌝ }
+    ensures { λ r. ⌜ Framed book (now (pools .entry)) (part (now (tape .entry)) from (to - from)) time (now (out .entry)) r (now (pools .exit)) (now (out .exit)) ⌝ }
+{
+    let mut numbers = [[0u64; 6]; book::RECORDS_MAX];
+    let mut keys = [[0u8; 22]; book::RECORDS_MAX];
+    staged::step_with(
+        book,
+        pools,
+        &mut numbers,
+        &mut keys,
+        tape,
+        from,
+        to,
+        time,
+        out,
+    )
+}
+
+// The frame call, on any book, table, body, time bytes and output.
+pub fn step(book: Book, pools: &mut [Pool], body: &[u8], time: [u8; 6], out: &mut [u8]) -> Stepped
+    ensures { λ r. ⌜ Framed book (now (pools .entry)) (now (body .entry)) time (now (out .entry)) r (now (pools .exit)) (now (out .exit)) ⌝ }
+{
+    step_part(book, pools, body, 0, body.len(), time, out)
+}
