@@ -10,7 +10,7 @@ use Rattle.framing.specs.declared.Frame.the-variants.{Body, Nothing}
 use Rattle.framing.specs.Framing.{nextFrame}
 use Rattle.framing.proofs.Ahead.{frame-ahead}
 use Rattle.day.specs.Tape.{bodyThen, bodiesFrom, bodiesOf}
-use Rattle.day.proofs.Passing.{none-past}
+use Rattle.day.proofs.Counting.{none-past}
 
 module _ (tape : List ℕ) where
   none : (n at : ℕ) → nextFrame tape at ≡ Nothing → bodiesFrom tape n at ≡ []

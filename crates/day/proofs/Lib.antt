@@ -1,5 +1,5 @@
-pub mod Took
-pub mod Passing
-pub mod Turns
+pub mod Counting
+pub mod Turning
+pub mod Values
 pub mod Enough
 pub mod Promised

@@ -1,2 +1,3 @@
 pub mod Tape
 pub mod Days
+pub mod Turns

@@ -1,11 +1,15 @@
-// A day: every whole frame of a tape is put to a book, one after another, and the accepted ones are counted.
+// A day: every whole frame of a tape is put to a book over a lent table, one after another, and the accepted ones are counted.
 use book::Answer;
 use book::Book;
+use book::Pool;
+use engine::Stepped;
 use framing::Frame;
 ghost use mathlib.Core.Path.{_≡_};
+ghost use Prim.Native.Nat.{_<_, _≤_, _^_};
 ghost use lib.ListN.{length};
 ghost use Rattle.book.specs.Reasons.{isAccepted};
-ghost use Rattle.day.specs.Days.{Takes, Passes};
+ghost use Rattle.day.specs.Days.{Passes};
+ghost use Rattle.day.specs.Turns.{framesIn, placeAfter, countedOf, begunOf, turn};
 
 // The room for what goes out: what 44 asks for, a TX and an AA.
 const ROOM: usize = 217;
@@ -17,10 +21,82 @@ pub struct Day {
     pub others: u64,
 }
 
-// What one frame leaves: the book, and whether it was accepted.
-struct Taken {
-    book: Book,
-    accepted: bool,
+// A day so far, and the place in the tape that it has come to.
+struct Going {
+    day: Day,
+    at: usize,
+}
+
+// Where a frame's body starts and ends, and the place after the frame.
+struct Place {
+    start: usize,
+    end: usize,
+    next: usize,
+}
+
+// How many whole frames a tape has.
+fn frames_in(tape: &[u8]) -> usize
+    ensures { λ r. ⌜ r ≡ framesIn (now (tape .entry)) ⌝ }
+{
+    let mut count: usize = 0;
+    let mut at: usize = 0;
+    while at < tape.len() {
+        let found = framing::next_frame(tape, at);
+        let frame = found.frame;
+        match frame {
+            Frame::Body {
+                start: _,
+                end: _,
+                next,
+            } => {
+                at = next;
+                count += 1;
+            },
+            Frame::Nothing => {
+                return count;
+            },
+        }
+    }
+    count
+}
+
+// Where the next frame from the place on lies; an empty body, and the place itself, where there is none.
+fn frame_after(tape: &[u8], going: Going) -> Place
+    ensures { λ r. ⌜ (r ≡ placeAfter (now (tape .entry)) (going .at)) × (r .start ≤ r .end) × (r .end ≤ length (now (tape .entry))) ⌝ }
+{
+    let at = going.at;
+    let found = framing::next_frame(tape, at);
+    let frame = found.frame;
+    match frame {
+        Frame::Body { start, end, next } => Place { start, end, next },
+        Frame::Nothing => Place {
+            start: 0,
+            end: 0,
+            next: at,
+        },
+    }
+}
+
+// The book so far.
+fn book_of(going: Going) -> Book
+    ensures { λ r. ⌜ r ≡ going .day .book ⌝ }
+{
+    let day = going.day;
+    day.book
+}
+
+// Where a frame's body starts.
+fn start_of(place: Place) -> usize
+    ensures { λ r. ⌜ r ≡ place .start ⌝ }
+{
+    place.start
+}
+
+// Where it ends.
+fn end_of(place: Place) -> usize
+    ensures { λ r. ⌜ r ≡ place .end ⌝ }
+{
+    place.end
 }
 
 fn is_accepted(answer: Answer) -> bool
@@ -33,69 +109,68 @@ fn is_accepted(answer: Answer) -> bool
     }
 }
 
-// Puts one frame to the book. What goes out is written and dropped.
-fn put_frame(book: Book, numbers: &mut [[u64; 6]], keys: &mut [[u8; 22]], body: &[u8]) -> Taken
-    requires { ⌜ length (now keys) ≡ length (now numbers) ⌝ }
-    ensures { λ r. ⌜ Takes book (now (numbers .entry)) (now (keys .entry)) (now (body .entry)) r (now (numbers .exit)) (now (keys .exit)) ⌝ }
+// Before the first frame.
+fn begun(book: Book) -> Going
+    ensures { λ r. ⌜ r ≡ begunOf book ⌝ }
 {
-    let mut out = [0u8; ROOM];
-    let stepped = engine::step(
-        book,
-        &mut *numbers,
-        &mut *keys,
-        body,
-        [b'0', b'0', b'0', b'0', b'0', b'0'],
-        &mut out,
-    );
-    let answer = stepped.answer;
-    let after = stepped.book;
-    Taken {
-        book: after,
-        accepted: is_accepted(answer),
+    Going {
+        day: Day {
+            book,
+            accepted: 0,
+            others: 0,
+        },
+        at: 0,
     }
 }
 
-// The day of a tape. Slices of unequal lengths are no table: nothing is put to the book, and both counts are 0.
-pub fn run_day(book: Book, numbers: &mut [[u64; 6]], keys: &mut [[u8; 22]], tape: &[u8]) -> Day
-    ensures { λ r. ⌜ Passes book (now (numbers .entry)) (now (keys .entry)) (now (tape .entry)) r (now (numbers .exit)) (now (keys .exit)) ⌝ }
+// After a frame: its book, one more among the accepted or the others, and the place after it.
+fn counted(going: Going, stepped: Stepped, place: Place) -> Going
+    requires { ⌜ (going .day .accepted < 2 ^ 63) × (going .day .others < 2 ^ 63) ⌝ }
+    ensures { λ r. ⌜ r ≡ countedOf going (stepped .book) (isAccepted (stepped .answer)) (place .next) ⌝ }
 {
-    let mut current = book;
-    let mut accepted: u64 = 0;
-    let mut others: u64 = 0;
-    let mut at: usize = 0;
-    if keys.len() != numbers.len() {
-        return Day {
-            book: current,
-            accepted: accepted,
-            others: others,
-        };
+    let answer = stepped.answer;
+    let book = stepped.book;
+    let mut accepted = going.day.accepted;
+    let mut others = going.day.others;
+    if is_accepted(answer) {
+        accepted += 1;
+    } else {
+        others += 1;
     }
-    while at < tape.len() {
-        let found = framing::next_frame(tape, at);
-        let frame = found.frame;
-        match frame {
-            Frame::Body { start, end, next } => {
-                at = next;
-                let taken = put_frame(current, &mut *numbers, &mut *keys, &tape[start..end]);
-                current = taken.book;
-                if taken.accepted {
-                    accepted += 1;
-                } else {
-                    others += 1;
-                }
-            },
-            Frame::Nothing => {
-                return Day {
-                    book: current,
-                    accepted: accepted,
-                    others: others,
-                };
-            },
-        }
+    Going {
+        day: Day {
+            book,
+            accepted,
+            others,
+        },
+        at: place.next,
     }
-    Day {
-        book: current,
-        accepted: accepted,
-        others: others,
+}
+
+// Puts the next frame of the tape to the book. What goes out is written and dropped.
+fn put_frame(going: Going, pools: &mut [Pool], tape: &[u8]) -> Going
+    requires { ⌜ (going .day .accepted < 2 ^ 63) × (going .day .others < 2 ^ 63) ⌝ }
+    ensures { λ r. ⌜ (r ≡ turn (now (tape .entry)) going (now (pools .entry)) .0) × (now (pools .exit) ≡ turn (now (tape .entry)) going (now (pools .entry)) .1) ⌝ }
+{
+    let place = frame_after(tape, going);
+    let book = book_of(going);
+    let start = start_of(place);
+    let end = end_of(place);
+    let mut out = [0u8; ROOM];
+    let stepped = calls::step_part(book, pools, tape, start, end, [b'0'; 6], &mut out);
+    counted(going, stepped, place)
+}
+
+// The day of a tape.
+pub fn run_day(book: Book, pools: &mut [Pool], tape: &[u8]) -> Day
+    ensures { λ r. ⌜ Passes book (now (pools .entry)) (now (tape .entry)) r (now (pools .exit)) ⌝ }
+{
+    let count = frames_in(tape);
+    let mut going = begun(book);
+    let mut i: usize = 0;
+    while i < count {
+        going = put_frame(going, pools, tape);
+        i += 1;
     }
+    going.day
 }

@@ -1,30 +1,29 @@
--- The program's opening passes, and the book that it runs its day on is the one that the report speaks of.
-use mathlib.Core.Path.{_≡_, refl, sym, ap, _∙_}
+-- The program's values pass 41, and the book that it runs its day on is the one that the report speaks of.
+use mathlib.Core.Path.{_≡_, refl, sym, ap, subst, _∙_}
 use mathlib.Core.List.{List, [], _∷_}
-use mathlib.Core.Bool.{true, _&&_}
+use mathlib.Core.Bool.{Bool, true, false}
 use Prim.Native.Nat.{ℕ}
 use lib.ListN.{length, replicate, set, length-replicate}
-use lib.Dec.{eqb, leb}
-use borrow.Author.Tests.{eq-eqb}
 use Rattle.lists.specs.Lists.{within, part}
 use Rattle.fields.specs.Fields.{allBetween}
 use Rattle.calendar.specs.Calendar.{dayNumber, weekdayOf, isDate, businessDate}
 use Rattle.sequence.specs.Sequence.{outbound}
 use Rattle.book.specs.declared.Trade.{Trade}
 use Rattle.book.specs.declared.Values.{Values}
+use Rattle.book.specs.declared.Book.{Book}
+use Rattle.book.specs.declared.Pool.{Pool}
 use Rattle.book.specs.Records.{noPool}
-use Rattle.book.specs.Opening.{valuesFine, openingFine, cleared, recordsMax}
-use Rattle.book.specs.Promise.{State, afterAll, openedState}
-use Rattle.table.specs.Rows.{tableOf}
-use Rattle.table.proofs.Rows.{length-table}
+use Rattle.book.specs.Opening.{valuesFine, cleared}
+use Rattle.book.specs.Promise.{State, afterAll, fed, openedState}
 use Rattle.opened.specs.declared.Opened.{Opened}
-use Rattle.opened.specs.Opening.{Opens}
 use Rattle.figures.specs.declared.Figures.{Figures}
 use Rattle.figures.specs.Saying.{figuresOf}
+use Rattle.padded.specs.Calls.{Opens, Says}
 use Rattle.day.specs.declared.Day.{Day}
 use Rattle.day.specs.Tape.{putsOf}
-use Rattle.day.specs.Days.{stateOf, Ran, Passes}
-use Rattle.daytape.specs.Program.{blank, theTrade, valuesGiven, start, saidOf, Reports}
+use Rattle.day.specs.Days.{stateOf, acceptedAmong, othersAmong, Passes}
+use Rattle.daytape.specs.declared.Report.{Report}
+use Rattle.daytape.specs.Program.{blank, theTrade, valuesGiven, startOf, saidOf, reportOf, ReportsOver, Reports}
 
 -- the first of 64 trades is the one given
 pub values-given : (b t : Trade) → b ≡ blank → t ≡ theTrade
@@ -47,35 +46,49 @@ pub given-fine : valuesFine valuesGiven ≡ true
 unfolding valuesFine valuesGiven within part allBetween dayNumber weekdayOf isDate businessDate
 given-fine = refl
 
-module _ (ns ks : List (List ℕ)) (rows : length ns ≡ 512) (bytes : length ks ≡ 512) where
-  -- 41 passes
-  opening-fine : openingFine valuesGiven (tableOf ns ks) ≡ true
-  unfolding openingFine
-  opening-fine = λ i. given-fine i && leb ((length-table ns ks ∙ rows) i) recordsMax
+-- the records of zeros, opened: zeros again, whether 41 passes or not
+cleared-zeros : (n : ℕ) → cleared (replicate n noPool) ≡ replicate n noPool
+unfolding cleared
+cleared-zeros n = ap (λ (m : ℕ). replicate m noPool) (length-replicate n noPool)
 
-  cleared-is : cleared (tableOf ns ks) ≡ cleared (replicate 512 noPool)
-  unfolding cleared
-  cleared-is = ap (λ n. replicate n noPool) (length-table ns ks ∙ rows ∙ sym (length-replicate 512 noPool))
+module _ (v : Values) (n : ℕ) (zeros : List Pool) (o : Opened) (opens : Opens v (replicate n noPool) o zeros) where
+  table-is : (fine : Bool) → o .fine ≡ fine → zeros ≡ cleared (replicate n noPool)
+  table-is true e = opens .zeros e
+  table-is false e = opens .stays e ∙ sym (cleared-zeros n)
 
-  module _ (v : Values) (given : v ≡ valuesGiven) (ms js : List (List ℕ)) (o : Opened) (opens : Opens v ns ks ms js o) where
-    fine : o .fine ≡ true
-    fine = opens .fine ∙ (λ i. eq-eqb (length ks) (length ns) (bytes ∙ sym rows) i && openingFine (given i) (tableOf ns ks)) ∙ opening-fine
+  begins : stateOf (o .book) zeros ≡ openedState v (replicate n noPool)
+  begins = λ i. record { book = opens .book i; table = table-is (o .fine) refl i }
 
-    begins : stateOf (o .book) ms js ≡ start
-    begins = (λ i. record { book = opens .book i; table = (opens .zeros fine ∙ cleared-is) i }) ∙ ap (λ (w : Values). openedState w (replicate 512 noPool)) given
+-- the table of zeros: shut, so that no check computes it
+unfoldable pub noPools : ℕ → List Pool
+noPools n = replicate n noPool
 
-    module _ (paired : length js ≡ length ms) (tape : List ℕ) (d : Day) (is hs : List (List ℕ)) (p : Passes (o .book) ms js tape d is hs)
-        (same : length hs ≡ length is) (f : Figures) (says : f ≡ figuresOf (eqb (length hs) (length is)) (d .book) (tableOf is hs) 0) where
-      ran : Ran start (putsOf tape) d is hs
-      ran = rw begins at (p .ran paired)
+pub no-pools-are : (n : ℕ) → replicate n noPool ≡ noPools n
+unfolding noPools
+no-pools-are n = refl
 
-      said : f ≡ saidOf (afterAll start (putsOf tape)) 0
-      said = says ∙ (λ i. figuresOf (eq-eqb (length hs) (length is) same i) (d .book) (tableOf is hs) 0) ∙ ap (λ (s : State). saidOf s 0) (ran .state)
+pub no-pools-long : (n : ℕ) → length (noPools n) ≡ n
+unfolding noPools
+no-pools-long n = length-replicate n noPool
 
-      pub reports : Reports tape (record { accepted = d .accepted; others = d .others; left = f .left; millions = f .millions })
-      reports = record {
-        accepted = ran .accepted;
-        others = ran .others;
-        left = ap (λ (g : Figures). g .left) said;
-        millions = ap (λ (g : Figures). g .millions) said;
-      }
+-- the report of a day over zeros that were opened
+pub reports : (v : Values) (zeros : List Pool) (o : Opened) → Opens v (noPools 512) o zeros → (b : Book) → b ≡ o .book → (tape : List ℕ) (d : Day) (left : List Pool) → Passes b zeros tape d left
+    → (b′ : Book) → b′ ≡ d .book → (f : Figures) → Says b′ left 0 f → (r : Report) → r ≡ reportOf d f → ReportsOver v tape r
+reports v zeros o opens b is tape d left p b′ is′ f says r e =
+    let opens₀ : Opens v (replicate 512 noPool) o zeros = subst (λ (l : List Pool). Opens v l o zeros) (sym (no-pools-are 512)) opens in
+    let p₀ : Passes (o .book) zeros tape d left = subst (λ (c : Book). Passes c zeros tape d left) is p in
+    let first = begins v 512 zeros o opens₀ in
+    let said : f ≡ saidOf (afterAll (startOf v) (putsOf tape)) 0 = says .figures ∙ ap (λ (c : Book). figuresOf true c left 0) is′ ∙ ap (λ (s : State). saidOf s 0) (p₀ .state ∙ ap (λ (s : State). afterAll s (putsOf tape)) first) in
+    subst (ReportsOver v tape) (sym e)
+    (record {
+      accepted = p₀ .accepted ∙ ap (λ (s : State). acceptedAmong (fed s (putsOf tape))) first;
+      others = p₀ .others ∙ ap (λ (s : State). othersAmong (fed s (putsOf tape))) first;
+      left = ap (λ (g : Figures). g .left) said;
+      millions = ap (λ (g : Figures). g .millions) said;
+    })
+
+-- with the program's values
+pub given-reports : (v : Values) (tape : List ℕ) (r : Report) → v ≡ valuesGiven → ReportsOver v tape r → Reports tape r
+given-reports v tape r e o =
+    let p : ReportsOver valuesGiven tape r = subst (λ (w : Values). ReportsOver w tape r) e o in
+    record { accepted = p .accepted; others = p .others; left = p .left; millions = p .millions }

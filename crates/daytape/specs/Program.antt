@@ -11,6 +11,7 @@ use Rattle.book.specs.Records.{noPool}
 use Rattle.book.specs.Promise.{State, afterAll, fed, openedState}
 use Rattle.figures.specs.declared.Figures.{Figures}
 use Rattle.figures.specs.Saying.{figuresOf}
+use Rattle.day.specs.declared.Day.{Day}
 use Rattle.day.specs.Tape.{putsOf}
 use Rattle.day.specs.Days.{acceptedAmong, othersAmong}
 use Rattle.daytape.specs.declared.Report.{Report}
@@ -48,15 +49,29 @@ valuesGiven = record {
   outbound = outbound 0;
 }
 
--- the book opened, over 512 records
+-- a book opened, over 512 records
+abbrev pub startOf : Values → State
+startOf v = openedState v (replicate 512 noPool)
+
 abbrev pub start : State
-start = openedState valuesGiven (replicate 512 noPool)
+start = startOf valuesGiven
 
 -- what is said of a trade of a state
 abbrev pub saidOf : State → ℕ → Figures
 saidOf s trade = figuresOf true (s .book) (s .table) trade
 
--- the two counts of the tape's calls, and what the book then says of the trade
+-- the counts of a day, and a trade's figures
+abbrev pub reportOf : Day → Figures → Report
+reportOf d f = record { accepted = d .accepted; others = d .others; left = f .left; millions = f .millions }
+
+-- the two counts of the tape's calls to a book that is opened with some values, and what the book then says of the trade
+pub record ReportsOver (v : Values) (tape : List ℕ) (r : Report) : Type 0 where
+  pub accepted : r .accepted ≡ acceptedAmong (fed (startOf v) (putsOf tape))
+  pub others : r .others ≡ othersAmong (fed (startOf v) (putsOf tape))
+  pub left : r .left ≡ saidOf (afterAll (startOf v) (putsOf tape)) 0 .left
+  pub millions : r .millions ≡ saidOf (afterAll (startOf v) (putsOf tape)) 0 .millions
+
+-- the same with the program's values
 pub record Reports (tape : List ℕ) (r : Report) : Type 0 where
   pub accepted : r .accepted ≡ acceptedAmong (fed start (putsOf tape))
   pub others : r .others ≡ othersAmong (fed start (putsOf tape))

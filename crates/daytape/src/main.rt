@@ -1,13 +1,19 @@
 // Prints the day of a tape: the frames accepted and all other whole frames, then the trade's open par and its standing good millions (01, Program daytape).
 // Trusted is what the C library's read and write do. All bytes that come are read, up to 64 KiB; what a failing read leaves out is not on the tape.
+use book::Book;
 use book::Limits;
+use book::Pool;
 use book::Trade;
 use book::Values;
+use day::Day;
+use figures::Figures;
 use libc::STDIN_FILENO;
 use libc::STDOUT_FILENO;
+use opened::Opened;
 use sequence::Outbound;
 ghost use mathlib.Core.Path.{_≡_};
-ghost use Rattle.daytape.specs.Program.{blank, theTrade, valuesGiven, Reports};
+ghost use Rattle.book.specs.Records.{noPool};
+ghost use Rattle.daytape.specs.Program.{blank, theTrade, valuesGiven, reportOf, ReportsOver, Reports};
 
 const RECORDS: usize = 512;
 
@@ -79,21 +85,69 @@ fn values() -> Values
     }
 }
 
-// The day of a tape.
-fn day_of(tape: &[u8]) -> Report
-    ensures { λ r. ⌜ Reports (now (tape .entry)) r ⌝ }
+// A record of zeros.
+fn no_pool() -> Pool
+    ensures { λ r. ⌜ r ≡ noPool ⌝ }
 {
-    let mut numbers = [[0u64; 6]; RECORDS];
-    let mut keys = [[0u8; 22]; RECORDS];
-    let opened = opened::open_book(values(), &mut numbers, &mut keys);
-    let passed = day::run_day(opened.book, &mut numbers, &mut keys, tape);
-    let said = figures::trade_figures(passed.book, &numbers, &keys, 0);
+    Pool {
+        message: 0,
+        ordinal: 0,
+        trade: 0,
+        lot: [0; 6],
+        pool: [0; 7],
+        original: [0; 9],
+        current: 0,
+        kind: 0,
+        millions: 0,
+    }
+}
+
+// The book that opening gives.
+fn book_opened(opened: Opened) -> Book
+    ensures { λ r. ⌜ r ≡ opened .book ⌝ }
+{
+    opened.book
+}
+
+// The book after the day.
+fn book_after(passed: Day) -> Book
+    ensures { λ r. ⌜ r ≡ passed .book ⌝ }
+{
+    passed.book
+}
+
+// The day's counts and the trade's figures.
+fn reported(passed: Day, said: Figures) -> Report
+    ensures { λ r. ⌜ r ≡ reportOf passed said ⌝ }
+{
     Report {
         accepted: passed.accepted,
         others: passed.others,
         left: said.left,
         millions: said.millions,
     }
+}
+
+// The day of a tape, over a table of the program's own.
+fn day_over(v: Values, tape: &[u8]) -> Report
+    ensures { λ r. ⌜ ReportsOver v (now (tape .entry)) r ⌝ }
+{
+    let none = no_pool();
+    let mut pools = [none; RECORDS];
+    let opened = open_table::open_table(v, &mut pools);
+    let book = book_opened(opened);
+    let passed = day::run_day(book, &mut pools, tape);
+    let after = book_after(passed);
+    let said = table_figures::table_figures(after, &pools, 0);
+    reported(passed, said)
+}
+
+// The day of a tape, with the program's values.
+fn day_of(tape: &[u8]) -> Report
+    ensures { λ r. ⌜ Reports (now (tape .entry)) r ⌝ }
+{
+    let v = values();
+    day_over(v, tape)
 }
 
 fn main() {
