@@ -20,7 +20,7 @@ use Rattle.promise.specs.Runs.{Run}
 -- a run of calls is a run of the definitions
 pub run-trace : {s s″ : State} {fs : List Fed} → Run s fs s″ → Trace s fs s″
 run-trace runs.done = done
-run-trace (runs.next body time out r pools out′ f rest) =
+run-trace (runs.next {s} {s″} {fs} body time out r pools out′ f rest) =
     next (record { body = body; room = length out }) (r .answer) (f .book) (f .table) (f .answer) (run-trace rest)
 
 module _ (v : Values) (pools zeros : List Pool) (r : Opened) (o : Opens v pools r zeros) (fine : r .fine ≡ true) where
