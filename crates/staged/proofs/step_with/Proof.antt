@@ -324,7 +324,7 @@ module _ {M : Type 1} (𝓤 : URA M) (H : Heap 𝓤) (A : Atoms 𝓤) (W : Given
       abbrev En : Env 𝓤 H
       En = (τ 0, l₀) ∷ (τ 1, l₁) ∷ (τ 2, l₂) ∷ (τ 3, l₃) ∷ (τ 4, l₄) ∷ (τ 5, l₅) ∷ (τ 6, l₆) ∷ (τ 7, l₇) ∷ (τ 8, l₈) ∷ (τ 9, l₉) ∷ (τ 10, l₁₀) ∷ (τ 11, l₁₁) ∷ (τ 12, l₁₂) ∷ (τ 13, l₁₃) ∷ (τ 14, l₁₄) ∷ (τ 15, l₁₅) ∷ (τ 16, l₁₆) ∷ (τ 17, l₁₇) ∷ (τ 18, l₁₈) ∷ (τ 19, l₁₉) ∷ (τ 20, l₂₀) ∷ (τ 21, l₂₁) ∷ (τ 22, l₂₂) ∷ (τ 23, l₂₃) ∷ (τ 24, l₂₄) ∷ (τ 25, l₂₅) ∷ (τ 26, l₂₆) ∷ (τ 27, l₂₇) ∷ (τ 28, l₂₈) ∷ (τ 29, l₂₉) ∷ (τ 30, l₃₀) ∷ (τ 31, l₃₁) ∷ []
 
-      -- room for the locals that hold nothing between the calls, and the parameters
+      -- the parameters, and room for the result
       abbrev Lasting : List (Item 𝓤)
       Lasting = ‵ (fat fullShare (τ 9) l₉ 0 s₅) ∷ ‵ (fdies (τ 9) l₉) ∷ ‵ (fat fullShare (τ 8) l₈ 0 (timeVal time)) ∷ ‵ (fdies (τ 8) l₈) ∷ ‵ (fat fullShare (τ 7) l₇ 0 (vint w64 past)) ∷ ‵ (fdies (τ 7) l₇) ∷ ‵ (fat fullShare (τ 6) l₆ 0 (vint w64 start)) ∷ ‵ (fdies (τ 6) l₆) ∷ ‵ (fat fullShare (τ 5) l₅ 0 s₄) ∷ ‵ (fdies (τ 5) l₅) ∷ ‵ (fat fullShare (τ 4) l₄ 0 (s₃ (length vs))) ∷ ‵ (fdies (τ 4) l₄) ∷ ‵ (fat fullShare (τ 3) l₃ 0 (s₂ (length us))) ∷ ‵ (fdies (τ 3) l₃) ∷ ‵ (fat fullShare (τ 2) l₂ 0 s) ∷ ‵ (fdies (τ 2) l₂) ∷ ‵ (fat fullShare (τ 1) l₁ 0 (bookVal k)) ∷ ‵ (fdies (τ 1) l₁) ∷ ‵ (froom (τ 0) l₀ 0) ∷ ‵ (fdies (τ 0) l₀) ∷ []
 
