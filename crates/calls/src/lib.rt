@@ -31,7 +31,7 @@ fn step_few(
     out: &mut [u8],
 ) -> Stepped
     requires { ⌜ (rowsOf (length (now pools)) (book .live) ≤ 1024) × (from ≤ to) × (to ≤ length (now tape)) ⌝ }
-    ensures { λ r. ⌜ Framed book (now (pools .entry)) (part (now (tape .entry)) from (to - from)) time (now (out .entry)) r (now (pools .exit)) (now (out .exit)) ⌝ }
+    ensures { λ stepped. ⌜ Framed book (now (pools .entry)) (part (now (tape .entry)) from (to - from)) time (now (out .entry)) stepped (now (pools .exit)) (now (out .exit)) ⌝ }
 {
     let mut numbers = [[0u64; 6]; FEW];
     let mut keys = [[0u8; 22]; FEW];
@@ -59,7 +59,7 @@ fn step_many(
     out: &mut [u8],
 ) -> Stepped
     requires { ⌜ (from ≤ to) × (to ≤ length (now tape)) ⌝ }
-    ensures { λ r. ⌜ Framed book (now (pools .entry)) (part (now (tape .entry)) from (to - from)) time (now (out .entry)) r (now (pools .exit)) (now (out .exit)) ⌝ }
+    ensures { λ stepped. ⌜ Framed book (now (pools .entry)) (part (now (tape .entry)) from (to - from)) time (now (out .entry)) stepped (now (pools .exit)) (now (out .exit)) ⌝ }
 {
     let mut numbers = [[0u64; 6]; book::RECORDS_MAX];
     let mut keys = [[0u8; 22]; book::RECORDS_MAX];
