@@ -76,9 +76,6 @@ module _ (b : Book) (t : List Pool) where
   pub too-long : recordsMax < length t → isSound b t ≡ false
   too-long h = not-sound (λ s. omega (arith, leb-true (length t) recordsMax (s .tableShort)))
 
-  pub too-few : length t < b .live → isSound b t ≡ false
-  too-few h = not-sound (λ s. omega (arith, leb-true (b .live) (length t) (s .liveWithin)))
-
   -- something other than zeros after the first m records, of which the live ones are some
   pub not-zeros : (m : ℕ) → b .live ≤ m → m ≤ length t → all isNone (drop m t) ≡ false → isSound b t ≡ false
   not-zeros m h l e = not-sound (λ s. clash (all-right isNone (drop (b .live) (take m t)) (drop m t) (sym (ap (all isNone) (rest-parts (b .live) m t h l)) ∙ s .zeros)) e)

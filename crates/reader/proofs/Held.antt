@@ -16,7 +16,7 @@ use prog.Wp.{Heap}
 use ghost.Atoms.{Atoms}
 use types.Kit.{Given}
 use denote.RattleType.{RattleType}
-use denote.Laws.{Is, Copy, Makes}
+use denote.Laws.{Is, Copy}
 use denote.Ref.{RefT, NamedLft}
 use denote.Signature.{namedLft}
 use denote.Slice.{sliceVal}
@@ -91,6 +91,3 @@ step-detail t is = LL.owed S.the-type S′.the-laws t _ is .1 .0
 module _ {M : Type 1} (𝓤 : URA M) (H : Heap 𝓤) (A : Atoms 𝓤) where
   pub step-typed : Given 𝓤 H A → (t : Step) (u : Val) → Is stepRow t (u ∷ []) → Holds (hasTy S′.mir u) × WT u
   step-typed W t u is = LL.lawful S.the-type S′.the-laws 𝓤 H A W .typed t (u ∷ []) is .0
-
-  pub step-makes : Makes 𝓤 H A stepRow (Is stepRow)
-  step-makes = LL.makes S.the-type S′.the-plain 𝓤 H A
