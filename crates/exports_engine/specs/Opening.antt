@@ -1,4 +1,4 @@
--- Opening on words (01, "The book" and number 41): the values that the words say are opened; their line and their count of live records are not looked at.
+-- Opening on words (01, "The book" and number 41): the values that the words say are opened; of their open pars, line and live pools only this is asked, that they are words of a book.
 use Prim.Native.Nat.{ℕ}
 use mathlib.Core.Path.{_≡_}
 use mathlib.Core.List.{List}
