@@ -10,6 +10,7 @@ ghost use Rattle.book.specs.Soundness.{isNone};
 ghost use Rattle.table.specs.Rows.{rowOf, keyOf};
 ghost use Rattle.records.specs.Fit.{Fit};
 ghost use Rattle.records.specs.Loaded.{loadTo};
+ghost use Rattle.records.specs.Joined.{joinBytes, join};
 
 // Stores a record as the i-th row of numbers and of bytes.
 fn put_row(numbers: &mut [[u64; 6]], keys: &mut [[u8; 22]], i: usize, p: Pool)
@@ -74,16 +75,102 @@ fn is_none(p: Pool) -> bool
                 & (fields & ((p.current == 0) & ((p.kind == 0) & (p.millions == 0))))))
 }
 
+// The record of zeros.
+pub fn none() -> Pool
+    ensures { λ r. ⌜ r ≡ noPool ⌝ }
+{
+    Pool {
+        message: 0,
+        ordinal: 0,
+        trade: 0,
+        lot: [0; 6],
+        pool: [0; 7],
+        original: [0; 9],
+        current: 0,
+        kind: 0,
+        millions: 0,
+    }
+}
+
+fn joined_lot(a: [u8; 6], b: [u8; 6]) -> [u8; 6]
+    ensures { λ r. ⌜ r ≡ joinBytes 6 a b ⌝ }
+{
+    [
+        a[0] | b[0],
+        a[1] | b[1],
+        a[2] | b[2],
+        a[3] | b[3],
+        a[4] | b[4],
+        a[5] | b[5],
+    ]
+}
+
+fn joined_pool(a: [u8; 7], b: [u8; 7]) -> [u8; 7]
+    ensures { λ r. ⌜ r ≡ joinBytes 7 a b ⌝ }
+{
+    [
+        a[0] | b[0],
+        a[1] | b[1],
+        a[2] | b[2],
+        a[3] | b[3],
+        a[4] | b[4],
+        a[5] | b[5],
+        a[6] | b[6],
+    ]
+}
+
+fn joined_original(a: [u8; 9], b: [u8; 9]) -> [u8; 9]
+    ensures { λ r. ⌜ r ≡ joinBytes 9 a b ⌝ }
+{
+    [
+        a[0] | b[0],
+        a[1] | b[1],
+        a[2] | b[2],
+        a[3] | b[3],
+        a[4] | b[4],
+        a[5] | b[5],
+        a[6] | b[6],
+        a[7] | b[7],
+        a[8] | b[8],
+    ]
+}
+
+// A record with every bit that one of two has: many records are joined more quickly than each is tested.
+fn joined(a: Pool, p: Pool) -> Pool
+    ensures { λ r. ⌜ r ≡ join a p ⌝ }
+{
+    let lot = a.lot;
+    let next_lot = p.lot;
+    let pool = a.pool;
+    let next_pool = p.pool;
+    let original = a.original;
+    let next_original = p.original;
+    let lots = joined_lot(lot, next_lot);
+    let pools = joined_pool(pool, next_pool);
+    let originals = joined_original(original, next_original);
+    Pool {
+        message: a.message | p.message,
+        ordinal: a.ordinal | p.ordinal,
+        trade: a.trade | p.trade,
+        lot: lots,
+        pool: pools,
+        original: originals,
+        current: a.current | p.current,
+        kind: a.kind | p.kind,
+        millions: a.millions | p.millions,
+    }
+}
+
 // Whether every record from a place on is zeros.
 pub fn blank_from(pools: &[Pool], from: usize) -> bool
     ensures { λ r. ⌜ r ≡ all isNone (drop from (now (pools .entry))) ⌝ }
 {
-    let mut blank = true;
+    let mut all = none();
     let mut i = from;
     while i < pools.len() {
         let p = pools[i];
-        blank = blank & is_none(p);
+        all = joined(all, p);
         i += 1;
     }
-    blank
+    is_none(all)
 }

@@ -45,23 +45,6 @@ fn record_of(numbers: &[[u64; 6]], keys: &[[u8; 22]], i: usize) -> Pool
     record_in(row, key)
 }
 
-// The record of zeros.
-fn none() -> Pool
-    ensures { λ r. ⌜ r ≡ noPool ⌝ }
-{
-    Pool {
-        message: 0,
-        ordinal: 0,
-        trade: 0,
-        lot: [0; 6],
-        pool: [0; 7],
-        original: [0; 9],
-        current: 0,
-        kind: 0,
-        millions: 0,
-    }
-}
-
 // Copies the records of the rows into the table, from one place up to another.
 pub fn store(pools: &mut [Pool], from: usize, to: usize, numbers: &[[u64; 6]], keys: &[[u8; 22]])
     requires { ⌜ (from ≤ to) × (to ≤ length (now pools)) × (to ≤ length (now numbers)) × (to ≤ length (now keys)) ⌝ }
@@ -81,7 +64,7 @@ pub fn clear(pools: &mut [Pool], count: usize)
     requires { ⌜ count ≤ length (now pools) ⌝ }
     ensures { λ _. ⌜ now (pools .exit) ≡ replicate count noPool ++ drop count (now (pools .entry)) ⌝ }
 {
-    let p = none();
+    let p = records::none();
     let mut i: usize = 0;
     while i < count {
         pools[i] = p;

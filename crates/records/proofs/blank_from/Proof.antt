@@ -1,9 +1,9 @@
--- `blank_from` meets its contract, by a walk of its MIR. In a turn the record at i is copied out of the lent slice, and `is_none` is called on it.
-use mathlib.Core.Path.{_≡_, refl, sym, ap}
+-- `blank_from` meets its contract, by a walk of its MIR with three calls. In a turn the record at i is copied out of the lent slice and joined to those before it; after the loop `is_none` tells of them all.
+use mathlib.Core.Path.{_≡_, refl, sym, ap, subst, _∙_}
 use Prim.Native.Nat.{ℕ, suc, _+_, _<_, _≤_, _^_}
 use native.Mathlib.Nat.{le-refl}
 use native.Mathlib.Omega.{arith}
-use mathlib.Core.Bool.{Bool}
+use mathlib.Core.Bool.{Bool, _&&_}
 use mathlib.Core.List.{List, [], _∷_}
 use lib.ListN.{length, getD, drop as dropped}
 use lib.Dec.{T, ltb, lt→ltb, ltb→lt}
@@ -21,7 +21,7 @@ use contract.Monad.{Fun, fact}
 use contract.Running.{givenOf, tables, tablesOf}
 use types.Kit.{Given, Item, ‵, raw, _⊛_, ⋆, some, later, anyQ, atRet, _$_, _∵_, !, qed, by, move, drop, use0, use1, split, join, pick, rewrite, fsplit, fjoin, suffices, frame, await, done}
 use types.Part.{whole, sub, look-in}
-use types.Run.{look, look-raw, store, init, forget, stop, hop, fld, from, load, lit, true-lit, of-opd, bin, and-then, no-more, assigns, assigns-last, land, stays, leaves-loop, returns, enter, alloc1, alloc0, params1, pass1, pass0, free1, free0, exec}
+use types.Run.{look, look-raw, store, init, forget, stop, hop, fld, from, load, lit, of-opd, bin, and-then, no-more, assigns, assigns-last, land, stays, leaves-loop, returns, enter, alloc1, alloc0, params1, pass1, pass0, free1, free0, exec}
 use sound.WpLaws.{fmOf, WpFn-mono}
 use denote.RattleType.{owns}
 use denote.Laws.{Is, shows}
@@ -45,8 +45,18 @@ use Rattle.lists.specs.Lists.{all}
 use Rattle.book.specs.declared.Pool.{Pool}
 use Rattle.book.specs.Records.{noPool}
 use Rattle.book.specs.Soundness.{isNone}
-use Rattle.records.proofs.Row.{R, size, vals, tells, copies, makes, typed, scaled}
+use Rattle.records.specs.Joined.{join as joins}
+use Rattle.records.proofs.Row.{R, size, val, vals, tells, copies, makes, typed, typed-at, is-val, is-its, scaled, fit}
 use Rattle.records.proofs.Blank.{blankTo, blank-none, blank-more, blank-done}
+use Rattle.records.proofs.Joining.{join-none, joinTo, join-first, join-more}
+use Rattle.records.proofs.none as zero
+use Rattle.records.proofs.none.Symbol as zero-def
+use Rattle.records.proofs.none.Symbol.{name as #records·none}
+use Rattle.records.proofs.none.Met as zero-thm
+use Rattle.records.proofs.joined as jn
+use Rattle.records.proofs.joined.Symbol as join-def
+use Rattle.records.proofs.joined.Symbol.{name as #records·joined}
+use Rattle.records.proofs.joined.Met as join-thm
 use Rattle.records.proofs.is_none as none
 use Rattle.records.proofs.is_none.Symbol as none-def
 use Rattle.records.proofs.is_none.Symbol.{name as #records·is-none}
@@ -66,9 +76,16 @@ Arg = RefT (List Pool) × (ℕ × Unit {0})
 abbrev stayed : Stays (f.ended .signature .params) (f.ended .kept)
 stayed = (stay-none-slice (0 ∷ []) tt (plain (λ _. R)) yes, (stay-none (λ _. usize) yes, tt))
 
--- the contract that the proof cites
-abbrev None : {M : Type 1} (𝓤 : URA M) (H : Heap 𝓤) (A : Atoms 𝓤) (mem : Memory → SProp 𝓤) (run : Routine → Fun 𝓤) → Contract 𝓤
-None 𝓤 H A mem run = tripleOf 𝓤 H A none.signature (none.spec 𝓤 H A mem run)
+module _ {M : Type 1} (𝓤 : URA M) (H : Heap 𝓤) (A : Atoms 𝓤) (mem : Memory → SProp 𝓤) (run : Routine → Fun 𝓤) where
+  -- the contracts that the proof cites
+  abbrev Zero : Contract 𝓤
+  Zero = tripleOf 𝓤 H A zero.signature (zero.spec 𝓤 H A mem run)
+
+  abbrev Join : Contract 𝓤
+  Join = tripleOf 𝓤 H A jn.signature (jn.spec 𝓤 H A mem run)
+
+  abbrev None : Contract 𝓤
+  None = tripleOf 𝓤 H A none.signature (none.spec 𝓤 H A mem run)
 
 module _ {M : Type 1} (𝓤 : URA M) (H : Heap 𝓤) (A : Atoms 𝓤) (W : Given 𝓤 H A) (mem : Memory → SProp 𝓤) (run : Routine → Fun 𝓤) (κ : Lft) (q : Share) (b o : ℕ) (γ : GName) (ys : List Pool) (v : ℕ) where
   abbrev x : RefT (List Pool)
@@ -90,12 +107,12 @@ module _ {M : Type 1} (𝓤 : URA M) (H : Heap 𝓤) (A : Atoms 𝓤) (W : Given
   abbrev elem : ℕ → Pool
   elem i = getD ys i noPool
 
-  -- what is carried at i
-  abbrev blank : ℕ → Bool
-  blank i = blankTo ys v i
+  -- what is carried at i: the records before it, joined
+  abbrev sum : ℕ → Pool
+  sum i = joinTo ys v i
 
   abbrev F : ℕ → Type 0
-  F i = v ≤ i
+  F i = (v ≤ i) × Is R (sum i) (vals (sum i)) × (isNone (sum i) ≡ blankTo ys v i)
 
   abbrev bound : walkOf 𝓤 H A f.ended stayed (f.clauses 𝓤 H A mem run) .Ghost
   bound = (((κ, tt), (q, tt), tt, a, at), tt)
@@ -112,17 +129,35 @@ module _ {M : Type 1} (𝓤 : URA M) (H : Heap 𝓤) (A : Atoms 𝓤) (W : Given
       nothing ! $ move ! (2 ∷ 0 ∷ []) $ join ! $ frame ! $ nothing ! $ owned ! usize (Is usize) (uint-makes 𝓤 H A W w64) v _ (refl, gv) $ fjoin ! $ move ! (1 ∷ 0 ∷ []) $ fjoin ! $ frame ! $
       owned ! bool (Is bool) (bool-makes 𝓤 H A W) r _ refl $ done !
 
-  -- what the triple of `is_none` binds outside at turn i
+  -- what the triples of the callees bind outside
+  abbrev to-zero : Zero 𝓤 H A mem run .Ghost
+  to-zero = ((tt, tt, tt, tt, tt), tt)
+
+  goes-zero : ent 𝓤 (emp 𝓤) (Zero 𝓤 H A mem run .pre to-zero)
+  goes-zero = qed W [] ∵ nothing ! $ nothing ! $ join ! $ frame ! $ done !
+
+  said-zero : (r : Pool) → ent 𝓤 (ensured 𝓤 H A zero.ended (zero.clauses 𝓤 H A mem run) tt tt tt r) (fact 𝓤 (r ≡ noPool))
+  said-zero r = exE 𝓤 _ (λ zs. snd∗ 𝓤 (sem 𝓤 H A (lasts zero.ended tt tt zs)) (fact 𝓤 (r ≡ noPool)))
+
+  abbrev to-join : ℕ → Join 𝓤 H A mem run .Ghost
+  to-join i = ((tt, tt, tt, (sum i, (elem i, tt)), (vals (sum i), (vals (elem i), tt))), tt)
+
+  goes-join : (i : ℕ) → Is R (sum i) (vals (sum i)) → Is R (elem i) (vals (elem i)) → ent 𝓤 (emp 𝓤) (Join 𝓤 H A mem run .pre (to-join i))
+  goes-join i gs ge = qed W [] ∵ nothing ! $ owned ! R (Is R) (makes 𝓤 H A) (elem i) _ ge $ fjoin ! $ owned ! R (Is R) (makes 𝓤 H A) (sum i) _ gs $ fjoin ! $ nothing ! $ join ! $ frame ! $ done !
+
+  said-join : (i : ℕ) (r : Pool) → ent 𝓤 (ensured 𝓤 H A jn.ended (jn.clauses 𝓤 H A mem run) tt (sum i, (elem i, tt)) tt r) (fact 𝓤 (r ≡ joins (sum i) (elem i)))
+  said-join i r = exE 𝓤 _ (λ zs. snd∗ 𝓤 (sem 𝓤 H A (lasts jn.ended tt (sum i, (elem i, tt)) zs)) (fact 𝓤 (r ≡ joins (sum i) (elem i))))
+
   abbrev to-none : ℕ → None 𝓤 H A mem run .Ghost
-  to-none i = ((tt, tt, tt, (elem i, tt), (vals (elem i), tt)), tt)
+  to-none i = ((tt, tt, tt, (sum i, tt), (vals (sum i), tt)), tt)
 
-  goes : (i : ℕ) → Is R (elem i) (vals (elem i)) → ent 𝓤 (emp 𝓤) (None 𝓤 H A mem run .pre (to-none i))
-  goes i ge = qed W [] ∵ nothing ! $ owned ! R (Is R) (makes 𝓤 H A) (elem i) _ ge $ fjoin ! $ nothing ! $ join ! $ frame ! $ done !
+  goes-none′ : (i : ℕ) → Is R (sum i) (vals (sum i)) → ent 𝓤 (emp 𝓤) (None 𝓤 H A mem run .pre (to-none i))
+  goes-none′ i gs = qed W [] ∵ nothing ! $ owned ! R (Is R) (makes 𝓤 H A) (sum i) _ gs $ fjoin ! $ nothing ! $ join ! $ frame ! $ done !
 
-  said : (i : ℕ) (r : Bool) → ent 𝓤 (ensured 𝓤 H A none.ended (none.clauses 𝓤 H A mem run) tt (elem i, tt) tt r) (fact 𝓤 (r ≡ isNone (elem i)))
-  said i r = exE 𝓤 _ (λ zs. snd∗ 𝓤 (sem 𝓤 H A (lasts none.ended tt (elem i, tt) zs)) (fact 𝓤 (r ≡ isNone (elem i))))
+  said-none : (i : ℕ) (r : Bool) → ent 𝓤 (ensured 𝓤 H A none.ended (none.clauses 𝓤 H A mem run) tt (sum i, tt) tt r) (fact 𝓤 (r ≡ isNone (sum i)))
+  said-none i r = exE 𝓤 _ (λ zs. snd∗ 𝓤 (sem 𝓤 H A (lasts none.ended tt (sum i, tt) zs)) (fact 𝓤 (r ≡ isNone (sum i))))
 
-  module _ (𝓣 : Tables 𝓤 H) (known : Triple 𝓤 (𝓣 .C #records·is-none) (None 𝓤 H A mem run)) (room : Room R n) (gv : v < 2 ^ 64) where
+  module _ (𝓣 : Tables 𝓤 H) (known-zero : Triple 𝓤 (𝓣 .C #records·none) (Zero 𝓤 H A mem run)) (known-join : Triple 𝓤 (𝓣 .C #records·joined) (Join 𝓤 H A mem run)) (known-none : Triple 𝓤 (𝓣 .C #records·is-none) (None 𝓤 H A mem run)) (room : Room R n) (gv : v < 2 ^ 64) where
     module _ (l₀ l₁ l₂ l₃ l₄ l₅ l₆ l₇ l₈ l₉ : ℕ) where
       abbrev En : Env 𝓤 H
       En = (τ 0, l₀) ∷ (τ 1, l₁) ∷ (τ 2, l₂) ∷ (τ 3, l₃) ∷ (τ 4, l₄) ∷ (τ 5, l₅) ∷ (τ 6, l₆) ∷ (τ 7, l₇) ∷ (τ 8, l₈) ∷ (τ 9, l₉) ∷ []
@@ -132,13 +167,13 @@ module _ {M : Type 1} (𝓤 : URA M) (H : Heap 𝓤) (A : Atoms 𝓤) (W : Given
       At i =
           Pools ∷ ‵ (flft κ q)
           ∷ ‵ (froom (τ 9) l₉ 0) ∷ ‵ (fdies (τ 9) l₉) ∷ ‵ (froom (τ 8) l₈ 0) ∷ ‵ (fdies (τ 8) l₈) ∷ ‵ (froom (τ 7) l₇ 0) ∷ ‵ (fdies (τ 7) l₇) ∷ ‵ (froom (τ 6) l₆ 0) ∷ ‵ (fdies (τ 6) l₆) ∷ ‵ (froom (τ 5) l₅ 0) ∷ ‵ (fdies (τ 5) l₅)
-          ∷ ‵ (fat fullShare (τ 4) l₄ 0 (vint w64 i)) ∷ ‵ (fdies (τ 4) l₄) ∷ ‵ (fat fullShare (τ 3) l₃ 0 (vbool (blank i))) ∷ ‵ (fdies (τ 3) l₃)
+          ∷ ‵ (fat fullShare (τ 4) l₄ 0 (vint w64 i)) ∷ ‵ (fdies (τ 4) l₄) ∷ ‵ (fat fullShare (τ 3) l₃ 0 (val (sum i))) ∷ ‵ (fdies (τ 3) l₃)
           ∷ ‵ (fat fullShare (τ 2) l₂ 0 (vint w64 v)) ∷ ‵ (fdies (τ 2) l₂) ∷ ‵ (fat fullShare (τ 1) l₁ 0 s) ∷ ‵ (fdies (τ 1) l₁) ∷ ‵ (froom (τ 0) l₀ 0) ∷ ‵ (fdies (τ 0) l₀) ∷ []
 
       abbrev Left : Out → SProp 𝓤
       Left = afterBlock 𝓤 H (afterSeq 𝓤 H (Wp 𝓤 H (𝓣 .C) (𝓣 .Λ) En body.t-4 (atReturn 𝓤 H En Post)) (atReturn 𝓤 H En Post))
 
-      -- a turn that tests one record
+      -- a turn that joins one record
       more : (i : ℕ) → i < n → F i → (X : SProp 𝓤) → (F (suc i) → ent 𝓤 (⋆ 𝓤 H A (At (suc i))) X) → ent 𝓤 (⋆ 𝓤 H A (At i)) (Wp 𝓤 H (𝓣 .C) (𝓣 .Λ) En body.turn-1 (afterTurn 𝓤 H X Left))
       unfolding afterTurn
       more i small e X k =
@@ -157,25 +192,29 @@ module _ {M : Type 1} (𝓤 : URA M) (H : Heap 𝓤) (A : Atoms 𝓤) (W : Given
           assigns ! (of-opd ! (load ! (from ! (hop ! (look ! 9 refl) (stop !))) (look-raw ! 0 refl))) (from ! (stop !)) (init ! 7 refl (typed 𝓤 H A W (elem i) g)) $
           assigns ! (of-opd ! (load ! (from ! (stop !)) (look ! 7 refl))) (from ! (stop !)) (init ! 15 refl (typed 𝓤 H A W (elem i) g)) $
           elem-back ! R q′ ys i noPool (vals (elem i)) b o small $ shuts-slice ! tt R q′ ys b o $ move ! (2 ∷ 1 ∷ []) $ fjoin ! $ move ! (2 ∷ 0 ∷ []) $ fjoin ! $
-          -- [pools; its token; _9 at 2; …]: the record is tested
-          use0 W (raw (None 𝓤 H A mem run .pre (to-none i))) (goes i g) $
-          calls-at ! (fmOf 𝓤 H (W .laws) 𝓣) (None 𝓤 H A mem run) known (to-none i) (and-then ! (load ! (from ! (stop !)) (look ! 11 refl)) (no-more !)) (λ w.
-          use1 W (later (some (λ (r : Bool). (‵ ftrue ⊛ ‵ (bool .own r (w ∷ []))) ⊛ raw (ensured 𝓤 H A none.ended (none.clauses 𝓤 H A mem run) tt (elem i, tt) tt r)))) (id⊢ 𝓤 _) $ await ! tt $ pick ! (λ r.
-          split ! $ move ! (1 ∷ []) $ use1 W (raw (fact 𝓤 (r ≡ isNone (elem i)))) (said i r) $ heard ! (r ≡ isNone (elem i)) (λ is. split ! $ drop ! $ rewrite ! 0 (λ (t : Bool). ‵ (bool .own t (w ∷ []))) is refl $
-          peeks ! bool (Is bool) (shows 𝓤 H A bool) (isNone (elem i)) (w ∷ []) (λ gr. land ! (from ! (stop !)) (store ! 7 refl (bool-lawful 𝓤 H A W .typed (isNone (elem i)) _ gr .0)) $
-          rewrite ! 7 (λ (u : Val). ‵ (fat fullShare (τ 7) l₇ 0 u)) (ap only gr) refl $ drop ! $
+          -- [pools; its token; _9 at 2; …]: the record is joined to those before it
+          use0 W (raw (Join 𝓤 H A mem run .pre (to-join i))) (goes-join i (e .1) g) $
+          calls-at ! (fmOf 𝓤 H (W .laws) 𝓣) (Join 𝓤 H A mem run) known-join (to-join i) (and-then ! (load ! (from ! (stop !)) (look ! 15 refl)) (and-then ! (load ! (from ! (stop !)) (look ! 11 refl)) (no-more !))) (λ w.
+          use1 W (later (some (λ (r : Pool). (‵ ftrue ⊛ ‵ (R .own r (w ∷ []))) ⊛ raw (ensured 𝓤 H A jn.ended (jn.clauses 𝓤 H A mem run) tt (sum i, (elem i, tt)) tt r)))) (id⊢ 𝓤 _) $ await ! tt $ pick ! (λ r.
+          split ! $ move ! (1 ∷ []) $ use1 W (raw (fact 𝓤 (r ≡ joins (sum i) (elem i)))) (said-join i r) $ heard ! (r ≡ joins (sum i) (elem i)) (λ is. split ! $ drop ! $
+          rewrite ! 0 (λ (p : Pool). ‵ (R .own p (w ∷ []))) (is ∙ join-more ys v i (e .0) small) refl $
+          peeks ! R (Is R) (shows 𝓤 H A R) (sum (suc i)) (w ∷ []) (λ gr. land ! (from ! (stop !)) (store ! 15 refl (typed-at 𝓤 H A W (sum (suc i)) w gr)) $
+          rewrite ! 15 (λ (u : Val). ‵ (fat fullShare (τ 3) l₃ 0 u)) (is-val (sum (suc i)) w gr) refl $ drop ! $
           -- [pools; its token; _9 at 2; …]
-          assigns ! (bin ! (load ! (from ! (stop !)) (look ! 14 refl)) (load ! (from ! (stop !)) (look ! 6 refl)) tt) (from ! (stop !)) (store ! 14 refl (tt, tt)) $
-          rewrite ! 14 (λ (t : Bool). ‵ (fat fullShare (τ 3) l₃ 0 (vbool t))) (blank-more ys v i e small) refl $
           assigns-last ! (bin ! (load ! (from ! (stop !)) (look ! 12 refl)) (lit ! tt) (record { fits = next-fits })) (from ! (stop !)) (store ! 12 refl (tt, record { fits = next-fits })) $
           forget ! 2 refl $ forget ! 4 refl $ forget ! 6 refl $ forget ! 8 refl $ forget ! 10 refl $
-          rewrite ! 12 (λ (j : ℕ). ‵ (fat fullShare (τ 4) l₄ 0 (vint w64 j))) (one-more i) refl $ by ! (k next)))))))
+          rewrite ! 12 (λ (j : ℕ). ‵ (fat fullShare (τ 4) l₄ 0 (vint w64 j))) (one-more i) refl $ by ! (k (next, is-its (sum (suc i)) w gr, still g))))))))
         where
           next-fits : i + 1 < 2 ^ 64
           next-fits = omega (arith, small, room .0)
 
           next : v ≤ suc i
-          next = omega (arith, e)
+          next = omega (arith, e .0)
+
+          still : Is R (elem i) (vals (elem i)) → isNone (sum (suc i)) ≡ blankTo ys v (suc i)
+          still g =
+              ap isNone (sym (join-more ys v i (e .0) small)) ∙ join-none (sum i) (elem i) (fit (sum i) (e .1)) (fit (elem i) g)
+              ∙ ap (λ (t : Bool). t && isNone (elem i)) (e .2) ∙ blank-more ys v i (e .0) small
 
       -- the turn that leaves the loop, and the rest of the body
       past : (i : ℕ) → n ≤ i → F i → (X : SProp 𝓤) → ent 𝓤 (⋆ 𝓤 H A (At i)) (Wp 𝓤 H (𝓣 .C) (𝓣 .Λ) En body.turn-1 (afterTurn 𝓤 H X Left))
@@ -185,18 +224,24 @@ module _ {M : Type 1} (𝓤 : URA M) (H : Heap 𝓤) (A : Atoms 𝓤) (W : Given
           assigns ! (of-opd ! (load ! (from ! (fld ! refl (stop !))) (look-in ! 18 (sub ! 1 refl (whole !))))) (from ! (stop !)) (init ! 8 refl (tt, record { fits = room .0 })) $
           assigns ! (bin ! (load ! (from ! (stop !)) (look ! 12 refl)) (load ! (from ! (stop !)) (look ! 8 refl)) tt) (from ! (stop !)) (init ! 6 refl (tt, tt)) $
           rewrite ! 6 (λ (t : Bool). ‵ (fat fullShare tyBool l₇ 0 (vbool t))) (fails (ltb i n) over) refl $ leaves-loop ! (load ! (from ! (stop !)) (look ! 6 refl)) $
-          exec ! (𝓣 .C) (𝓣 .Λ) En body.t-4 (atRet En Post) $ assigns ! (of-opd ! (load ! (from ! (stop !)) (look ! 14 refl))) (from ! (stop !)) (init ! 20 refl (tt, tt)) $
+          exec ! (𝓣 .C) (𝓣 .Λ) En body.t-4 (atRet En Post) $
+          use0 W (raw (None 𝓤 H A mem run .pre (to-none i))) (goes-none′ i (e .1)) $
+          calls-at ! (fmOf 𝓤 H (W .laws) 𝓣) (None 𝓤 H A mem run) known-none (to-none i) (and-then ! (load ! (from ! (stop !)) (look ! 15 refl)) (no-more !)) (λ w.
+          use1 W (later (some (λ (r : Bool). (‵ ftrue ⊛ ‵ (bool .own r (w ∷ []))) ⊛ raw (ensured 𝓤 H A none.ended (none.clauses 𝓤 H A mem run) tt (sum i, tt) tt r)))) (id⊢ 𝓤 _) $ await ! tt $ pick ! (λ r.
+          split ! $ move ! (1 ∷ []) $ use1 W (raw (fact 𝓤 (r ≡ isNone (sum i)))) (said-none i r) $ heard ! (r ≡ isNone (sum i)) (λ is. split ! $ drop ! $ rewrite ! 0 (λ (t : Bool). ‵ (bool .own t (w ∷ []))) is refl $
+          peeks ! bool (Is bool) (shows 𝓤 H A bool) (isNone (sum i)) (w ∷ []) (λ gr. land ! (from ! (stop !)) (init ! 21 refl (bool-lawful 𝓤 H A W .typed (isNone (sum i)) _ gr .0)) $
+          rewrite ! 21 (λ (u : Val). ‵ (fat fullShare (τ 0) l₀ 0 u)) (ap only gr) refl $ drop ! $
           returns ! (look ! 20 refl) $ forget ! 6 refl $ forget ! 8 refl $ forget ! 12 refl $ forget ! 14 refl $ forget ! 16 refl $ forget ! 18 refl $ forget ! 20 refl $
           move ! (20 ∷ 21 ∷ []) $ free1 ! $ move ! (18 ∷ 19 ∷ []) $ free1 ! $ move ! (16 ∷ 17 ∷ []) $ free1 ! $ move ! (14 ∷ 15 ∷ []) $ free1 ! $ move ! (12 ∷ 13 ∷ []) $ free1 ! $
-          move ! (10 ∷ 11 ∷ []) $ free1 ! $ move ! (8 ∷ 9 ∷ []) $ free1 ! $ move ! (6 ∷ 7 ∷ []) $ free1 ! $ move ! (4 ∷ 5 ∷ []) $ free1 ! $ move ! (2 ∷ 3 ∷ []) $ free1 ! $ free0 ! $ by ! (exits gv (blank i) (blank-done ys v i l))
+          move ! (10 ∷ 11 ∷ []) $ free1 ! $ move ! (8 ∷ 9 ∷ []) $ free1 ! $ move ! (6 ∷ 7 ∷ []) $ free1 ! $ move ! (4 ∷ 5 ∷ []) $ free1 ! $ move ! (2 ∷ 3 ∷ []) $ free1 ! $ free0 ! $ by ! (exits gv (isNone (sum i)) (e .2 ∙ blank-done ys v i l))))))
         where
           over : T (ltb i n) → ⊥
           over h =
               let g = ltb→lt i n h in
               absurd (omega (arith, g, l))
 
-      loops : ent 𝓤 (⋆ 𝓤 H A (At v)) (Wp 𝓤 H (𝓣 .C) (𝓣 .Λ) En body.s-3 (afterSeq 𝓤 H (Wp 𝓤 H (𝓣 .C) (𝓣 .Λ) En body.t-4 (atReturn 𝓤 H En Post)) (atReturn 𝓤 H En Post)))
-      loops = counted-past 𝓤 H A W 𝓣 En body.turn-1 Left At F n v more past (le-refl v)
+      loops : F v → ent 𝓤 (⋆ 𝓤 H A (At v)) (Wp 𝓤 H (𝓣 .C) (𝓣 .Λ) En body.s-3 (afterSeq 𝓤 H (Wp 𝓤 H (𝓣 .C) (𝓣 .Λ) En body.t-4 (atReturn 𝓤 H En Post)) (atReturn 𝓤 H En Post)))
+      loops f₀ = counted-past 𝓤 H A W 𝓣 En body.turn-1 Left At F n v more past f₀
 
     -- the MIR, up to the loop
     walk : ent 𝓤 (onEntry 𝓤 H A f.signature (κ, tt) (q, tt) a at) (WpFn 𝓤 H (𝓣 .C) (𝓣 .Λ) code.function (s ∷ vint w64 v ∷ []) Post)
@@ -204,22 +249,27 @@ module _ {M : Type 1} (𝓤 : URA M) (H : Heap 𝓤) (A : Atoms 𝓤) (W : Given
         qed W ((‵ (flft κ q) ⊛ ‵ ftrue) ∷ ‵ (owns (ShrSlice (named 0) κ R ∷ usize ∷ []) a at) ∷ []) ∵ enter ! (𝓣 .C) (𝓣 .Λ) code.function (s ∷ vint w64 v ∷ []) _ $
         alloc1 ! (λ l₀. alloc1 ! (λ l₁. alloc1 ! (λ l₂. alloc1 ! (λ l₃. alloc1 ! (λ l₄. alloc1 ! (λ l₅. alloc1 ! (λ l₆. alloc1 ! (λ l₇. alloc1 ! (λ l₈. alloc1 ! (λ l₉. alloc0 ! $ params1 ! $
         pass1 ! (init ! 16 refl (tt, (tt, (record { fits = room .0 }, tt)))) $ pass1 ! (init ! 14 refl (tt, record { fits = gv })) $ pass0 ! $
-        assigns ! (of-opd ! (true-lit !)) (from ! (stop !)) (init ! 12 refl (tt, tt)) $ assigns ! (of-opd ! (load ! (from ! (stop !)) (look ! 14 refl))) (from ! (stop !)) (init ! 10 refl (tt, record { fits = gv })) $
-        rewrite ! 12 (λ (t : Bool). ‵ (fat fullShare (τ 3) l₃ 0 (vbool t))) (blank-none ys v) refl $
+        use0 W (raw (Zero 𝓤 H A mem run .pre to-zero)) goes-zero $ calls-at ! (fmOf 𝓤 H (W .laws) 𝓣) (Zero 𝓤 H A mem run) known-zero to-zero (no-more !) (λ w.
+        use1 W (later (some (λ (r : Pool). (‵ ftrue ⊛ ‵ (R .own r (w ∷ []))) ⊛ raw (ensured 𝓤 H A zero.ended (zero.clauses 𝓤 H A mem run) tt tt tt r)))) (id⊢ 𝓤 _) $ await ! tt $ pick ! (λ r.
+        split ! $ move ! (1 ∷ []) $ use1 W (raw (fact 𝓤 (r ≡ noPool))) (said-zero r) $ heard ! (r ≡ noPool) (λ is. split ! $ drop ! $ rewrite ! 0 (λ (p : Pool). ‵ (R .own p (w ∷ []))) is refl $
+        peeks ! R (Is R) (shows 𝓤 H A R) noPool (w ∷ []) (λ gr. land ! (from ! (stop !)) (init ! 13 refl (typed-at 𝓤 H A W noPool w gr)) $ rewrite ! 13 (λ (u : Val). ‵ (fat fullShare (τ 3) l₃ 0 u)) (is-val noPool w gr) refl $ drop ! $
+        assigns ! (of-opd ! (load ! (from ! (stop !)) (look ! 14 refl))) (from ! (stop !)) (init ! 10 refl (tt, record { fits = gv })) $
+        rewrite ! 12 (λ (p : Pool). ‵ (fat fullShare (τ 3) l₃ 0 (val p))) (join-first ys v) refl $
         -- [_9; …; _0; …; the token; what the parameters own]
         move ! (21 ∷ []) $ fsplit ! $ move ! (1 ∷ []) $ drop ! $ move ! (21 ∷ []) $ split ! $ move ! (1 ∷ []) $ drop ! $ move ! (1 ∷ 0 ∷ []) $
-        by ! (loops l₀ l₁ l₂ l₃ l₄ l₅ l₆ l₇ l₈ l₉)))))))))))
+        by ! (loops l₀ l₁ l₂ l₃ l₄ l₅ l₆ l₇ l₈ l₉
+        (le-refl v, subst (λ (p : Pool). Is R p (vals p)) (join-first ys v) (is-its noPool w gr), ap isNone (sym (join-first ys v)) ∙ blank-none ys v))))))))))))))))
 
 module _ {M : Type 1} (𝓤 : URA M) (H : Heap 𝓤) (A : Atoms 𝓤) (W : Given 𝓤 H A) (mem : Memory → SProp 𝓤) (run : Routine → Fun 𝓤) where
-  blank-from-walks : (𝓣 : Tables 𝓤 H) → Triple 𝓤 (𝓣 .C #records·is-none) (None 𝓤 H A mem run) → Walks 𝓤 H A f.ended stayed (WpFn 𝓤 H (𝓣 .C) (𝓣 .Λ) code.function) (f.clauses 𝓤 H A mem run)
-  blank-from-walks 𝓣 known = walked 𝓤 H A f.ended stayed (f.clauses 𝓤 H A mem run) (WpFn 𝓤 H (𝓣 .C) (𝓣 .Λ) code.function) (λ κs. (slice-vals, (uint-vals w64, tt))) (λ κs. (shr-slice-tells (named 0) (κs .0) R, (uint-tells w64, tt)))
-      (λ κs qs bounds a g are. via 𝓤 _ (fst∗ 𝓤 _ (emp 𝓤)) (walk 𝓤 H A W mem run (κs .0) (qs .0) (a .0 .ptr .0) (a .0 .ptr .1) (a .0 .name) (a .0 .now) (a .1 .0) 𝓣 known (are .0 .0 .1) (are .1 .0 .1)))
+  blank-from-walks : (𝓣 : Tables 𝓤 H) → Triple 𝓤 (𝓣 .C #records·none) (Zero 𝓤 H A mem run) → Triple 𝓤 (𝓣 .C #records·joined) (Join 𝓤 H A mem run) → Triple 𝓤 (𝓣 .C #records·is-none) (None 𝓤 H A mem run) → Walks 𝓤 H A f.ended stayed (WpFn 𝓤 H (𝓣 .C) (𝓣 .Λ) code.function) (f.clauses 𝓤 H A mem run)
+  blank-from-walks 𝓣 known-zero known-join known-none = walked 𝓤 H A f.ended stayed (f.clauses 𝓤 H A mem run) (WpFn 𝓤 H (𝓣 .C) (𝓣 .Λ) code.function) (λ κs. (slice-vals, (uint-vals w64, tt))) (λ κs. (shr-slice-tells (named 0) (κs .0) R, (uint-tells w64, tt)))
+      (λ κs qs bounds a g are. via 𝓤 _ (fst∗ 𝓤 _ (emp 𝓤)) (walk 𝓤 H A W mem run (κs .0) (qs .0) (a .0 .ptr .0) (a .0 .ptr .1) (a .0 .name) (a .0 .now) (a .1 .0) 𝓣 known-zero known-join known-none (are .0 .0 .1) (are .1 .0 .1)))
 
-blank-from-meets : {M : Type 1} (𝓤 : URA M) (H : Heap 𝓤) (A : Atoms 𝓤) → Given 𝓤 H A → (mem : Memory → SProp 𝓤) (run : Routine → Fun 𝓤) (𝓣 : Tables 𝓤 H) → Triple 𝓤 (𝓣 .C #records·is-none) (None 𝓤 H A mem run)
+blank-from-meets : {M : Type 1} (𝓤 : URA M) (H : Heap 𝓤) (A : Atoms 𝓤) → Given 𝓤 H A → (mem : Memory → SProp 𝓤) (run : Routine → Fun 𝓤) (𝓣 : Tables 𝓤 H) → Triple 𝓤 (𝓣 .C #records·none) (Zero 𝓤 H A mem run) → Triple 𝓤 (𝓣 .C #records·joined) (Join 𝓤 H A mem run) → Triple 𝓤 (𝓣 .C #records·is-none) (None 𝓤 H A mem run)
     → Meets 𝓤 H A f.signature (WpFn 𝓤 H (𝓣 .C) (𝓣 .Λ) code.function) (f.spec 𝓤 H A mem run)
-blank-from-meets 𝓤 H A W mem run 𝓣 known =
+blank-from-meets 𝓤 H A W mem run 𝓣 known-zero known-join known-none =
     walk-meets 𝓤 H A f.ended stayed W (goes-none-slice 𝓤 H A W 1 (0 ∷ []) tt (plain (λ _. R)) yes, (goes-none 𝓤 H A W 1 (λ _. usize) yes (λ κs x f. refl), tt)) (f.clauses 𝓤 H A mem run)
-    (WpFn 𝓤 H (𝓣 .C) (𝓣 .Λ) code.function) (WpFn-mono 𝓤 H (W .laws) 𝓣 code.function) (blank-from-walks 𝓤 H A W mem run 𝓣 known)
+    (WpFn 𝓤 H (𝓣 .C) (𝓣 .Λ) code.function) (WpFn-mono 𝓤 H (W .laws) 𝓣 code.function) (blank-from-walks 𝓤 H A W mem run 𝓣 known-zero known-join known-none)
 
 pub blank-from-spec : {M : Type 1} → stated.statement M
 unfolding code.routine tablesOf
@@ -227,4 +277,6 @@ blank-from-spec 𝓤 H 𝓜 𝓖 𝓡 =
     entered 𝓤 H (tripleOf 𝓤 H (𝓖 .A) f.signature (f.spec 𝓤 H (𝓖 .A) (𝓜 .mem) (𝓡 .run)))
     (tables 𝓤 H 𝓜 𝓡 code.env .C) (tables 𝓤 H 𝓜 𝓡 code.env .Λ) #records·blank-from code.function (code.unfolded 𝓤 H 𝓜 𝓡)
     (blank-from-meets 𝓤 H (𝓖 .A) (givenOf 𝓤 H 𝓜 𝓖) (𝓜 .mem) (𝓡 .run) (tablesOf 𝓤 H 𝓜 (tables 𝓤 H 𝓜 𝓡 code.env))
+    (cited 𝓤 H (Zero 𝓤 H (𝓖 .A) (𝓜 .mem) (𝓡 .run)) 𝓜 𝓡 code.env #records·none zero-def.routine code.calls-records·none (zero-thm.met 𝓤 H 𝓜 𝓖 𝓡))
+    (cited 𝓤 H (Join 𝓤 H (𝓖 .A) (𝓜 .mem) (𝓡 .run)) 𝓜 𝓡 code.env #records·joined join-def.routine code.calls-records·joined (join-thm.met 𝓤 H 𝓜 𝓖 𝓡))
     (cited 𝓤 H (None 𝓤 H (𝓖 .A) (𝓜 .mem) (𝓡 .run)) 𝓜 𝓡 code.env #records·is-none none-def.routine code.calls-records·is-none (none-thm.met 𝓤 H 𝓜 𝓖 𝓡)))

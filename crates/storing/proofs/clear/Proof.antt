@@ -46,10 +46,10 @@ use Rattle.book.specs.declared.Pool.{Pool}
 use Rattle.book.specs.Records.{noPool}
 use Rattle.records.proofs.Row.{R, size, val, vals, tells, makes, typed, typed-at, is-val, is-its, scaled}
 use Rattle.storing.proofs.Written.{written, written-none, length-written, written-more, written-same}
-use Rattle.storing.proofs.none as zero
-use Rattle.storing.proofs.none.Symbol as zero-def
-use Rattle.storing.proofs.none.Symbol.{name as #storing·none}
-use Rattle.storing.proofs.none.Met as zero-thm
+use Rattle.records.proofs.none as zero
+use Rattle.records.proofs.none.Symbol as zero-def
+use Rattle.records.proofs.none.Symbol.{name as #records·none}
+use Rattle.records.proofs.none.Met as zero-thm
 use Rattle.storing.proofs.clear.Key.{name as #storing·clear}
 use Rattle.storing.proofs.clear as f
 use Rattle.storing.proofs.clear.Statement as stated
@@ -116,7 +116,7 @@ module _ {M : Type 1} (𝓤 : URA M) (H : Heap 𝓤) (A : Atoms 𝓤) (W : Given
       nothing ! $ move ! (2 ∷ 0 ∷ []) $ join ! $ frame ! $ nothing ! $ owned ! usize (Is usize) (uint-makes 𝓤 H A W w64) c _ (refl, gc) $ fjoin ! $ move ! (1 ∷ 0 ∷ []) $ fjoin ! $ frame ! $
       feqI ! (List Val) (vunit ∷ []) (vunit ∷ []) refl $ done !
 
-  module _ (𝓣 : Tables 𝓤 H) (known : Triple 𝓤 (𝓣 .C #storing·none) (Zero 𝓤 H A mem run)) (room : Room R (length ys)) (gc : c < 2 ^ 64) (within : c ≤ length ys) where
+  module _ (𝓣 : Tables 𝓤 H) (known : Triple 𝓤 (𝓣 .C #records·none) (Zero 𝓤 H A mem run)) (room : Room R (length ys)) (gc : c < 2 ^ 64) (within : c ≤ length ys) where
     module _ (gz : Is R noPool (vals noPool)) (l₀ l₁ l₂ l₃ l₄ l₅ l₆ l₇ : ℕ) where
       abbrev En : Env 𝓤 H
       En = (τ 0, l₀) ∷ (τ 1, l₁) ∷ (τ 2, l₂) ∷ (τ 3, l₃) ∷ (τ 4, l₄) ∷ (τ 5, l₅) ∷ (τ 6, l₆) ∷ (τ 7, l₇) ∷ []
@@ -202,13 +202,13 @@ module _ {M : Type 1} (𝓤 : URA M) (H : Heap 𝓤) (A : Atoms 𝓤) (W : Given
         by ! (loops (is-its noPool w gr) l₀ l₁ l₂ l₃ l₄ l₅ l₆ l₇)))))))))))))
 
 module _ {M : Type 1} (𝓤 : URA M) (H : Heap 𝓤) (A : Atoms 𝓤) (W : Given 𝓤 H A) (mem : Memory → SProp 𝓤) (run : Routine → Fun 𝓤) where
-  clear-walks : (𝓣 : Tables 𝓤 H) → Triple 𝓤 (𝓣 .C #storing·none) (Zero 𝓤 H A mem run) → Walks 𝓤 H A f.ended stayed (WpFn 𝓤 H (𝓣 .C) (𝓣 .Λ) code.function) (f.clauses 𝓤 H A mem run)
+  clear-walks : (𝓣 : Tables 𝓤 H) → Triple 𝓤 (𝓣 .C #records·none) (Zero 𝓤 H A mem run) → Walks 𝓤 H A f.ended stayed (WpFn 𝓤 H (𝓣 .C) (𝓣 .Λ) code.function) (f.clauses 𝓤 H A mem run)
   clear-walks 𝓣 known = walked 𝓤 H A f.ended stayed (f.clauses 𝓤 H A mem run) (WpFn 𝓤 H (𝓣 .C) (𝓣 .Λ) code.function)
       (λ κs. (slice-vals, (uint-vals w64, tt))) (λ κs. (mut-slice-tells (named 0) (κs .0) R, (uint-tells w64, tt)))
       (λ κs qs bounds a g are. needs 𝓤 (a .1 .0 ≤ length (now (a .0))) _
       (walk 𝓤 H A W mem run (κs .0) (qs .0) (a .0 .ptr .0) (a .0 .ptr .1) (a .0 .name) (a .0 .now) (a .1 .0) 𝓣 known (are .0 .0 .1) (are .1 .0 .1)))
 
-clear-meets : {M : Type 1} (𝓤 : URA M) (H : Heap 𝓤) (A : Atoms 𝓤) → Given 𝓤 H A → (mem : Memory → SProp 𝓤) (run : Routine → Fun 𝓤) (𝓣 : Tables 𝓤 H) → Triple 𝓤 (𝓣 .C #storing·none) (Zero 𝓤 H A mem run)
+clear-meets : {M : Type 1} (𝓤 : URA M) (H : Heap 𝓤) (A : Atoms 𝓤) → Given 𝓤 H A → (mem : Memory → SProp 𝓤) (run : Routine → Fun 𝓤) (𝓣 : Tables 𝓤 H) → Triple 𝓤 (𝓣 .C #records·none) (Zero 𝓤 H A mem run)
     → Meets 𝓤 H A f.signature (WpFn 𝓤 H (𝓣 .C) (𝓣 .Λ) code.function) (f.spec 𝓤 H A mem run)
 clear-meets 𝓤 H A W mem run 𝓣 known =
     walk-meets 𝓤 H A f.ended stayed W (goes-slice 𝓤 H A W 1 0 tt (plain (λ _. R)), (goes-none 𝓤 H A W 1 (λ _. usize) yes (λ κs x f. refl), tt)) (f.clauses 𝓤 H A mem run)
@@ -220,4 +220,4 @@ clear-spec 𝓤 H 𝓜 𝓖 𝓡 =
     entered 𝓤 H (tripleOf 𝓤 H (𝓖 .A) f.signature (f.spec 𝓤 H (𝓖 .A) (𝓜 .mem) (𝓡 .run)))
     (tables 𝓤 H 𝓜 𝓡 code.env .C) (tables 𝓤 H 𝓜 𝓡 code.env .Λ) #storing·clear code.function (code.unfolded 𝓤 H 𝓜 𝓡)
     (clear-meets 𝓤 H (𝓖 .A) (givenOf 𝓤 H 𝓜 𝓖) (𝓜 .mem) (𝓡 .run) (tablesOf 𝓤 H 𝓜 (tables 𝓤 H 𝓜 𝓡 code.env))
-    (cited 𝓤 H (Zero 𝓤 H (𝓖 .A) (𝓜 .mem) (𝓡 .run)) 𝓜 𝓡 code.env #storing·none zero-def.routine code.calls-storing·none (zero-thm.met 𝓤 H 𝓜 𝓖 𝓡)))
+    (cited 𝓤 H (Zero 𝓤 H (𝓖 .A) (𝓜 .mem) (𝓡 .run)) 𝓜 𝓡 code.env #records·none zero-def.routine code.calls-records·none (zero-thm.met 𝓤 H 𝓜 𝓖 𝓡)))

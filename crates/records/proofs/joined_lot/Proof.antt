@@ -1,0 +1,64 @@
+-- Each byte is that of two bytes joined.
+use mathlib.Core.Path.{refl}
+use borrow.Author.Needs.{needs}
+use Rattle.records.specs.Joined.{joinBytes}
+use Rattle.records.proofs.joined_lot.Statement.{statement}
+use Rattle.records.proofs.joined_lot.Tie as tie
+
+array-read-t7 : tie.Need-array-read-t7
+array-read-t7 c = search needs
+
+array-read-t10 : tie.Need-array-read-t10
+array-read-t10 c = search needs
+
+array-read-t14 : tie.Need-array-read-t14
+array-read-t14 c = search needs
+
+array-read-t17 : tie.Need-array-read-t17
+array-read-t17 c = search needs
+
+array-read-t21 : tie.Need-array-read-t21
+array-read-t21 c = search needs
+
+array-read-t24 : tie.Need-array-read-t24
+array-read-t24 c = search needs
+
+array-read-t28 : tie.Need-array-read-t28
+array-read-t28 c = search needs
+
+array-read-t31 : tie.Need-array-read-t31
+array-read-t31 c = search needs
+
+array-read-t35 : tie.Need-array-read-t35
+array-read-t35 c = search needs
+
+array-read-t38 : tie.Need-array-read-t38
+array-read-t38 c = search needs
+
+array-read-t42 : tie.Need-array-read-t42
+array-read-t42 c = search needs
+
+array-read-t45 : tie.Need-array-read-t45
+array-read-t45 c = search needs
+
+returns : tie.Need-returns
+unfolding joinBytes
+returns c = refl
+
+pub joined-lot-spec : {M : Type 1} → statement M
+joined-lot-spec =
+    tie.close
+    (tie.spec
+    array-read-t7
+    array-read-t10
+    array-read-t14
+    array-read-t17
+    array-read-t21
+    array-read-t24
+    array-read-t28
+    array-read-t31
+    array-read-t35
+    array-read-t38
+    array-read-t42
+    array-read-t45
+    returns)
