@@ -57,7 +57,7 @@ use Rattle.staged.proofs.step_with as sw
 use Rattle.staged.proofs.step_with.Symbol.{name as #staged·step-with}
 use Rattle.walking.proofs.Blanks.{blanks, length-blanks, RowR, zeros, rowVal, rows-typed, rows-out}
 use Rattle.walking.proofs.Scratch.{repeatVal, elems-room}
-use Rattle.padded.specs.Staged.{rowsOf}
+use Rattle.padded.specs.Staged.{wanted, rowsOf}
 use Rattle.calls.proofs.step_many as f
 
 abbrev Rows : Type 0
@@ -279,7 +279,7 @@ module _ {M : Type 1} (𝓤 : URA M) (H : Heap 𝓤) (A : Atoms 𝓤) (W : Given
       ToWith = Tokens ∷ (Pools ⊛ Numbers m ⊛ Keys m ⊛ Tape ⊛ Output) ∷ []
 
       goes : Is BookR k (bookVals k) → start < 2 ^ 64 → past < 2 ^ 64 → Is TimeR time (timeVals time)
-          → (rowsOf (length ys) (k .live) ≤ length (numbers m)) × (rowsOf (length ys) (k .live) ≤ length (keys m)) × (start ≤ past) × (past ≤ length ts) → ent 𝓤 (⋆ 𝓤 H A ToWith) (With 𝓤 H A mem run .pre to-with)
+          → (rowsOf (length ys) (wanted (k .live) (past - start)) ≤ length (numbers m)) × (rowsOf (length ys) (wanted (k .live) (past - start)) ≤ length (keys m)) × (start ≤ past) × (past ≤ length ts) → ent 𝓤 (⋆ 𝓤 H A ToWith) (With 𝓤 H A mem run .pre to-with)
       goes gk gs gp gt within =
           qed W ToWith ∵ says ! within $ frame ! $ split ! $ move ! (1 ∷ []) $ split ! $ move ! (1 ∷ []) $ split ! $ move ! (1 ∷ []) $ split ! $
           -- [tape; output; keys; numbers; pools]
@@ -292,7 +292,7 @@ module _ {M : Type 1} (𝓤 : URA M) (H : Heap 𝓤) (A : Atoms 𝓤) (W : Given
     Stepping r zs = Framed k ys frame-body time os r (zs .1 .0) (zs .1 .1 .1 .1 .1 .1 .1 .1 .0)
 
     module _ (𝓣 : Tables 𝓤 H) (known : Triple 𝓤 (𝓣 .C #staged·step-with) (With 𝓤 H A mem run))
-        (gk : Is BookR k (bookVals k)) (gs : start < 2 ^ 64) (gp : past < 2 ^ 64) (gt : Is TimeR time (timeVals time)) (enough : rowsOf (length ys) (k .live) ≤ m) (within : (start ≤ past) × (past ≤ length ts)) (room-numbers : Room N m) (room-keys : Room K m)
+        (gk : Is BookR k (bookVals k)) (gs : start < 2 ^ 64) (gp : past < 2 ^ 64) (gt : Is TimeR time (timeVals time)) (enough : rowsOf (length ys) (wanted (k .live) (past - start)) ≤ m) (within : (start ≤ past) × (past ≤ length ts)) (room-numbers : Room N m) (room-keys : Room K m)
         (τ : ℕ → Ty) (is-stepped : steppedTy ≡ τ 0) (is-numbers : numbersTy m ≡ τ 8) (is-keys : keysTy m ≡ τ 9) (l₀ l₁ l₂ l₃ l₄ l₅ l₆ l₇ l₈ l₉ l₁₀ l₁₁ l₁₂ l₁₃ l₁₄ l₁₅ l₁₆ l₁₇ l₁₈ l₁₉ : ℕ) where
       many-numbers : length (numbers m) ≡ m
       many-numbers = length-blanks m (zeros w64 6)
@@ -328,7 +328,7 @@ module _ {M : Type 1} (𝓤 : URA M) (H : Heap 𝓤) (A : Atoms 𝓤) (W : Given
           -- [keys lent; the lender's part; the token of ν₂; numbers lent; the lender's part; the token of ν; pools; its token; tape; output; their tokens; _19 at 11; …]
           move ! (2 ∷ 10 ∷ []) $ join ! $ move ! (5 ∷ 0 ∷ []) $ join ! $ move ! (6 ∷ 0 ∷ []) $ join ! $ move ! (6 ∷ 7 ∷ []) $ join ! $ move ! (2 ∷ 0 ∷ []) $ join ! $ move ! (3 ∷ 0 ∷ []) $ join ! $ move ! (4 ∷ 0 ∷ []) $ join ! $ move ! (1 ∷ 0 ∷ []) $
           use2 W (raw (With 𝓤 H A mem run .pre (to-with l₈ l₉ ν δ ν₂ δ₂)))
-          (goes l₈ l₉ ν δ ν₂ δ₂ gk gs gp gt (subst (λ (n : ℕ). rowsOf (length ys) (k .live) ≤ n) (sym many-numbers) enough, subst (λ (n : ℕ). rowsOf (length ys) (k .live) ≤ n) (sym many-keys) enough, within .0, within .1)) $
+          (goes l₈ l₉ ν δ ν₂ δ₂ gk gs gp gt (subst (λ (n : ℕ). rowsOf (length ys) (wanted (k .live) (past - start)) ≤ n) (sym many-numbers) enough, subst (λ (n : ℕ). rowsOf (length ys) (wanted (k .live) (past - start)) ≤ n) (sym many-keys) enough, within .0, within .1)) $
           -- [what `step_with` asks; the lender's parts of keys and numbers; _19 at 3; …; _10 at 21; …; that _9 dies at 23; that _8 dies at 24; _7 at 25; …; _0 at 39]
           calls-at ! (fmOf 𝓤 H (W .laws) 𝓣) (With 𝓤 H A mem run) known (to-with l₈ l₉ ν δ ν₂ δ₂)
           (and-then ! (load ! (from ! (stop !)) (look ! 37 refl)) (and-then ! (load ! (from ! (stop !)) (look ! 15 refl)) (and-then ! (load ! (from ! (stop !)) (look ! 11 refl)) (and-then ! (load ! (from ! (stop !)) (look ! 7 refl)) (and-then ! (load ! (from ! (stop !)) (look ! 33 refl)) (and-then ! (load ! (from ! (stop !)) (look ! 31 refl)) (and-then ! (load ! (from ! (stop !)) (look ! 29 refl)) (and-then ! (load ! (from ! (stop !)) (look ! 27 refl)) (and-then ! (load ! (from ! (stop !)) (look ! 3 refl)) (no-more !)))))))))) (λ w.

@@ -7,17 +7,17 @@ ghost use Prim.Native.Nat.{_-_, _≤_};
 ghost use lib.Dec.{leb};
 ghost use lib.ListN.{length};
 ghost use Rattle.lists.specs.Lists.{part};
-ghost use Rattle.padded.specs.Staged.{rowsOf};
+ghost use Rattle.padded.specs.Staged.{wanted, rowsOf};
 ghost use Rattle.padded.specs.Calls.{Framed};
 
 // How many rows a call clears where its live pools and what a message brings are few.
-const FEW: usize = 1024;
+const FEW: usize = 512;
 
-// Whether the rows of a call are few, on a table of so many records.
-fn few_enough(book: Book, records: usize) -> bool
-    ensures { λ r. ⌜ r ≡ leb (rowsOf records (book .live)) 1024 ⌝ }
+// Whether the rows of a call are few, on a table of so many records, with the body that lies from one place up to another.
+fn few_enough(book: Book, records: usize, from: usize, to: usize) -> bool
+    ensures { λ r. ⌜ r ≡ leb (rowsOf records (wanted (book .live) (to - from))) 512 ⌝ }
 {
-    padded::rows_of(records, book.live) <= FEW
+    padded::rows_of(records, padded::rows_wanted(book, from, to)) <= FEW
 }
 
 // The frame call by few rows.
@@ -30,7 +30,7 @@ fn step_few(
     time: [u8; 6],
     out: &mut [u8],
 ) -> Stepped
-    requires { ⌜ (rowsOf (length (now pools)) (book .live) ≤ 1024) × (from ≤ to) × (to ≤ length (now tape)) ⌝ }
+    requires { ⌜ (rowsOf (length (now pools)) (wanted (book .live) (to - from)) ≤ 512) × (from ≤ to) × (to ≤ length (now tape)) ⌝ }
     ensures { λ stepped. ⌜ Framed book (now (pools .entry)) (part (now (tape .entry)) from (to - from)) time (now (out .entry)) stepped (now (pools .exit)) (now (out .exit)) ⌝ }
 {
     let mut numbers = [[0u64; 6]; FEW];
@@ -89,7 +89,7 @@ pub fn step_part(
     requires { ⌜ (from ≤ to) × (to ≤ length (now tape)) ⌝ }
     ensures { λ r. ⌜ Framed book (now (pools .entry)) (part (now (tape .entry)) from (to - from)) time (now (out .entry)) r (now (pools .exit)) (now (out .exit)) ⌝ }
 {
-    if few_enough(book, pools.len()) {
+    if few_enough(book, pools.len(), from, to) {
         return step_few(book, pools, tape, from, to, time, out);
     }
     step_many(book, pools, tape, from, to, time, out)

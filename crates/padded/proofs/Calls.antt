@@ -1,6 +1,7 @@
 -- A call on a table with zeros after its first rows is the call on those rows alone, with the zeros after them.
-use Prim.Native.Nat.{ℕ, _+_, _-_, _≤_}
+use Prim.Native.Nat.{ℕ, _+_, _-_, _/_, _≤_}
 use native.Mathlib.Omega.{arith}
+use native.Mathlib.Nat.{le-div-iff-mul-le, div-mul-le-self}
 use mathlib.Core.Logic.{_⊎_, inl, inr}
 use mathlib.Core.Path.{_≡_, refl, sym, ap, _∙_}
 use mathlib.Core.List.{List, _++_, append-assoc}
@@ -8,8 +9,8 @@ use mathlib.Core.Bool.{Bool, true, false, cond}
 use lib.ListN.{length, take, drop, replicate, take-append-drop, length-drop, replicate-append-replicate}
 use lib.Seq.{length-take-le}
 use borrow.Author.Tests.{le-leb}
-use Rattle.layout.specs.Details.{poolsMax, details}
-use Rattle.layout.proofs.Lengths.{count-max}
+use Rattle.layout.specs.Columns.{headerWidth, detailWidth}
+use Rattle.layout.specs.Details.{pools, lengthFits, poolCount, details}
 use Rattle.layout.proofs.Reader.{length-details}
 use Rattle.faces.specs.Faces.{isNew, newPools}
 use Rattle.book.specs.declared.Book.{Book}
@@ -22,14 +23,26 @@ use Rattle.book.proofs.Passed.{fine}
 use Rattle.book.proofs.Reached.{is-sound, moved-fits}
 use Rattle.moves.proofs.Taking.{keep-most}
 use Rattle.engine.proofs.Bounds.{zeros-are}
+use Rattle.padded.specs.Staged.{bringsMax}
 use Rattle.padded.proofs.Sound.{Padded, whole, same-live, same-sound}
 use Rattle.padded.proofs.Alike.{on, live-alike, answer-alike, book-alike, output-alike}
 
--- a message brings at most as many pools as a message has
-few-new : (body : List ℕ) → length (newPools (details body)) ≤ poolsMax
-few-new body = omega (arith, keep-most isNew (details body), length-details body, count-max body)
+-- a message brings at most as many pools as it has room for
+count-room : (body : List ℕ) → poolCount body ≤ bringsMax (length body)
+unfolding poolCount
+count-room body = go (lengthFits body)
+  where
+    go : (b : Bool) → cond b (pools body) 0 ≤ bringsMax (length body)
+    go true = le-div-iff-mul-le {k = detailWidth} {x = pools body} {y = length body} (omega arith) .1 (omega (arith, div-mul-le-self (length body - headerWidth) detailWidth))
+    go false = omega arith
 
-module _ (b : Book) (t : List Pool) (m : ℕ) (p : Padded b t m) (body : List ℕ) (room : ℕ) where
+few-new : (body : List ℕ) → length (newPools (details body)) ≤ bringsMax (length body)
+few-new body = omega (arith, keep-most isNew (details body), length-details body, count-room body)
+
+module _ (b : Book) (t : List Pool) (m : ℕ) (body : List ℕ) (p : Padded b t m (bringsMax (length body))) (room : ℕ) where
+  abbrev n : ℕ
+  n = bringsMax (length body)
+
   abbrev rows : List Pool
   rows = take m t
 
@@ -43,7 +56,7 @@ module _ (b : Book) (t : List Pool) (m : ℕ) (p : Padded b t m) (body : List �
   length-rows = length-take-le m t (p .within)
 
   -- 40: a table with room for a message
-  roomy : (x : List Pool) → b .live + poolsMax ≤ length x → tableFine (on b body room x) ≡ true
+  roomy : (x : List Pool) → b .live + n ≤ length x → tableFine (on b body room x) ≡ true
   roomy x h =
       le-leb (length (take (b .live) x) + length (newPools (details body))) (length x + length (listed body))
       (omega (arith, few-new body, length-take-le (b .live) x (omega arith)))
@@ -51,21 +64,21 @@ module _ (b : Book) (t : List Pool) (m : ℕ) (p : Padded b t m) (body : List �
   same-full : tableFine whole-call ≡ tableFine rows-call
   same-full = go (p .enough)
     where
-      go : (m ≡ length t) ⊎ (b .live + poolsMax ≤ m) → tableFine whole-call ≡ tableFine rows-call
-      go (inl e) = ap (λ (x : List Pool). tableFine (on b body room x)) (sym (whole b t m p e))
+      go : (m ≡ length t) ⊎ (b .live + n ≤ m) → tableFine whole-call ≡ tableFine rows-call
+      go (inl e) = ap (λ (x : List Pool). tableFine (on b body room x)) (sym (whole b t m n p e))
       go (inr h) = roomy t (omega (arith, p .within)) ∙ sym (roomy rows (omega (arith, length-rows)))
 
   pub same-answer : answerOf whole-call ≡ answerOf rows-call
-  same-answer = answer-alike b t rows body room (same-live b t m p) (same-sound b t m p) same-full
+  same-answer = answer-alike b t rows body room (same-live b t m n p) (same-sound b t m n p) same-full
 
   pub same-book : bookAfter whole-call ≡ bookAfter rows-call
-  same-book = book-alike b t rows body room (same-live b t m p) (same-sound b t m p) same-full
+  same-book = book-alike b t rows body room (same-live b t m n p) (same-sound b t m n p) same-full
 
   pub same-output : (time out : List ℕ) → outputAfter whole-call time out ≡ outputAfter rows-call time out
-  same-output time out = output-alike b t rows body room (same-live b t m p) (same-sound b t m p) same-full time out
+  same-output time out = output-alike b t rows body room (same-live b t m n p) (same-sound b t m n p) same-full time out
 
   same-moved : liveMoved whole-call ≡ liveMoved rows-call
-  same-moved = live-alike b t rows body room (same-live b t m p)
+  same-moved = live-alike b t rows body room (same-live b t m n p)
 
   -- the live records after an accepted call stand in the rows
   module _ (ok : accepted rows-call ≡ true) where

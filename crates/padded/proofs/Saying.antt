@@ -1,5 +1,6 @@
 -- A trade's figures by the staged rows are those by the table.
 use Prim.Native.Nat.{ℕ, _≤_}
+use native.Mathlib.Omega.{arith}
 use mathlib.Core.Path.{_≡_, sym, ap, _∙_}
 use mathlib.Core.List.{List}
 use mathlib.Core.Bool.{Bool, true, false, not, _||_}
@@ -18,9 +19,9 @@ use Rattle.padded.specs.Moving.{SaysRows}
 use Rattle.padded.proofs.Sound.{Padded, same-live, same-sound}
 use Rattle.padded.proofs.Staging.{counted, test-unsound, test-padded, staged-rows}
 
-pub same-figures : (b : Book) (t : List Pool) (m : ℕ) → Padded b t m → (trade : ℕ) → figuresOf true b (take m t) trade ≡ figuresOf true b t trade
+pub same-figures : (b : Book) (t : List Pool) (m n : ℕ) → Padded b t m n → (trade : ℕ) → figuresOf true b (take m t) trade ≡ figuresOf true b t trade
 unfolding figuresOf
-same-figures b t m p trade = rw (same-sound b t m p, same-live b t m p)
+same-figures b t m n p trade = rw (same-sound b t m n p, same-live b t m n p)
 
 unsound-figures : (b : Book) (t : List Pool) (trade : ℕ) → isSound b t ≡ false → unknown ≡ figuresOf true b t trade
 unfolding figuresOf
@@ -28,7 +29,7 @@ unsound-figures b t trade e = rw e
 
 module _ (b : Book) (ns ks : List (List ℕ)) (records : ℕ) (rest : Bool) (trade : ℕ) where
   pub unsound-says : (ltb recordsMax records || not rest) ≡ true → SaysRows b ns ks records rest trade unknown
-  unsound-says e = record { says = λ t s. record { figures = unsound-figures b t trade (test-unsound b ns ks records rest t s e) } }
+  unsound-says e = record { says = λ t s. record { figures = unsound-figures b t trade (test-unsound b (b .live) 0 (omega arith) ns ks records rest t s e) } }
 
   pub rows-say : (ltb recordsMax records || not rest) ≡ false → (rows : ℕ) → rows ≡ rowsOf records (b .live)
       → rowsOf records (b .live) ≤ length ns → rowsOf records (b .live) ≤ length ks → (r : Figures)
@@ -39,7 +40,7 @@ module _ (b : Book) (ns ks : List (List ℕ)) (records : ℕ) (rest : Bool) (tra
         says = λ t s. record {
           figures =
               f ∙ ap (λ (x : Bool). figuresOf x b (tableOf (take rows ns) (take rows ks)) trade) (eq-eqb (length (take rows ks)) (length (take rows ns)) l)
-              ∙ ap (λ (x : List Pool). figuresOf true b x trade) (staged-rows b ns ks records rest t s rows q hn)
-              ∙ same-figures b t (rowsOf records (b .live)) (test-padded b ns ks records rest t s e) trade;
+              ∙ ap (λ (x : List Pool). figuresOf true b x trade) (staged-rows b (b .live) 0 (omega arith) ns ks records rest t s rows q hn)
+              ∙ same-figures b t (rowsOf records (b .live)) 0 (test-padded b (b .live) 0 (omega arith) ns ks records rest t s e) trade;
         };
       }

@@ -10,19 +10,18 @@ use lib.Seq.{length-take-le, take-all, take-take, drop-append-le}
 use borrow.Author.Tests.{le-leb, leb-true}
 use Rattle.lists.specs.Lists.{all}
 use Rattle.lists.proofs.Tests.{all-append, all-right, clash, un-true}
-use Rattle.layout.specs.Details.{poolsMax}
 use Rattle.book.specs.declared.Book.{Book}
 use Rattle.book.specs.declared.Pool.{Pool}
 use Rattle.book.specs.Opening.{recordsMax}
 use Rattle.book.specs.Soundness.{liveOf, isNone, Sound, isSound}
 use Rattle.book.proofs.Reached.{is-sound}
 
--- a table with zeros after its first m records; those are all, or the live ones and as many more as a message brings at most
-pub record Padded (b : Book) (table : List Pool) (m : ℕ) : Type 0 where
+-- a table with zeros after its first m records; those are all, or the live ones and n more
+pub record Padded (b : Book) (table : List Pool) (m n : ℕ) : Type 0 where
   pub within : m ≤ length table
   pub short : length table ≤ recordsMax
   pub zeros : all isNone (drop m table) ≡ true
-  pub enough : (m ≡ length table) ⊎ (b .live + poolsMax ≤ m)
+  pub enough : (m ≡ length table) ⊎ (b .live + n ≤ m)
 
 and-true : (b : Bool) → (b && true) ≡ b
 and-true true = refl
@@ -33,7 +32,7 @@ rest-parts : (live m : ℕ) (t : List Pool) → live ≤ m → m ≤ length t �
 rest-parts live m t h l =
     ap (drop live) (sym (take-append-drop m t)) ∙ drop-append-le live (take m t) (drop m t) (rw (length-take-le m t l) h)
 
-module _ (b : Book) (t : List Pool) (m : ℕ) (p : Padded b t m) where
+module _ (b : Book) (t : List Pool) (m n : ℕ) (p : Padded b t m n) where
   -- a fact of all the records
   pub whole : m ≡ length t → take m t ≡ t
   whole e = take-all m t (omega arith)
@@ -41,7 +40,7 @@ module _ (b : Book) (t : List Pool) (m : ℕ) (p : Padded b t m) where
   pub same-live : liveOf b t ≡ liveOf b (take m t)
   same-live = go (p .enough)
     where
-      go : (m ≡ length t) ⊎ (b .live + poolsMax ≤ m) → take (b .live) t ≡ take (b .live) (take m t)
+      go : (m ≡ length t) ⊎ (b .live + n ≤ m) → take (b .live) t ≡ take (b .live) (take m t)
       go (inl e) = ap (take (b .live)) (sym (whole e))
       go (inr h) = sym (take-take (b .live) m t (omega arith))
 
@@ -54,7 +53,7 @@ module _ (b : Book) (t : List Pool) (m : ℕ) (p : Padded b t m) where
   unfolding isSound
   same-sound = go (p .enough)
     where
-      go : (m ≡ length t) ⊎ (b .live + poolsMax ≤ m) → isSound b t ≡ isSound b (take m t)
+      go : (m ≡ length t) ⊎ (b .live + n ≤ m) → isSound b t ≡ isSound b (take m t)
       go (inl e) = ap (isSound b) (sym (whole e))
       go (inr h) =
           let l : length (take m t) ≡ m = length-take-le m t (p .within) in

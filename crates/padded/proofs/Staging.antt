@@ -1,5 +1,5 @@
 -- The staged rows of a table: they are enough for every call, or 42 refuses the table.
-use Prim.Native.Nat.{ℕ, _+_, _≤_, _<_}
+use Prim.Native.Nat.{ℕ, _+_, _-_, _≤_, _<_, min}
 use native.Mathlib.Omega.{arith}
 use native.Mathlib.Decide.{decLt}
 use mathlib.Core.Logic.{_⊎_, inl, inr}
@@ -12,14 +12,13 @@ use lib.Dec.{ltb}
 use borrow.Author.Tests.{ltb-true, ltb-false, not-true, not-false}
 use Rattle.lists.specs.Lists.{all}
 use Rattle.lists.proofs.Tests.{clash}
-use Rattle.layout.specs.Details.{poolsMax}
 use Rattle.book.specs.declared.Book.{Book}
 use Rattle.book.specs.declared.Pool.{Pool}
 use Rattle.book.specs.Opening.{recordsMax}
 use Rattle.book.specs.Soundness.{isNone, isSound}
 use Rattle.book.proofs.ListLaws.{or-split, neither-left}
 use Rattle.table.specs.Rows.{tableOf}
-use Rattle.padded.specs.Staged.{rowsOf, Staged}
+use Rattle.padded.specs.Staged.{wanted, rowsOf, Staged}
 use Rattle.padded.proofs.Sound.{Padded, too-long, not-zeros}
 use Rattle.padded.proofs.Rows.{table-take}
 
@@ -27,23 +26,33 @@ use Rattle.padded.proofs.Rows.{table-take}
 pub counted : {A : Type 0} (n m : ℕ) (xs : List A) → n ≡ m → m ≤ length xs → n ≡ length (take n xs)
 counted n m xs e h = sym (length-take-le n xs (omega arith))
 
+-- the rows of a body's bytes
+pub wanted-rows : (records live bytes want rows : ℕ) → want ≡ wanted live (bytes - 0) → rows ≡ rowsOf records want → rows ≡ rowsOf records (wanted live bytes)
+wanted-rows records live bytes want rows e q =
+    let z : bytes - 0 ≡ bytes = omega arith in
+    q ∙ ap (rowsOf records) (e ∙ ap (wanted live) z)
+
+pub wanted-fit : (records live bytes want rows room : ℕ) → want ≡ wanted live (bytes - 0) → rows ≡ rowsOf records want → rowsOf records (wanted live bytes) ≤ room → rows ≤ room
+wanted-fit records live bytes want rows room e q h = omega (arith, wanted-rows records live bytes want rows e q)
+
 neither-right : (a b : Bool) → (a || b) ≡ false → b ≡ false
 neither-right false b e = e
 neither-right true b e = clash refl e
 
-module _ (b : Book) (ns ks : List (List ℕ)) (records : ℕ) (rest : Bool) (t : List Pool) (s : Staged b ns ks records rest t) where
+-- where the live records and n more are wanted, as far as a table has them
+module _ (b : Book) (want n : ℕ) (w : min recordsMax want ≡ min recordsMax (b .live + n)) (ns ks : List (List ℕ)) (records : ℕ) (rest : Bool) (t : List Pool) (s : Staged want ns ks records rest t) where
   abbrev m : ℕ
-  m = rowsOf records (b .live)
+  m = rowsOf records want
 
-  -- all the records, or the live ones and as many more as a message brings at most
-  some-or-all : length t ≤ recordsMax → (m ≡ length t) ⊎ (b .live + poolsMax ≤ m)
-  some-or-all h = go (decLt (length t) (b .live + poolsMax))
+  -- all the records, or the live ones and n more
+  some-or-all : length t ≤ recordsMax → (m ≡ length t) ⊎ (b .live + n ≤ m)
+  some-or-all h = go (decLt (length t) (b .live + n))
     where
-      go : Dec (length t < b .live + poolsMax) → (m ≡ length t) ⊎ (b .live + poolsMax ≤ m)
-      go (yes l) = inl (omega (arith, s .size))
-      go (no l) = inr (omega (arith, s .size))
+      go : Dec (length t < b .live + n) → (m ≡ length t) ⊎ (b .live + n ≤ m)
+      go (yes l) = inl (omega (arith, s .size, w))
+      go (no l) = inr (omega (arith, s .size, w))
 
-  staged-padded : records ≤ recordsMax → rest ≡ true → Padded b t m
+  staged-padded : records ≤ recordsMax → rest ≡ true → Padded b t m n
   staged-padded h e =
       record {
         within = omega (arith, s .size);
@@ -55,7 +64,7 @@ module _ (b : Book) (ns ks : List (List ℕ)) (records : ℕ) (rest : Bool) (t :
   staged-unsound : rest ≡ false → isSound b t ≡ false
   staged-unsound e = go (decLt recordsMax (length t))
     where
-      other : (m ≡ length t) ⊎ (b .live + poolsMax ≤ m) → isSound b t ≡ false
+      other : (m ≡ length t) ⊎ (b .live + n ≤ m) → isSound b t ≡ false
       other (inl q) = clash (ap (all isNone) (drop-of-length-le t {i = m} (omega arith))) (sym (s .others) ∙ e)
       other (inr l) = not-zeros b t m (omega arith) (omega (arith, s .size)) (sym (s .others) ∙ e)
 
@@ -71,7 +80,7 @@ module _ (b : Book) (ns ks : List (List ℕ)) (records : ℕ) (rest : Bool) (t :
       go (inl l) = too-long b t (omega (arith, s .size, ltb-true recordsMax records l))
       go (inr n) = staged-unsound (not-true rest n)
 
-  pub test-padded : (ltb recordsMax records || not rest) ≡ false → Padded b t m
+  pub test-padded : (ltb recordsMax records || not rest) ≡ false → Padded b t m n
   test-padded e =
       staged-padded (ltb-false recordsMax records (neither-left (ltb recordsMax records) (not rest) e)) (not-false rest (neither-right (ltb recordsMax records) (not rest) e))
 

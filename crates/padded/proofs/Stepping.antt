@@ -22,7 +22,7 @@ use Rattle.engine.specs.declared.Stepped.{Stepped}
 use Rattle.engine.specs.Frames.{Steps, Frames}
 use Rattle.engine.proofs.Answering.{unsound-answer}
 use Rattle.padded.specs.declared.Moved.{Moved}
-use Rattle.padded.specs.Staged.{rowsOf, fromOf, toOf, stored, Staged}
+use Rattle.padded.specs.Staged.{bringsMax, wanted, rowsOf, fromOf, toOf, stored, Staged}
 use Rattle.padded.specs.Calls.{Framed}
 use Rattle.padded.specs.Moving.{Moves, StepsRows}
 use Rattle.padded.proofs.Sound.{Padded}
@@ -56,19 +56,19 @@ module _ (b : Book) (body time out : List ℕ) where
     pub unsound-rows : (ltb recordsMax records || not rest) ≡ true → StepsRows b ns ks records rest body time out unmoved ns ks out
     unsound-rows e =
         record {
-          moves = λ t s. unsound-moves t ns ks (test-unsound b ns ks records rest t s e);
+          moves = λ t s. unsound-moves t ns ks (test-unsound b (wanted (b .live) (length body)) (bringsMax (length body)) (omega arith) ns ks records rest t s e);
           numbers = refl;
           keys = refl;
         }
 
     -- the call on the rows, of which there are as many after it, with the others after them
-    module _ (e : (ltb recordsMax records || not rest) ≡ false) (rows : ℕ) (q : rows ≡ rowsOf records (b .live))
-        (hn : rowsOf records (b .live) ≤ length ns) (hk : rowsOf records (b .live) ≤ length ks) (r : Stepped) (ms js : List (List ℕ)) (out′ : List ℕ)
+    module _ (e : (ltb recordsMax records || not rest) ≡ false) (rows : ℕ) (q : rows ≡ rowsOf records (wanted (b .live) (length body)))
+        (hn : rowsOf records (wanted (b .live) (length body)) ≤ length ns) (hk : rowsOf records (wanted (b .live) (length body)) ≤ length ks) (r : Stepped) (ms js : List (List ℕ)) (out′ : List ℕ)
         (ln : length ms ≡ length (take rows ns)) (lk : length js ≡ length (take rows ks))
         (f : Frames b (take rows ns) (take rows ks) body time out r ms js out′)
         (kind : MessageType) (ek : kind ≡ typeOf body) (from to : ℕ) (ef : from ≡ fromOf kind (r .answer) (b .live)) (et : to ≡ toOf (r .answer) (b .live) (r .book .live)) where
       abbrev m : ℕ
-      m = rowsOf records (b .live)
+      m = rowsOf records (wanted (b .live) (length body))
 
       paired : length (take rows ks) ≡ length (take rows ns)
       paired = sym (counted rows m ks q hk) ∙ counted rows m ns q hn
@@ -85,7 +85,7 @@ module _ (b : Book) (body time out : List ℕ) where
       long-keys : length (js ++ drop rows ks) ≡ length ks
       long-keys = length-front ks js rows lk
 
-      rows-move : (t : List Pool) → Staged b ns ks records rest t
+      rows-move : (t : List Pool) → Staged (wanted (b .live) (length body)) ns ks records rest t
           → Moves b t body time out (record { stepped = r; from = from; to = to }) (ms ++ drop rows ns) (js ++ drop rows ks) out′
       rows-move t s =
           record {
@@ -99,20 +99,20 @@ module _ (b : Book) (body time out : List ℕ) where
             stagedKeys = omega (arith, to-is, st .within, long-keys, hk);
           }
         where
-          p : Padded b t m
-          p = test-padded b ns ks records rest t s e
+          p : Padded b t m (bringsMax (length body))
+          p = test-padded b (wanted (b .live) (length body)) (bringsMax (length body)) (omega arith) ns ks records rest t s e
 
           on-rows : tableOf (take rows ns) (take rows ks) ≡ take m t
-          on-rows = staged-rows b ns ks records rest t s rows q hn
+          on-rows = staged-rows b (wanted (b .live) (length body)) (bringsMax (length body)) (omega arith) ns ks records rest t s rows q hn
 
           answer : r .answer ≡ answerOf (on b body (length out) t)
-          answer = steps .answer ∙ ap (λ (x : List Pool). answerOf (on b body (length out) x)) on-rows ∙ sym (same-answer b t m p body (length out))
+          answer = steps .answer ∙ ap (λ (x : List Pool). answerOf (on b body (length out) x)) on-rows ∙ sym (same-answer b t m body p (length out))
 
           book : r .book ≡ bookAfter (on b body (length out) t)
-          book = steps .book ∙ ap (λ (x : List Pool). bookAfter (on b body (length out) x)) on-rows ∙ sym (same-book b t m p body (length out))
+          book = steps .book ∙ ap (λ (x : List Pool). bookAfter (on b body (length out) x)) on-rows ∙ sym (same-book b t m body p (length out))
 
           output : out′ ≡ outputAfter (on b body (length out) t) time out
-          output = steps .output ∙ ap (λ (x : List Pool). outputAfter (on b body (length out) x) time out) on-rows ∙ sym (same-output b t m p body (length out) time out)
+          output = steps .output ∙ ap (λ (x : List Pool). outputAfter (on b body (length out) x) time out) on-rows ∙ sym (same-output b t m body p (length out) time out)
 
           table : tableOf ms js ≡ tableAfter (on b body (length out) (take m t))
           table = steps .table ∙ ap (λ (x : List Pool). tableAfter (on b body (length out) x)) on-rows
@@ -120,7 +120,7 @@ module _ (b : Book) (body time out : List ℕ) where
           st : Stores t (ms ++ drop rows ns) (js ++ drop rows ks) m (fromOf (typeOf body) (answerOf (on b body (length out) t)) (b .live))
               (toOf (answerOf (on b body (length out) t)) (b .live) (bookAfter (on b body (length out) t) .live)) (tableAfter (on b body (length out) t))
           st =
-              stores b t m p body (length out) ms js (ms ++ drop rows ns) (js ++ drop rows ks) table size
+              stores b t m body p (length out) ms js (ms ++ drop rows ns) (js ++ drop rows ks) table size
               (λ i h. sym (record-front ms js (drop rows ns) (drop rows ks) i h (omega (arith, h, ln, lk, paired))))
 
           from-is : from ≡ fromOf (typeOf body) (answerOf (on b body (length out) t)) (b .live)

@@ -13,7 +13,7 @@ use Rattle.book.specs.Messages.{typeOf}
 use Rattle.book.specs.Checks.{Call, isOn, answerOf}
 use Rattle.book.specs.Step.{accepted, bookAfter, tableAfter}
 use Rattle.table.specs.Rows.{recordAt, tableOf}
-use Rattle.padded.specs.Staged.{fromOf, toOf, stored}
+use Rattle.padded.specs.Staged.{bringsMax, fromOf, toOf, stored}
 use Rattle.padded.proofs.Sound.{Padded}
 use Rattle.padded.proofs.Alike.{on}
 use Rattle.padded.proofs.Calls.{same-answer, same-book, table-padded}
@@ -26,7 +26,7 @@ pub record Stores (t : List Pool) (ns ks : List (List ℕ)) (m a e : ℕ) (after
   pub within : e ≤ m
   pub whole : stored t ns ks a e ≡ after
 
-module _ (b : Book) (t : List Pool) (m : ℕ) (p : Padded b t m) (body : List ℕ) (room : ℕ) (ns ks ms js : List (List ℕ))
+module _ (b : Book) (t : List Pool) (m : ℕ) (body : List ℕ) (p : Padded b t m (bringsMax (length body))) (room : ℕ) (ns ks ms js : List (List ℕ))
     (rows : tableOf ns ks ≡ tableAfter (on b body room (take m t))) (size : length ns ≡ m)
     (front : (i : ℕ) → i < length ns → recordAt ns ks i ≡ recordAt ms js i) where
   abbrev c : Call
@@ -36,14 +36,14 @@ module _ (b : Book) (t : List Pool) (m : ℕ) (p : Padded b t m) (body : List �
   r = on b body room (take m t)
 
   parts : tableAfter c ≡ tableOf ns ks ++ drop m t
-  parts = table-padded b t m p body room ∙ ap (λ (x : List Pool). x ++ drop m t) (sym rows)
+  parts = table-padded b t m body p room ∙ ap (λ (x : List Pool). x ++ drop m t) (sym rows)
 
   stores-refused : accepted c ≡ false → Stores t ms js m 0 0 (tableAfter c)
   stores-refused e = record { ordered = omega arith; within = omega arith; whole = sym (refused-table c e) }
 
   module _ (ok : accepted c ≡ true) where
     ok-rows : accepted r ≡ true
-    ok-rows = ap isAccepted (sym (same-answer b t m p body room)) ∙ ok
+    ok-rows = ap isAccepted (sym (same-answer b t m body p room)) ∙ ok
 
     long : length (take m t) ≡ m
     long = length-take-le m t (p .within)
@@ -52,7 +52,7 @@ module _ (b : Book) (t : List Pool) (m : ℕ) (p : Padded b t m) (body : List �
     before-within = omega (arith, long, live-within r ok-rows)
 
     now-within : bookAfter c .live ≤ m
-    now-within = omega (arith, long, after-within r ok-rows, ap (λ (x : Book). x .live) (same-book b t m p body room))
+    now-within = omega (arith, long, after-within r ok-rows, ap (λ (x : Book). x .live) (same-book b t m body p room))
 
     stores-from : (a : ℕ) → a ≤ max (b .live) (bookAfter c .live) → take a (tableAfter c) ≡ take a t
         → Stores t ms js m a (max (b .live) (bookAfter c .live)) (tableAfter c)

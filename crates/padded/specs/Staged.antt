@@ -1,13 +1,12 @@
--- The rows of a table that a call works on: its live records, and as many after them as a message brings at most (01, "The book").
-use Prim.Native.Nat.{ℕ, _+_, _-_, min, max}
+-- The rows of a table that a call works on: its live records, and as many after them as its message can bring (01, "The book").
+use Prim.Native.Nat.{ℕ, _+_, _-_, _/_, min, max}
 use mathlib.Core.List.{List, _++_}
 use mathlib.Core.Bool.{Bool, cond, _&&_}
 use mathlib.Core.Path.{_≡_}
 use lib.ListN.{length, take, drop}
 use Rattle.lists.specs.Lists.{tab, all}
-use Rattle.layout.specs.Details.{poolsMax}
+use Rattle.layout.specs.Columns.{detailWidth}
 use Rattle.tally.specs.declared.MessageType.{MessageType}
-use Rattle.book.specs.declared.Book.{Book}
 use Rattle.book.specs.declared.Pool.{Pool}
 use Rattle.book.specs.declared.Answer.{Answer}
 use Rattle.book.specs.Reasons.{isAccepted}
@@ -16,15 +15,23 @@ use Rattle.book.specs.Soundness.{isNone}
 use Rattle.book.specs.Checks.{isOn}
 use Rattle.table.specs.Rows.{recordAt, tableOf}
 
--- how many rows of a table are staged, of a book with so many live pools
+-- the pools that a message of so many bytes can bring: no more than there are details in it
+abbrev pub bringsMax : ℕ → ℕ
+bringsMax bytes = bytes / detailWidth
+
+-- the rows that a message of so many bytes wants, of a book with so many live pools
+abbrev pub wanted : ℕ → ℕ → ℕ
+wanted live bytes = min recordsMax (live + bringsMax bytes)
+
+-- how many rows of a table are staged, where so many are wanted
 abbrev pub rowsOf : ℕ → ℕ → ℕ
-rowsOf records live = min records (min recordsMax (live + poolsMax))
+rowsOf records want = min records (min recordsMax want)
 
 -- a table whose first rows are those of the slices; rest tells whether its other records are zeros
-pub record Staged (b : Book) (ns ks : List (List ℕ)) (records : ℕ) (rest : Bool) (pools : List Pool) : Type 0 where
+pub record Staged (want : ℕ) (ns ks : List (List ℕ)) (records : ℕ) (rest : Bool) (pools : List Pool) : Type 0 where
   pub size : length pools ≡ records
-  pub rows : take (rowsOf records (b .live)) (tableOf ns ks) ≡ take (rowsOf records (b .live)) pools
-  pub others : rest ≡ all isNone (drop (rowsOf records (b .live)) pools)
+  pub rows : take (rowsOf records want) (tableOf ns ks) ≡ take (rowsOf records want) pools
+  pub others : rest ≡ all isNone (drop (rowsOf records want) pools)
 
 -- a table with the records from a up to e taken from the slices
 abbrev pub stored : List Pool → List (List ℕ) → List (List ℕ) → ℕ → ℕ → List Pool

@@ -8,11 +8,10 @@ use figures::Figures;
 use opened::Opened;
 use tally::MessageType;
 ghost use mathlib.Core.Path.{_≡_};
-ghost use Prim.Native.Nat.{_+_, _≤_, min};
+ghost use Prim.Native.Nat.{_-_, _≤_, min};
 ghost use lib.ListN.{length};
-ghost use Rattle.layout.specs.Details.{poolsMax};
 ghost use Rattle.book.specs.Opening.{recordsMax};
-ghost use Rattle.padded.specs.Staged.{rowsOf, fromOf, toOf};
+ghost use Rattle.padded.specs.Staged.{wanted, rowsOf, fromOf, toOf};
 ghost use Rattle.padded.specs.Moving.{StepsRows, SaysRows, OpensRecords};
 
 // What a frame call on rows gives back: the book and the answer, and the records that changed, from one up to another.
@@ -28,21 +27,39 @@ pub struct Cleared {
     pub count: usize,
 }
 
-// The rows of the live pools and of what a message brings, in a table as long as a table can be.
-fn rows_most(live: usize) -> usize
-    ensures { λ r. ⌜ r ≡ min recordsMax (live + poolsMax) ⌝ }
+// The rows that a message wants whose body lies from one place up to another: those of the live pools, and one for each detail that the body has room for.
+pub fn rows_wanted(book: Book, from: usize, to: usize) -> usize
+    ensures { λ r. ⌜ r ≡ wanted (book .live) (to - from) ⌝ }
 {
-    if live < book::RECORDS_MAX - layout::POOLS_MAX {
-        return live + layout::POOLS_MAX;
+    let live = book.live;
+    if book::RECORDS_MAX <= live {
+        return book::RECORDS_MAX;
+    }
+    if to < from {
+        return live;
+    }
+    let more = (to - from) / layout::DETAIL_WIDTH;
+    if book::RECORDS_MAX - live < more {
+        return book::RECORDS_MAX;
+    }
+    live + more
+}
+
+// As many rows as are wanted, or as a table has at most.
+fn rows_most(want: usize) -> usize
+    ensures { λ r. ⌜ r ≡ min recordsMax want ⌝ }
+{
+    if want < book::RECORDS_MAX {
+        return want;
     }
     book::RECORDS_MAX
 }
 
-// How many rows of a table are staged.
-pub fn rows_of(records: usize, live: usize) -> usize
-    ensures { λ r. ⌜ r ≡ rowsOf records live ⌝ }
+// How many rows of a table are staged, where so many are wanted.
+pub fn rows_of(records: usize, want: usize) -> usize
+    ensures { λ r. ⌜ r ≡ rowsOf records want ⌝ }
 {
-    let most = rows_most(live);
+    let most = rows_most(want);
     if records < most {
         return records;
     }
@@ -93,7 +110,7 @@ pub fn step_rows(
     time: [u8; 6],
     out: &mut [u8],
 ) -> Moved
-    requires { ⌜ (rowsOf records (book .live) ≤ length (now numbers)) × (rowsOf records (book .live) ≤ length (now keys)) ⌝ }
+    requires { ⌜ (rowsOf records (wanted (book .live) (length (now body))) ≤ length (now numbers)) × (rowsOf records (wanted (book .live) (length (now body))) ≤ length (now keys)) ⌝ }
     ensures { λ r. ⌜ StepsRows book (now (numbers .entry)) (now (keys .entry)) records rest (now (body .entry)) time (now (out .entry)) r (now (numbers .exit)) (now (keys .exit)) (now (out .exit)) ⌝ }
 {
     let live = book.live;
@@ -107,7 +124,8 @@ pub fn step_rows(
             to: 0,
         };
     }
-    let rows = rows_of(records, live);
+    let want = rows_wanted(book, 0, body.len());
+    let rows = rows_of(records, want);
     let stepped = engine::step(
         book,
         &mut numbers[..rows],

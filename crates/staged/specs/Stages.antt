@@ -10,9 +10,9 @@ use Rattle.book.specs.Soundness.{isNone}
 use Rattle.table.specs.Rows.{tableOf}
 use Rattle.padded.specs.Staged.{rowsOf}
 
--- of a book with so many live pools: the first rows hold the first records, there are as many rows as before, and the answer tells whether all other records are zeros
-pub record Stages (pools : List Pool) (live : ℕ) (ns ks : List (List ℕ)) (r : Bool) (ns′ ks′ : List (List ℕ)) : Type 0 where
-  pub rows : take (rowsOf (length pools) live) (tableOf ns′ ks′) ≡ take (rowsOf (length pools) live) pools
-  pub others : r ≡ all isNone (drop (rowsOf (length pools) live) pools)
+-- where so many rows are wanted: the first rows hold the first records, there are as many rows as before, and the answer tells whether all other records are zeros
+pub record Stages (pools : List Pool) (want : ℕ) (ns ks : List (List ℕ)) (r : Bool) (ns′ ks′ : List (List ℕ)) : Type 0 where
+  pub rows : take (rowsOf (length pools) want) (tableOf ns′ ks′) ≡ take (rowsOf (length pools) want) pools
+  pub others : r ≡ all isNone (drop (rowsOf (length pools) want) pools)
   pub numbers : length ns′ ≡ length ns
   pub keys : length ks′ ≡ length ks

@@ -6,17 +6,17 @@ use padded::Moved;
 ghost use Prim.Native.Nat.{_-_, _≤_};
 ghost use lib.ListN.{length};
 ghost use Rattle.lists.specs.Lists.{part};
-ghost use Rattle.padded.specs.Staged.{rowsOf};
+ghost use Rattle.padded.specs.Staged.{wanted, rowsOf};
 ghost use Rattle.padded.specs.Moving.{StepsRows};
 ghost use Rattle.padded.specs.Calls.{Framed};
 ghost use Rattle.staged.specs.Stages.{Stages};
 
-// Copies the records that a call works on into the rows, and tells whether all others are zeros.
-pub fn stage(pools: &[Pool], live: usize, numbers: &mut [[u64; 6]], keys: &mut [[u8; 22]]) -> bool
-    requires { ⌜ (rowsOf (length (now pools)) live ≤ length (now numbers)) × (rowsOf (length (now pools)) live ≤ length (now keys)) ⌝ }
-    ensures { λ r. ⌜ Stages (now (pools .entry)) live (now (numbers .entry)) (now (keys .entry)) r (now (numbers .exit)) (now (keys .exit)) ⌝ }
+// Copies the records that a call works on into the rows, where so many are wanted, and tells whether all others are zeros.
+pub fn stage(pools: &[Pool], want: usize, numbers: &mut [[u64; 6]], keys: &mut [[u8; 22]]) -> bool
+    requires { ⌜ (rowsOf (length (now pools)) want ≤ length (now numbers)) × (rowsOf (length (now pools)) want ≤ length (now keys)) ⌝ }
+    ensures { λ r. ⌜ Stages (now (pools .entry)) want (now (numbers .entry)) (now (keys .entry)) r (now (numbers .exit)) (now (keys .exit)) ⌝ }
 {
-    let rows = padded::rows_of(pools.len(), live);
+    let rows = padded::rows_of(pools.len(), want);
     records::load(pools, rows, numbers, keys);
     records::blank_from(pools, rows)
 }
@@ -34,7 +34,7 @@ fn step_part_rows(
     time: [u8; 6],
     out: &mut [u8],
 ) -> Moved
-    requires { ⌜ (rowsOf records (book .live) ≤ length (now numbers)) × (rowsOf records (book .live) ≤ length (now keys)) × (from ≤ to) × (to ≤ length (now tape)) ⌝ }
+    requires { ⌜ (rowsOf records (wanted (book .live) (to - from)) ≤ length (now numbers)) × (rowsOf records (wanted (book .live) (to - from)) ≤ length (now keys)) × (from ≤ to) × (to ≤ length (now tape)) ⌝ }
     ensures { λ r. ⌜ StepsRows book (now (numbers .entry)) (now (keys .entry)) records rest (part (now (tape .entry)) from (to - from)) time (now (out .entry)) r (now (numbers .exit)) (now (keys .exit)) (now (out .exit)) ⌝ }
 {
     padded::step_rows(
@@ -61,10 +61,10 @@ pub fn step_with(
     time: [u8; 6],
     out: &mut [u8],
 ) -> Stepped
-    requires { ⌜ (rowsOf (length (now pools)) (book .live) ≤ length (now numbers)) × (rowsOf (length (now pools)) (book .live) ≤ length (now keys)) × (from ≤ to) × (to ≤ length (now tape)) ⌝ }
+    requires { ⌜ (rowsOf (length (now pools)) (wanted (book .live) (to - from)) ≤ length (now numbers)) × (rowsOf (length (now pools)) (wanted (book .live) (to - from)) ≤ length (now keys)) × (from ≤ to) × (to ≤ length (now tape)) ⌝ }
     ensures { λ r. ⌜ Framed book (now (pools .entry)) (part (now (tape .entry)) from (to - from)) time (now (out .entry)) r (now (pools .exit)) (now (out .exit)) ⌝ }
 {
-    let rest = stage(pools, book.live, numbers, keys);
+    let rest = stage(pools, padded::rows_wanted(book, from, to), numbers, keys);
     let moved = step_part_rows(
         book,
         numbers,

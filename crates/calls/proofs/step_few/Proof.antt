@@ -1,6 +1,6 @@
 -- `step_few` meets its contract, by a walk of its MIR: two local arrays of few rows are made, and the call goes on as with any count of rows.
 use mathlib.Core.Path.{refl}
-use Prim.Native.Nat.{ℕ, _<_, _≤_, _^_}
+use Prim.Native.Nat.{ℕ, _-_, _<_, _≤_, _^_}
 use mathlib.Core.List.{List, [], _∷_}
 use lib.ListN.{length}
 use lib.Dec.{lit<}
@@ -32,10 +32,10 @@ use denote.Triple.Spec.{Meets, tripleOf}
 use denote.Triple.Table.{entered, cited}
 use denote.Triple.Walked.{needs, Walks, walked, walk-meets}
 use Rattle.walking.proofs.Blanks.{RowR, row-typed}
-use Rattle.walking.proofs.Count.{tyOf, big-lit}
+use Rattle.walking.proofs.Count.{tyOf}
 use Rattle.book.specs.declared.Pool.{Pool}
 use Rattle.records.proofs.Row.{R}
-use Rattle.padded.specs.Staged.{rowsOf}
+use Rattle.padded.specs.Staged.{wanted, rowsOf}
 use Rattle.staged.proofs.Values.{BookR, bookVals, book-typed, TimeR, timeVals, time-typed}
 use Rattle.staged.proofs.step_with.Symbol as with-def
 use Rattle.staged.proofs.step_with.Symbol.{name as #staged·step-with}
@@ -70,7 +70,7 @@ module _ {M : Type 1} (𝓤 : URA M) (H : Heap 𝓤) (A : Atoms 𝓤) (W : Given
     abbrev time : List ℕ
     time = a .1 .1 .1 .1 .1 .0
 
-    walk : Is BookR (a .0) (bookVals (a .0)) → Room R (length ys) → Room u8 (length ts) → start < 2 ^ 64 → past < 2 ^ 64 → Is TimeR time (timeVals time) → Room u8 (length os) → (rowsOf (length ys) (a .0 .live) ≤ 1024) × (start ≤ past) × (past ≤ length ts)
+    walk : Is BookR (a .0) (bookVals (a .0)) → Room R (length ys) → Room u8 (length ts) → start < 2 ^ 64 → past < 2 ^ 64 → Is TimeR time (timeVals time) → Room u8 (length os) → (rowsOf (length ys) (wanted (a .0 .live) (past - start)) ≤ 512) × (start ≤ past) × (past ≤ length ts)
         → ent 𝓤 (onEntry 𝓤 H A f.signature κs qs a (at 𝓤 H A W mem run κs qs a)) (WpFn 𝓤 H (𝓣 .C) (𝓣 .Λ) code.function (given 𝓤 H A W mem run κs qs a) (Post 𝓤 H A W mem run κs qs a))
     walk gk room room₂ gs gp gt room₃ within =
         qed W ((‵ (flft (κs .0) (qs .0)) ⊛ Rest 𝓤 H A W mem run κs qs a) ∷ ‵ (owns (BookR ∷ MutSlice (named 0) (κs .0) R ∷ ShrSlice (named 1) (κs .1 .0) u8 ∷ usize ∷ usize ∷ TimeR ∷ MutSlice (named 2) (κs .1 .1 .0) u8 ∷ []) a (at 𝓤 H A W mem run κs qs a)) ∷ []) ∵
@@ -82,24 +82,24 @@ module _ {M : Type 1} (𝓤 : URA M) (H : Heap 𝓤) (A : Atoms 𝓤) (W : Given
         move ! (41 ∷ []) $ fsplit ! $ drop ! $ fsplit ! $ move ! (1 ∷ []) $ fsplit ! $ move ! (1 ∷ []) $ fsplit ! $ drop ! $ fsplit ! $ drop ! $ fsplit ! $ drop ! $ fsplit ! $ move ! (1 ∷ []) $ drop ! $ move ! (43 ∷ []) $ split ! $ move ! (4 ∷ 0 ∷ 3 ∷ 2 ∷ 1 ∷ []) $
         -- [pools; its token; tape; output; their tokens; _19 at 5; …; _0 at 43]
         assigns ! (rep ! 6 (lit ! tt)) (from ! (stop !)) (init ! 23 refl (row-typed w64 6 (refl, lit< tt) 𝓤 H A W)) $
-        assigns ! (rep ! 1024 (load ! (from ! (stop !)) (look ! 23 refl))) (from ! (stop !)) (init ! 27 refl (typed-numbers 1024 𝓤 H A W body.table)) $
+        assigns ! (rep ! 512 (load ! (from ! (stop !)) (look ! 23 refl))) (from ! (stop !)) (init ! 27 refl (typed-numbers 512 𝓤 H A W body.table)) $
         assigns ! (rep ! 22 (lit ! tt)) (from ! (stop !)) (init ! 21 refl (row-typed w8 22 (refl, lit< tt) 𝓤 H A W)) $
-        assigns ! (rep ! 1024 (load ! (from ! (stop !)) (look ! 21 refl))) (from ! (stop !)) (init ! 25 refl (typed-keys 1024 𝓤 H A W body.table)) $
+        assigns ! (rep ! 512 (load ! (from ! (stop !)) (look ! 21 refl))) (from ! (stop !)) (init ! 25 refl (typed-keys 512 𝓤 H A W body.table)) $
         assigns ! (addr ! (from ! (fld ! refl (hop ! (look-in ! 39 (sub ! 0 refl (whole !))) (stop !))))) (from ! (stop !)) (init ! 19 refl (tt, tt)) $
         assigns ! (agg ! (and-then ! (load ! (from ! (stop !)) (look ! 19 refl)) (and-then ! (load ! (from ! (fld ! refl (stop !))) (look-in ! 39 (sub ! 1 refl (whole !)))) (no-more !)))) (from ! (stop !)) (init ! 17 refl (tt, (tt, (record { fits = room .0 }, tt)))) $
         assigns ! (addr ! (from ! (stop !))) (from ! (stop !)) (init ! 15 refl (tt, tt)) $
-        assigns ! (agg ! (and-then ! (load ! (from ! (stop !)) (look ! 15 refl)) (and-then ! (big-lit ! (record { fits = lit< tt })) (no-more !)))) (from ! (stop !)) (init ! 13 refl (tt, (tt, (record { fits = lit< tt }, tt)))) $
+        assigns ! (agg ! (and-then ! (load ! (from ! (stop !)) (look ! 15 refl)) (and-then ! (lit ! tt) (no-more !)))) (from ! (stop !)) (init ! 13 refl (tt, (tt, (record { fits = lit< tt }, tt)))) $
         assigns ! (addr ! (from ! (stop !))) (from ! (stop !)) (init ! 11 refl (tt, tt)) $
-        assigns ! (agg ! (and-then ! (load ! (from ! (stop !)) (look ! 11 refl)) (and-then ! (big-lit ! (record { fits = lit< tt })) (no-more !)))) (from ! (stop !)) (init ! 9 refl (tt, (tt, (record { fits = lit< tt }, tt)))) $
+        assigns ! (agg ! (and-then ! (load ! (from ! (stop !)) (look ! 11 refl)) (and-then ! (lit ! tt) (no-more !)))) (from ! (stop !)) (init ! 9 refl (tt, (tt, (record { fits = lit< tt }, tt)))) $
         assigns ! (addr ! (from ! (fld ! refl (hop ! (look-in ! 29 (sub ! 0 refl (whole !))) (stop !))))) (from ! (stop !)) (init ! 7 refl (tt, tt)) $
         assigns ! (agg ! (and-then ! (load ! (from ! (stop !)) (look ! 7 refl)) (and-then ! (load ! (from ! (fld ! refl (stop !))) (look-in ! 29 (sub ! 1 refl (whole !)))) (no-more !)))) (from ! (stop !)) (init ! 5 refl (tt, (tt, (record { fits = room₃ .0 }, tt)))) $
         forget ! 7 refl $ forget ! 11 refl $ forget ! 15 refl $ forget ! 19 refl $ forget ! 21 refl $ forget ! 23 refl $
-        move ! (27 ∷ []) $ use1 W (‵ (cells (memory.mem (RowR w64 6)) (numbers 1024) l₈ 0)) (numbers-out 1024 𝓤 H A W body.table l₈) $ move ! (26 ∷ []) $ use1 W (‵ (cells (memory.mem (RowR w8 22)) (keys 1024) l₉ 0)) (keys-out 1024 𝓤 H A W body.table l₉) $
-        by ! (calling 𝓤 H A W mem run κs qs a 1024 𝓣 known gk gs gp gt (within .0) (within .1, within .2) (lit< tt, lit< tt) (lit< tt, lit< tt) τ refl refl refl l₀ l₁ l₂ l₃ l₄ l₅ l₆ l₇ l₈ l₉ l₁₀ l₁₁ l₁₂ l₁₃ l₁₄ l₁₅ l₁₆ l₁₇ l₁₈ l₁₉ body.t-13 refl)))))))))))))))))))))
+        move ! (27 ∷ []) $ use1 W (‵ (cells (memory.mem (RowR w64 6)) (numbers 512) l₈ 0)) (numbers-out 512 𝓤 H A W body.table l₈) $ move ! (26 ∷ []) $ use1 W (‵ (cells (memory.mem (RowR w8 22)) (keys 512) l₉ 0)) (keys-out 512 𝓤 H A W body.table l₉) $
+        by ! (calling 𝓤 H A W mem run κs qs a 512 𝓣 known gk gs gp gt (within .0) (within .1, within .2) (lit< tt, lit< tt) (lit< tt, lit< tt) τ refl refl refl l₀ l₁ l₂ l₃ l₄ l₅ l₆ l₇ l₈ l₉ l₁₀ l₁₁ l₁₂ l₁₃ l₁₄ l₁₅ l₁₆ l₁₇ l₁₈ l₁₉ body.t-13 refl)))))))))))))))))))))
 
   step-few-walks : Walks 𝓤 H A f.ended stayed (WpFn 𝓤 H (𝓣 .C) (𝓣 .Λ) code.function) (f.clauses 𝓤 H A mem run)
   step-few-walks = walked 𝓤 H A f.ended stayed (f.clauses 𝓤 H A mem run) (WpFn 𝓤 H (𝓣 .C) (𝓣 .Λ) code.function) all-vals all-tell
-      (λ κs qs bounds a g are. needs 𝓤 ((rowsOf (length (now (a .1 .0))) (a .0 .live) ≤ 1024) × (a .1 .1 .1 .0 ≤ a .1 .1 .1 .1 .0) × (a .1 .1 .1 .1 .0 ≤ length (now (a .1 .1 .0)))) _
+      (λ κs qs bounds a g are. needs 𝓤 ((rowsOf (length (now (a .1 .0))) (wanted (a .0 .live) (a .1 .1 .1 .1 .0 - a .1 .1 .1 .0)) ≤ 512) × (a .1 .1 .1 .0 ≤ a .1 .1 .1 .1 .0) × (a .1 .1 .1 .1 .0 ≤ length (now (a .1 .1 .0)))) _
       (walk κs qs a (are .0) (are .1 .0 .0 .1) (are .1 .1 .0 .0 .1) (are .1 .1 .1 .0 .1) (are .1 .1 .1 .1 .0 .1) (are .1 .1 .1 .1 .1 .0) (are .1 .1 .1 .1 .1 .1 .0 .0 .1)))
 
   step-few-meets : Meets 𝓤 H A f.signature (WpFn 𝓤 H (𝓣 .C) (𝓣 .Λ) code.function) (f.spec 𝓤 H A mem run)

@@ -1,6 +1,6 @@
 -- `step_many` meets its contract, by a walk of its MIR: two local arrays are made, of as many rows as a table can have, and the call goes on as with any count of rows.
 use mathlib.Core.Path.{refl}
-use Prim.Native.Nat.{ℕ, _<_, _≤_, _^_}
+use Prim.Native.Nat.{ℕ, _-_, _<_, _≤_, _^_}
 use mathlib.Core.List.{List, [], _∷_}
 use lib.ListN.{length}
 use lib.Dec.{lit<}
@@ -35,6 +35,7 @@ use Rattle.walking.proofs.Blanks.{RowR, row-typed}
 use Rattle.walking.proofs.Count.{tyOf, big-lit}
 use Rattle.book.specs.declared.Pool.{Pool}
 use Rattle.records.proofs.Row.{R}
+use Rattle.padded.specs.Staged.{wanted}
 use Rattle.staged.proofs.Framing.{rows-enough}
 use Rattle.staged.proofs.Values.{BookR, bookVals, book-typed, TimeR, timeVals, time-typed}
 use Rattle.staged.proofs.step_with.Symbol as with-def
@@ -95,7 +96,7 @@ module _ {M : Type 1} (𝓤 : URA M) (H : Heap 𝓤) (A : Atoms 𝓤) (W : Given
         assigns ! (agg ! (and-then ! (load ! (from ! (stop !)) (look ! 7 refl)) (and-then ! (load ! (from ! (fld ! refl (stop !))) (look-in ! 29 (sub ! 1 refl (whole !)))) (no-more !)))) (from ! (stop !)) (init ! 5 refl (tt, (tt, (record { fits = room₃ .0 }, tt)))) $
         forget ! 7 refl $ forget ! 11 refl $ forget ! 15 refl $ forget ! 19 refl $ forget ! 21 refl $ forget ! 23 refl $
         move ! (27 ∷ []) $ use1 W (‵ (cells (memory.mem (RowR w64 6)) (numbers 4096) l₈ 0)) (numbers-out 4096 𝓤 H A W body.table l₈) $ move ! (26 ∷ []) $ use1 W (‵ (cells (memory.mem (RowR w8 22)) (keys 4096) l₉ 0)) (keys-out 4096 𝓤 H A W body.table l₉) $
-        by ! (calling 𝓤 H A W mem run κs qs a 4096 𝓣 known gk gs gp gt (rows-enough (length ys) (a .0 .live) 4096 refl) within (lit< tt, lit< tt) (lit< tt, lit< tt) τ refl refl refl l₀ l₁ l₂ l₃ l₄ l₅ l₆ l₇ l₈ l₉ l₁₀ l₁₁ l₁₂ l₁₃ l₁₄ l₁₅ l₁₆ l₁₇ l₁₈ l₁₉ body.t-13 refl)))))))))))))))))))))
+        by ! (calling 𝓤 H A W mem run κs qs a 4096 𝓣 known gk gs gp gt (rows-enough (length ys) (wanted (a .0 .live) (past - start)) 4096 refl) within (lit< tt, lit< tt) (lit< tt, lit< tt) τ refl refl refl l₀ l₁ l₂ l₃ l₄ l₅ l₆ l₇ l₈ l₉ l₁₀ l₁₁ l₁₂ l₁₃ l₁₄ l₁₅ l₁₆ l₁₇ l₁₈ l₁₉ body.t-13 refl)))))))))))))))))))))
 
   step-many-walks : Walks 𝓤 H A f.ended stayed (WpFn 𝓤 H (𝓣 .C) (𝓣 .Λ) code.function) (f.clauses 𝓤 H A mem run)
   step-many-walks = walked 𝓤 H A f.ended stayed (f.clauses 𝓤 H A mem run) (WpFn 𝓤 H (𝓣 .C) (𝓣 .Λ) code.function) all-vals all-tell

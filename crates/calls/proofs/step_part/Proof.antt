@@ -42,7 +42,7 @@ use Rattle.lists.specs.Lists.{part}
 use Rattle.book.specs.declared.Pool.{Pool}
 use Rattle.engine.specs.declared.Stepped.{Stepped}
 use Rattle.records.proofs.Row.{R}
-use Rattle.padded.specs.Staged.{rowsOf}
+use Rattle.padded.specs.Staged.{wanted, rowsOf}
 use Rattle.padded.specs.Calls.{Framed}
 use Rattle.staged.proofs.Values.{BookR, bookVals, book-makes, book-typed, SteppedR, stepped-typed, TimeR, timeVals, time-makes, time-typed}
 use Rattle.calls.proofs.Calling.{Arg, stayed, all-vals, all-tell, all-go, at, given, Post, Pools, Tape, Output, Rest, exits}
@@ -104,21 +104,22 @@ module _ {M : Type 1} (𝓤 : URA M) (H : Heap 𝓤) (A : Atoms 𝓤) (W : Given
     time = a .1 .1 .1 .1 .1 .0
 
     abbrev rows : ℕ
-    rows = rowsOf (length ys) (a .0 .live)
+    rows = rowsOf (length ys) (wanted (a .0 .live) (past - start))
 
     abbrev Tokens : Item 𝓤
     Tokens = ‵ (flft (κs .0) (qs .0)) ⊛ Rest 𝓤 H A W mem run κs qs a
 
     -- what the triple of `few_enough` binds outside, and what it says
     abbrev to-enough : Enough 𝓤 H A mem run .Ghost
-    to-enough = ((tt, tt, tt, (a .0, (length ys, tt)), (bookVals (a .0), (vint w64 (length ys) ∷ [], tt))), tt)
+    to-enough = ((tt, tt, tt, (a .0, (length ys, (start, (past, tt)))), (bookVals (a .0), (vint w64 (length ys) ∷ [], (vint w64 start ∷ [], (vint w64 past ∷ [], tt))))), tt)
 
-    goes-enough : Is BookR (a .0) (bookVals (a .0)) → length ys < 2 ^ 64 → ent 𝓤 (emp 𝓤) (Enough 𝓤 H A mem run .pre to-enough)
-    goes-enough gk gn =
-        qed W [] ∵ nothing ! $ owned ! usize (Is usize) (uint-makes 𝓤 H A W w64) (length ys) _ (refl, gn) $ fjoin ! $ owned ! BookR (Is BookR) (book-makes 𝓤 H A) (a .0) _ gk $ fjoin ! $ nothing ! $ join ! $ frame ! $ done !
+    goes-enough : Is BookR (a .0) (bookVals (a .0)) → length ys < 2 ^ 64 → start < 2 ^ 64 → past < 2 ^ 64 → ent 𝓤 (emp 𝓤) (Enough 𝓤 H A mem run .pre to-enough)
+    goes-enough gk gn gs gp =
+        qed W [] ∵ nothing ! $ owned ! usize (Is usize) (uint-makes 𝓤 H A W w64) past _ (refl, gp) $ fjoin ! $ owned ! usize (Is usize) (uint-makes 𝓤 H A W w64) start _ (refl, gs) $ fjoin ! $
+        owned ! usize (Is usize) (uint-makes 𝓤 H A W w64) (length ys) _ (refl, gn) $ fjoin ! $ owned ! BookR (Is BookR) (book-makes 𝓤 H A) (a .0) _ gk $ fjoin ! $ nothing ! $ join ! $ frame ! $ done !
 
-    said-enough : (r : Bool) → ent 𝓤 (ensured 𝓤 H A fe.ended (fe.clauses 𝓤 H A mem run) tt (a .0, (length ys, tt)) tt r) (fact 𝓤 (r ≡ leb rows 1024))
-    said-enough r = exE 𝓤 _ (λ zs. snd∗ 𝓤 (sem 𝓤 H A (lasts fe.ended tt (a .0, (length ys, tt)) zs)) (fact 𝓤 (r ≡ leb rows 1024)))
+    said-enough : (r : Bool) → ent 𝓤 (ensured 𝓤 H A fe.ended (fe.clauses 𝓤 H A mem run) tt (a .0, (length ys, (start, (past, tt)))) tt r) (fact 𝓤 (r ≡ leb rows 512))
+    said-enough r = exE 𝓤 _ (λ zs. snd∗ 𝓤 (sem 𝓤 H A (lasts fe.ended tt (a .0, (length ys, (start, (past, tt)))) zs)) (fact 𝓤 (r ≡ leb rows 512)))
 
     -- all is handed on, to either call
     abbrev Handed : List (Item 𝓤)
@@ -138,7 +139,7 @@ module _ {M : Type 1} (𝓤 : URA M) (H : Heap 𝓤) (A : Atoms 𝓤) (W : Given
     abbrev to-few : Few 𝓤 H A mem run .Ghost
     to-few = ((κs, qs, tt, a, at 𝓤 H A W mem run κs qs a), tt)
 
-    goes-few : (rows ≤ 1024) × (start ≤ past) × (past ≤ length ts) → ent 𝓤 (⋆ 𝓤 H A (Tokens ∷ All ∷ [])) (Few 𝓤 H A mem run .pre to-few)
+    goes-few : (rows ≤ 512) × (start ≤ past) × (past ≤ length ts) → ent 𝓤 (⋆ 𝓤 H A (Tokens ∷ All ∷ [])) (Few 𝓤 H A mem run .pre to-few)
     goes-few within = qed W (Tokens ∷ All ∷ []) ∵ says ! within $ frame ! $ done !
 
     abbrev to-many : Many 𝓤 H A mem run .Ghost
@@ -162,11 +163,11 @@ module _ {M : Type 1} (𝓤 : URA M) (H : Heap 𝓤) (A : Atoms 𝓤) (W : Given
         move ! (37 ∷ []) $ fsplit ! $ drop ! $ fsplit ! $ move ! (1 ∷ []) $ fsplit ! $ move ! (1 ∷ []) $ fsplit ! $ drop ! $ fsplit ! $ drop ! $ fsplit ! $ drop ! $ fsplit ! $ move ! (1 ∷ []) $ drop ! $ move ! (39 ∷ 2 ∷ 1 ∷ 0 ∷ []) $
         -- [the tokens; pools; tape; output; _17 at 4; …; _0 at 38]
         assigns ! (of-opd ! (load ! (from ! (fld ! refl (stop !))) (look-in ! 34 (sub ! 1 refl (whole !))))) (from ! (stop !)) (init ! 20 refl (tt, record { fits = room .0 })) $
-        use0 W (raw (Enough 𝓤 H A mem run .pre to-enough)) (goes-enough gk (room .0)) $
+        use0 W (raw (Enough 𝓤 H A mem run .pre to-enough)) (goes-enough gk (room .0) gs gp) $
         -- [what `few_enough` asks; the tokens; pools; tape; output; _17 at 5; …]
-        calls-at ! (fmOf 𝓤 H (W .laws) 𝓣) (Enough 𝓤 H A mem run) known-enough to-enough (and-then ! (load ! (from ! (stop !)) (look ! 37 refl)) (and-then ! (load ! (from ! (stop !)) (look ! 21 refl)) (no-more !))) (λ w.
-        use1 W (later (some (λ (r : Bool). (‵ ftrue ⊛ ‵ (bool .own r (w ∷ []))) ⊛ raw (ensured 𝓤 H A fe.ended (fe.clauses 𝓤 H A mem run) tt (a .0, (length ys, tt)) tt r)))) (id⊢ 𝓤 _) $ await ! tt $ pick ! (λ few.
-        split ! $ move ! (1 ∷ []) $ use1 W (raw (fact 𝓤 (few ≡ leb rows 1024))) (said-enough few) $ heard ! (few ≡ leb rows 1024) (λ e. split ! $ drop ! $
+        calls-at ! (fmOf 𝓤 H (W .laws) 𝓣) (Enough 𝓤 H A mem run) known-enough to-enough (and-then ! (load ! (from ! (stop !)) (look ! 37 refl)) (and-then ! (load ! (from ! (stop !)) (look ! 21 refl)) (and-then ! (load ! (from ! (stop !)) (look ! 31 refl)) (and-then ! (load ! (from ! (stop !)) (look ! 29 refl)) (no-more !))))) (λ w.
+        use1 W (later (some (λ (r : Bool). (‵ ftrue ⊛ ‵ (bool .own r (w ∷ []))) ⊛ raw (ensured 𝓤 H A fe.ended (fe.clauses 𝓤 H A mem run) tt (a .0, (length ys, (start, (past, tt)))) tt r)))) (id⊢ 𝓤 _) $ await ! tt $ pick ! (λ few.
+        split ! $ move ! (1 ∷ []) $ use1 W (raw (fact 𝓤 (few ≡ leb rows 512))) (said-enough few) $ heard ! (few ≡ leb rows 512) (λ e. split ! $ drop ! $
         peeks ! bool (Is bool) (shows 𝓤 H A bool) few (w ∷ []) (λ is. land ! (from ! (stop !)) (init ! 23 refl (bool-lawful 𝓤 H A W .typed few _ is .0)) $ rewrite ! 23 (λ (u : Val). ‵ (fat fullShare (τ 8) l₈ 0 u)) (ap only is) refl $ drop ! $
         -- [the tokens; pools; tape; output; _17 at 4; …; _8 at 22; …; _0 at 38]
         first ! $ branches ! (load ! (from ! (stop !)) (look ! 22 refl)) (λ yes.
@@ -174,7 +175,7 @@ module _ {M : Type 1} (𝓤 : URA M) (H : Heap 𝓤) (A : Atoms 𝓤) (W : Given
         assigns ! (agg ! (and-then ! (load ! (from ! (stop !)) (look ! 18 refl)) (and-then ! (load ! (from ! (fld ! refl (stop !))) (look-in ! 34 (sub ! 1 refl (whole !)))) (no-more !)))) (from ! (stop !)) (init ! 16 refl (tt, (tt, (record { fits = room .0 }, tt)))) $
         assigns ! (addr ! (from ! (fld ! refl (hop ! (look-in ! 24 (sub ! 0 refl (whole !))) (stop !))))) (from ! (stop !)) (init ! 14 refl (tt, tt)) $
         assigns ! (agg ! (and-then ! (load ! (from ! (stop !)) (look ! 14 refl)) (and-then ! (load ! (from ! (fld ! refl (stop !))) (look-in ! 24 (sub ! 1 refl (whole !)))) (no-more !)))) (from ! (stop !)) (init ! 12 refl (tt, (tt, (record { fits = room₃ .0 }, tt)))) $
-        move ! (2 ∷ 3 ∷ []) $ join ! $ move ! (2 ∷ 0 ∷ []) $ join ! $ use1 W All (handed gk gs gp gt) $ move ! (1 ∷ 0 ∷ []) $ use2 W (raw (Few 𝓤 H A mem run .pre to-few)) (goes-few (leb-true rows 1024 (sym e ∙ holds few yes), within .0, within .1)) $
+        move ! (2 ∷ 3 ∷ []) $ join ! $ move ! (2 ∷ 0 ∷ []) $ join ! $ use1 W All (handed gk gs gp gt) $ move ! (1 ∷ 0 ∷ []) $ use2 W (raw (Few 𝓤 H A mem run .pre to-few)) (goes-few (leb-true rows 512 (sym e ∙ holds few yes), within .0, within .1)) $
         -- [what the call asks; _17 at 1; …]
         calls-at ! (fmOf 𝓤 H (W .laws) 𝓣) (Few 𝓤 H A mem run) known-few to-few
         (and-then ! (load ! (from ! (stop !)) (look ! 33 refl)) (and-then ! (load ! (from ! (stop !)) (look ! 13 refl)) (and-then ! (load ! (from ! (stop !)) (look ! 29 refl)) (and-then ! (load ! (from ! (stop !)) (look ! 27 refl)) (and-then ! (load ! (from ! (stop !)) (look ! 25 refl)) (and-then ! (load ! (from ! (stop !)) (look ! 23 refl)) (and-then ! (load ! (from ! (stop !)) (look ! 9 refl)) (no-more !)))))))) (λ w.

@@ -1,6 +1,7 @@
 -- The body is a part of the tape, so what the rows promise of it is promised of that part.
 use borrow.Author.Needs.{needs}
 use Rattle.lists.specs.Lists.{part}
+use Rattle.staged.proofs.Framing.{part-fits}
 use Rattle.staged.proofs.step_part_rows.Statement.{statement}
 use Rattle.staged.proofs.step_part_rows.Tie as tie
 
@@ -14,7 +15,7 @@ part-step-rows-end : tie.Need-part-step-rows-end
 part-step-rows-end c = search needs
 
 step-rows-requires : tie.Need-step-rows-requires
-step-rows-requires c κs = search needs
+step-rows-requires c κs = (part-fits (c .before .before .before .before .before .before .args .records) (c .before .before .before .before .before .before .args .book .live) (c .before .before .before .before .before .before .args .tape .now) (c .before .before .before .before .before .before .args .from) (c .before .before .before .before .before .before .args .to) _ (c .before .before .before .before .before .before .pre .2) (c .before .before .before .before .before .before .pre .3) (c .before .before .before .before .before .before .pre .0), part-fits (c .before .before .before .before .before .before .args .records) (c .before .before .before .before .before .before .args .book .live) (c .before .before .before .before .before .before .args .tape .now) (c .before .before .before .before .before .before .args .from) (c .before .before .before .before .before .before .args .to) _ (c .before .before .before .before .before .before .pre .2) (c .before .before .before .before .before .before .pre .3) (c .before .before .before .before .before .before .pre .1))
 
 same-length : tie.Need-same-length
 same-length c = search needs
