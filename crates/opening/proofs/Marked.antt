@@ -17,6 +17,8 @@ use Rattle.lists.proofs.Tests.{same-equal, clash, un-true}
 use Rattle.opening.specs.Marks.{markBase, markFrom, markOf}
 
 -- ---- the mark of some bytes: what is left still gives it, and 16 bytes give a number of 64 bits
+
+-- the bound after i bytes; a byte more keeps to it, for 255 is below 22 * (markBase - 1)
 abbrev pub Room : ℕ → ℕ → Type 0
 Room m i = m + 22 ≤ 22 * markBase ^ i
 
@@ -54,8 +56,7 @@ module _ {A : Type 0} (f : A → List ℕ) (xs : List A) (n : ℕ) where
     filling-more d m e l h k =
         let s : i + 1 ≡ suc i = omega arith in
         let t : take (i + 1) (set marks i m) ≡ take i marks ++ (m ∷ []) = rw s (take-suc-set marks i m k) in
-        let g : map markOf (map f (drop i (take n xs))) ≡ m ∷ map markOf (map f (drop (i + 1) (take n xs))) =
-        rw e (ap (map markOf) (ap (map f) (first-turn xs n i d l h))) in
+        let g : map markOf (map f (drop i (take n xs))) ≡ m ∷ map markOf (map f (drop (i + 1) (take n xs))) = rw e (ap (map markOf) (ap (map f) (first-turn xs n i d l h))) in
         rw (t, append-assoc) (rw g at inv)
 
     pub filling-done : i ≤ n → n ≤ i → take n marks ≡ map markOf (map f (take n xs))
@@ -63,6 +64,16 @@ module _ {A : Type 0} (f : A → List ℕ) (xs : List A) (n : ℕ) where
         let e : i ≡ n = omega arith in
         let g : map markOf (map f (drop n (take n xs))) ≡ [] = ap (map markOf) (ap (map f) (first-done xs n n (omega arith))) in
         sym (append-nil (take n marks)) ∙ (rw g at (rw e at inv))
+
+-- ---- a search that looks at every element: what was found, or stands in what is left, is the answer
+module _ {A : Type 0} (p : A → Bool) {answer : Bool} where
+  pub search-more : (found : Bool) {left rest : List A} {x : A} → left ≡ x ∷ rest → (found || any p left) ≡ answer → ((found || p x) || any p rest) ≡ answer
+  search-more true turn inv = inv
+  search-more false turn inv = sym (ap (any p) turn) ∙ inv
+
+  pub search-done : (found : Bool) {left : List A} → left ≡ [] → (found || any p left) ≡ answer → found ≡ answer
+  search-done true e inv = inv
+  search-done false e inv = sym (ap (any p) e) ∙ inv
 
 -- ---- marks that are unlike tell IDs apart
 neither-left : (a b : Bool) → (a || b) ≡ false → a ≡ false

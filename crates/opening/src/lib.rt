@@ -230,7 +230,7 @@ fn named_from(trades: [Trade; 64], count: usize, from: usize, t: Trade) -> bool
     false
 }
 
-// The bytes of an ID as the digits of one number.
+// The mark of an ID: its bytes as the digits of one number.
 fn mark(id: &[u8]) -> u64
     requires { ⌜ length (now id) ≤ 16 ⌝ }
     ensures { λ r. ⌜ r ≡ markOf (now (id .entry)) ⌝ }
@@ -267,23 +267,21 @@ fn marks_of(trades: [Trade; 64], count: usize) -> [u64; 64]
     marks
 }
 
-// Whether a mark stands among those from some place on.
+// Whether a mark stands among those from some place on, without a branch.
 fn marked_from(marks: &[u64], count: usize, from: usize, mark: u64) -> bool
     requires { ⌜ (count ≤ length (now marks)) × (from ≤ count) ⌝ }
     ensures { λ r. ⌜ r ≡ any (eqb mark) (drop from (take count (now (marks .entry)))) ⌝ }
 {
+    let mut found = false;
     let mut at = from;
     while at < count {
-        let other = marks[at];
+        found = found | (mark == marks[at]);
         at += 1;
-        if mark == other {
-            return true;
-        }
     }
-    false
+    found
 }
 
-// 41: equal IDs. Equal IDs have equal marks, so most IDs are told apart by a number.
+// 41: equal IDs. They have equal marks, so only IDs whose marks are equal are compared byte by byte.
 fn names_repeat(trades: [Trade; 64], count: usize) -> bool
     requires { ⌜ count ≤ tradesMax ⌝ }
     ensures { λ r. ⌜ r ≡ namesRepeat (map tradeName (take count trades)) ⌝ }
