@@ -1,3 +1,4 @@
 pub mod Names
+pub mod Marked
 pub mod Rules
 pub mod Opened

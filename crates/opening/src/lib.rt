@@ -7,7 +7,7 @@ ghost use mathlib.Core.Path.{_≡_};
 ghost use mathlib.Core.List.{map};
 ghost use mathlib.Core.Bool.{_&&_, _||_};
 ghost use Prim.Native.Nat.{_≤_};
-ghost use lib.ListN.{take, drop};
+ghost use lib.ListN.{length, take, drop};
 ghost use lib.Dec.{eqb};
 ghost use Rattle.lists.specs.Lists.{any, all, same};
 ghost use Rattle.calendar.specs.Calendar.{isDate};
@@ -27,6 +27,7 @@ ghost use Rattle.book.specs.Opening.{
   atPar,
   opened,
 };
+ghost use Rattle.opening.specs.Marks.{markOf};
 
 // Eleven digits: message IDs, and par in cents.
 const ELEVEN_DIGITS_MAX: u64 = 99999999999;
@@ -55,7 +56,16 @@ const CUSIP_LENGTH: usize = 9;
 
 const EQUALS: u8 = b'=';
 
+// Over the ten digits, and small enough that the mark of 16 bytes fits.
+const MARK_BASE: u64 = 13;
+
 fn wide(x: u32) -> u64
+    ensures { λ r. ⌜ r ≡ x ⌝ }
+{
+    x as u64
+}
+
+fn wide_byte(x: u8) -> u64
     ensures { λ r. ⌜ r ≡ x ⌝ }
 {
     x as u64
@@ -220,17 +230,72 @@ fn named_from(trades: [Trade; 64], count: usize, from: usize, t: Trade) -> bool
     false
 }
 
-// 41: equal IDs.
+// The mark of an ID: its bytes as the digits of one number.
+fn mark(id: &[u8]) -> u64
+    requires { ⌜ length (now id) ≤ 16 ⌝ }
+    ensures { λ r. ⌜ r ≡ markOf (now (id .entry)) ⌝ }
+{
+    let mut m: u64 = 0;
+    let mut i: usize = 0;
+    while i < id.len() {
+        m = m * MARK_BASE + wide_byte(id[i]);
+        i += 1;
+    }
+    m
+}
+
+fn mark_of(t: Trade) -> u64
+    ensures { λ r. ⌜ r ≡ markOf (tradeName t) ⌝ }
+{
+    let id = t.id;
+    let n = name_length(t);
+    mark(&id[..n])
+}
+
+// The marks of the first trades, each in its trade's place.
+fn marks_of(trades: [Trade; 64], count: usize) -> [u64; 64]
+    requires { ⌜ count ≤ tradesMax ⌝ }
+    ensures { λ r. ⌜ take count r ≡ map markOf (map tradeName (take count trades)) ⌝ }
+{
+    let mut marks = [0u64; 64];
+    let mut i: usize = 0;
+    while i < count {
+        let t = trades[i];
+        marks[i] = mark_of(t);
+        i += 1;
+    }
+    marks
+}
+
+// Whether a mark stands among those from some place on, without a branch.
+fn marked_from(marks: &[u64], count: usize, from: usize, mark: u64) -> bool
+    requires { ⌜ (count ≤ length (now marks)) × (from ≤ count) ⌝ }
+    ensures { λ r. ⌜ r ≡ any (eqb mark) (drop from (take count (now (marks .entry)))) ⌝ }
+{
+    let mut found = false;
+    let mut at = from;
+    while at < count {
+        found = found | (mark == marks[at]);
+        at += 1;
+    }
+    found
+}
+
+// 41: equal IDs. They have equal marks, so only IDs whose marks are equal are compared byte by byte.
 fn names_repeat(trades: [Trade; 64], count: usize) -> bool
     requires { ⌜ count ≤ tradesMax ⌝ }
     ensures { λ r. ⌜ r ≡ namesRepeat (map tradeName (take count trades)) ⌝ }
 {
+    let marks = marks_of(trades, count);
     let mut i: usize = 0;
     while i < count {
         let t = trades[i];
+        let m = marks[i];
         i += 1;
-        if named_from(trades, count, i, t) {
-            return true;
+        if marked_from(&marks, count, i, m) {
+            if named_from(trades, count, i, t) {
+                return true;
+            }
         }
     }
     false
