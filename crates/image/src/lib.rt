@@ -239,3 +239,11 @@ pub fn write_book(words: &mut [u64], book: Book)
     put_trades(&mut *words, trades);
     put_words(&mut *words, REST, &rest);
 }
+
+// Writes all of a book but its trades, in its place: after a refusal the trades stand as they are. A slice that is too short for it stays as it is.
+pub fn write_rest(words: &mut [u64], book: Book)
+    ensures { λ _. ⌜ now (words .exit) ≡ pasted (now (words .entry)) tradesWords (restImage book) ⌝ }
+{
+    let rest = rest_words(book);
+    put_words(&mut *words, REST, &rest);
+}
