@@ -16,8 +16,8 @@ use Rattle.book.specs.Reasons.{isAccepted}
 use Rattle.book.specs.Checks.{Call, answerOf}
 use Rattle.book.specs.Step.{isSilent, bookAfter, tableAfter, outputAfter, outputFor, callWith}
 use Rattle.answer_numbers.specs.Said.{saidOf}
-use Rattle.image.specs.Images.{isImage, bookIn, imageOf}
-use Rattle.image.proofs.Kept.{image-again}
+use Rattle.image.specs.Images.{tradesWords, isImage, bookIn, restImage, imageOf}
+use Rattle.image.proofs.Kept.{image-again, rest-alone}
 use Rattle.engine.specs.declared.Stepped.{Stepped}
 use Rattle.engine.proofs.Answering.{unsound-answer}
 use Rattle.padded.specs.Calls.{Framed}
@@ -32,10 +32,18 @@ module _ (ws said : List ℕ) (r : Stepped) (silent : Bool) (silent-is : silent 
       let e : isSilent (r .answer) ≡ true = sym silent-is ∙ t in
       record { image = rw e; answer = said-is ∙ ap (pasted said 0) two-is }
 
-  pub finish-written : silent ≡ false → (ws′ : List ℕ) → ws′ ≡ pasted ws 0 (imageOf (r .book)) → Finishes ws said r ws′ said′
-  finish-written n ws′ w =
-      let e : isSilent (r .answer) ≡ false = sym silent-is ∙ n in
-      record { image = rw e w; answer = said-is ∙ ap (pasted said 0) two-is }
+  module _ (n : silent ≡ false) (accepted : Bool) (accepted-is : accepted ≡ isAccepted (r .answer)) (ws′ : List ℕ) where
+    pub finish-accepted : accepted ≡ true → ws′ ≡ pasted ws 0 (imageOf (r .book)) → Finishes ws said r ws′ said′
+    finish-accepted t w =
+        let e : isSilent (r .answer) ≡ false = sym silent-is ∙ n in
+        let f : isAccepted (r .answer) ≡ true = sym accepted-is ∙ t in
+        record { image = rw (e, f) w; answer = said-is ∙ ap (pasted said 0) two-is }
+
+    pub finish-refused : accepted ≡ false → ws′ ≡ pasted ws tradesWords (restImage (r .book)) → Finishes ws said r ws′ said′
+    finish-refused t w =
+        let e : isSilent (r .answer) ≡ false = sym silent-is ∙ n in
+        let f : isAccepted (r .answer) ≡ false = sym accepted-is ∙ t in
+        record { image = rw (e, f) w; answer = said-is ∙ ap (pasted said 0) two-is }
 
 -- ---- the call
 silent-refuses : (a : Answer) → isSilent a ≡ true → isAccepted a ≡ false
@@ -47,19 +55,27 @@ silent-book : (c : Call) → isSilent (answerOf c) ≡ true → bookAfter c ≡ 
 unfolding bookAfter
 silent-book c e = rw (e, silent-refuses (answerOf c) e)
 
--- a silent refusal moves nothing, so the words of the book after it are the words as they are
-either : (ws : List ℕ) (b : Book) (silent : Bool) → (silent ≡ true → imageOf b ≡ ws) → cond silent ws (pasted ws 0 (imageOf b)) ≡ pasted ws 0 (imageOf b)
-either ws b true e = sym (paste-whole ws ws refl) ∙ ap (pasted ws 0) (sym (e refl))
-either ws b false e = refl
+refused-trades : (c : Call) → isAccepted (answerOf c) ≡ false → bookAfter c .values .trades ≡ c .book .values .trades
+unfolding bookAfter
+refused-trades c e = rw e
+
+-- a silent refusal moves nothing, and any other no trade, so the words that are not written are those of the book after it as they are
+written : (ws : List ℕ) (b : Book) (silent accepted : Bool) → (silent ≡ true → imageOf b ≡ ws)
+    → (accepted ≡ false → pasted ws tradesWords (restImage b) ≡ pasted ws 0 (imageOf b))
+    → cond silent ws (cond accepted (pasted ws 0 (imageOf b)) (pasted ws tradesWords (restImage b))) ≡ pasted ws 0 (imageOf b)
+written ws b true accepted e f = sym (paste-whole ws ws refl) ∙ ap (pasted ws 0) (sym (e refl))
+written ws b false true e f = refl
+written ws b false false e f = f refl
 
 module _ (b : Book) (ws : List ℕ) (pools : List Pool) (body time out said : List ℕ) (r : Stepped) (ws′ : List ℕ) (pools′ : List Pool) (out′ said′ : List ℕ) (framed : Framed b pools body time out r pools′ out′) (ended : Finishes ws said r ws′ said′) where
   abbrev c : Call
   c = callWith b pools body out
 
-  steps-to : imageOf b ≡ ws → StepsTo b ws pools body time out said ws′ pools′ out′ said′
-  steps-to e =
+  steps-to : imageOf b ≡ ws → ((k : Book) → k .values .trades ≡ b .values .trades → pasted ws tradesWords (restImage k) ≡ pasted ws 0 (imageOf k))
+      → StepsTo b ws pools body time out said ws′ pools′ out′ said′
+  steps-to e alone =
       record {
-        image = ended .image ∙ either ws (r .book) (isSilent (r .answer)) kept ∙ ap (λ (k : Book). pasted ws 0 (imageOf k)) (framed .book);
+        image = ended .image ∙ written ws (r .book) (isSilent (r .answer)) (isAccepted (r .answer)) kept rest ∙ ap (λ (k : Book). pasted ws 0 (imageOf k)) (framed .book);
         table = framed .table;
         output = framed .output;
         answer = ended .answer ∙ ap (λ (a : Answer). pasted said 0 (saidOf a)) (framed .answer);
@@ -67,6 +83,9 @@ module _ (b : Book) (ws : List ℕ) (pools : List Pool) (body time out said : Li
     where
       kept : isSilent (r .answer) ≡ true → imageOf (r .book) ≡ ws
       kept s = ap imageOf (framed .book ∙ silent-book c (sym (ap isSilent (framed .answer)) ∙ s)) ∙ e
+
+      rest : isAccepted (r .answer) ≡ false → pasted ws tradesWords (restImage (r .book)) ≡ pasted ws 0 (imageOf (r .book))
+      rest n = alone (r .book) (ap (λ (k : Book). k .values .trades) (framed .book) ∙ refused-trades c (sym (ap isAccepted (framed .answer)) ∙ n))
 
   table-stays : answerOf c ≡ Rejected Unsound → tableAfter c ≡ pools
   unfolding tableAfter
@@ -80,7 +99,7 @@ module _ (b : Book) (ws : List ℕ) (pools : List Pool) (body time out said : Li
   refused-with e =
       let a : r .answer ≡ Rejected Unsound = framed .answer ∙ e in
       record {
-        image = ended .image ∙ ap (λ (k : Answer). cond (isSilent k) ws (pasted ws 0 (imageOf (r .book)))) a;
+        image = ended .image ∙ ap (λ (k : Answer). cond (isSilent k) ws (cond (isAccepted k) (pasted ws 0 (imageOf (r .book))) (pasted ws tradesWords (restImage (r .book))))) a;
         table = framed .table ∙ table-stays e;
         output = framed .output ∙ output-stays e;
         answer = ended .answer ∙ ap (λ (k : Answer). pasted said 0 (saidOf k)) a;
@@ -98,6 +117,9 @@ called ws pools body time out said b six r ws′ pools′ out′ said′ reads s
       steps = λ t.
           let eb : b ≡ bookIn ws = reads .book t in
           let et : six ≡ time = sixes (callable-six ws time t) in
-          rw (eb, et) at (steps-to b ws pools body six out said r ws′ pools′ out′ said′ framed ended (ap imageOf eb ∙ image-again ws (image-known ws time t)));
+          let known : isImage ws ≡ true = image-known ws time t in
+          let alone : (k : Book) → k .values .trades ≡ b .values .trades → pasted ws tradesWords (restImage k) ≡ pasted ws 0 (imageOf k) =
+          λ k q. rest-alone ws k known (q ∙ ap (λ (x : Book). x .values .trades) eb) in
+          rw (eb, et) at (steps-to b ws pools body six out said r ws′ pools′ out′ said′ framed ended (ap imageOf eb ∙ image-again ws known) alone);
       refuses = λ n. refused-with b ws pools body six out said r ws′ pools′ out′ said′ framed ended (unsound-answer (callWith b pools body out) (values-unsound b pools (reads .none n)));
     }

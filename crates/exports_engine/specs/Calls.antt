@@ -10,10 +10,11 @@ use Rattle.book.specs.declared.Book.{Book}
 use Rattle.book.specs.declared.Pool.{Pool}
 use Rattle.book.specs.declared.Answer.the-variants.{Rejected}
 use Rattle.book.specs.declared.Reason.the-variants.{Unsound}
+use Rattle.book.specs.Reasons.{isAccepted}
 use Rattle.book.specs.Checks.{answerOf}
 use Rattle.book.specs.Step.{isSilent, bookAfter, tableAfter, outputAfter, callWith}
 use Rattle.answer_numbers.specs.Said.{saidOf}
-use Rattle.image.specs.Images.{isImage, bookIn, imageOf}
+use Rattle.image.specs.Images.{tradesWords, isImage, bookIn, restImage, imageOf}
 use Rattle.engine.specs.declared.Stepped.{Stepped}
 
 abbrev pub timeWidth : ℕ
@@ -23,9 +24,9 @@ timeWidth = 6
 unfoldable pub callable : List ℕ → List ℕ → Bool
 callable ws time = isImage ws && eqb (length time) timeWidth
 
--- the end of a call: the answer in two numbers, and the words of the book after it, which stay after a silent refusal
+-- the end of a call: the answer in two numbers, and of the words of the book after it what can have moved: nothing after a silent refusal, and all but the trades' after any other
 pub record Finishes (ws said : List ℕ) (r : Stepped) (ws′ said′ : List ℕ) : Type 0 where
-  pub image : ws′ ≡ cond (isSilent (r .answer)) ws (pasted ws 0 (imageOf (r .book)))
+  pub image : ws′ ≡ cond (isSilent (r .answer)) ws (cond (isAccepted (r .answer)) (pasted ws 0 (imageOf (r .book))) (pasted ws tradesWords (restImage (r .book))))
   pub answer : said′ ≡ pasted said 0 (saidOf (r .answer))
 
 -- what a frame call on a book leaves of words, a table, an output and what is said

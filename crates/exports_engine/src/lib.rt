@@ -1,4 +1,5 @@
 // Lends the engine to Rust and C: a book is kept as words, a table as a lent slice of pool records, and each exported function writes into lent slices.
+use book::Answer;
 use book::Book;
 use book::Pool;
 use book::Values;
@@ -9,6 +10,7 @@ ghost use mathlib.Core.Path.{_≡_};
 ghost use mathlib.Core.Bool.{false};
 ghost use lib.ListN.{length};
 ghost use Rattle.lists.specs.Lists.{pasted};
+ghost use Rattle.book.specs.Reasons.{isAccepted};
 ghost use Rattle.book.specs.Opening.{valuesFine};
 ghost use Rattle.image.specs.Images.{isImage};
 ghost use Rattle.exports_engine.specs.Reading.{Reads, ReadsValues};
@@ -84,7 +86,17 @@ fn six_of(time: &[u8]) -> [u8; 6]
     [time[0], time[1], time[2], time[3], time[4], time[5]]
 }
 
-// Writes the answer in two numbers, and the book after the call, but not after a silent refusal, which moves nothing.
+fn is_accepted(answer: Answer) -> bool
+    ensures { λ r. ⌜ r ≡ isAccepted answer ⌝ }
+{
+    match answer {
+        Answer::Accepted(_) => true,
+        Answer::Rejected(_) => false,
+        Answer::Dked(_) => false,
+    }
+}
+
+// Writes the answer in two numbers, and of the book after the call what can have moved: nothing after a silent refusal, and all but the trades after any other.
 fn finish(image: &mut [u64], said: &mut [u64], stepped: Stepped)
     ensures { λ _. ⌜ Finishes (now (image .entry)) (now (said .entry)) stepped (now (image .exit)) (now (said .exit)) ⌝ }
 {
@@ -95,7 +107,11 @@ fn finish(image: &mut [u64], said: &mut [u64], stepped: Stepped)
         return;
     }
     let after = stepped.book;
-    image::write_book(&mut *image, after);
+    if is_accepted(answer) {
+        image::write_book(&mut *image, after);
+        return;
+    }
+    image::write_rest(&mut *image, after);
 }
 
 // The values that words say; where they say none, values that are refused.

@@ -2,14 +2,14 @@
 use mathlib.Core.Path.{_≡_, refl, sym, ap, _∙_}
 use mathlib.Core.List.{List, [], _∷_, _++_, flatMap, append-assoc, append-nil}
 use mathlib.Core.Bool.{true}
-use Prim.Native.Nat.{ℕ, suc, _+_, _*_, _<_}
+use Prim.Native.Nat.{ℕ, suc, _+_, _*_, _≤_, _<_}
 use native.Mathlib.Omega.{arith}
 use lib.ListN.{length, getD, take}
 use lib.Seq.{take-suc, take-all}
 use Rattle.lists.specs.Lists.{within, pasted}
 use Rattle.lists.proofs.Parts.{in-within}
 use Rattle.lists.proofs.Pasting.{paste-in}
-use Rattle.acknowledgment.proofs.Building.{Built, first, part, filled}
+use Rattle.acknowledgment.proofs.Building.{Built, first, part}
 use Rattle.book.specs.declared.Book.{Book}
 use Rattle.image.specs.Images.{tradesWords, restWords, bookWords, tradeImage, flagOf, lastOf, restImage, imageOf}
 
@@ -65,10 +65,10 @@ pub rest-made : (b : Book) (flag last : ℕ) → flag ≡ flagOf (b .line .recei
 unfolding restImage
 rest-made b flag last e f = rw (e, f)
 
--- the trades' words and then those of the rest fill the image
-pub image-made : (b : Book) (o₀ o o′ rest : List ℕ) → length o₀ ≡ bookWords
+-- the trades' words and then those of the rest are the image, where there is room for it
+pub image-written : (b : Book) (o₀ o o′ rest : List ℕ) → bookWords ≤ length o₀
     → o ≡ pasted o₀ 0 (flatMap tradeImage (b .values .trades)) → length (flatMap tradeImage (b .values .trades)) ≡ tradesWords
-    → rest ≡ restImage b → length rest ≡ restWords → o′ ≡ pasted o 2688 rest → o′ ≡ imageOf b
+    → rest ≡ restImage b → length rest ≡ restWords → o′ ≡ pasted o tradesWords rest → o′ ≡ pasted o₀ 0 (imageOf b)
 unfolding imageOf
-image-made b o₀ o o′ rest l e n q m f =
-    filled (part rest (first e refl n) f m) (sym l) ∙ ap (λ (r : List ℕ). flatMap tradeImage (b .values .trades) ++ r) q
+image-written b o₀ o o′ rest h e n q m f =
+    part rest (first e refl n) f m .is h ∙ ap (λ (r : List ℕ). pasted o₀ 0 (flatMap tradeImage (b .values .trades) ++ r)) q

@@ -1,19 +1,20 @@
--- An image says all that a book holds: a book's words are an image and say that book, and the words of the book that an image says are that image.
+-- An image says all that a book holds: a book's words are an image and say that book, and the words of the book that an image says are that image. In an image a book with the same trades is written by its rest alone.
 use mathlib.Core.Path.{_≡_, refl, sym, ap, _∙_}
 use mathlib.Core.List.{List, [], _∷_, _++_, map, flatMap, append-assoc, List·Memᴰ, List·Memᴰ·head, List·Memᴰ·tail}
-use mathlib.Core.Bool.{true, _&&_}
-use Prim.Native.Nat.{ℕ, zero, suc, _+_, _*_, _≤_}
+use mathlib.Core.Bool.{Bool, true, false, _&&_}
+use Prim.Native.Nat.{ℕ, zero, suc, _+_, _*_, _-_, _≤_}
 use native.Mathlib.Omega.{arith}
-use lib.ListN.{length, take, drop, length-append}
-use lib.Seq.{take-at, drop-at, take-all}
-use lib.Dec.{eqb}
-use borrow.Author.Tests.{eq-eqb}
-use Rattle.lists.specs.Lists.{part, tab, all}
-use Rattle.lists.proofs.Parts.{part-zero, length-part}
+use lib.ListN.{length, take, drop, length-append, take-append-drop}
+use lib.Seq.{take-at, drop-at, take-all, length-take-le}
+use lib.Dec.{eqb, leb}
+use borrow.Author.Tests.{eq-eqb, leb-true, leb-false}
+use Rattle.lists.specs.Lists.{within, part, pasted, tab, all}
+use Rattle.lists.proofs.Parts.{part-zero, length-part, in-within, out-short}
+use Rattle.lists.proofs.Pasting.{paste-in, paste-out, paste-more}
 use Rattle.lists.proofs.Tests.{both}
 use Rattle.book.specs.declared.Trade.{Trade}
 use Rattle.book.specs.declared.Book.{Book}
-use Rattle.image.specs.Images.{bookWords, tradeImage, restImage, imageOf, rowAt, rowsOf, restOf, tradeFits, restFits, isImage, tradeIn, bookFrom, bookIn}
+use Rattle.image.specs.Images.{tradesWords, bookWords, tradeImage, restImage, imageOf, rowAt, rowsOf, restOf, tradeFits, restFits, isImage, tradeIn, bookFrom, bookIn}
 use Rattle.image.specs.Formed.{FormedTrade, Formed}
 use Rattle.image.proofs.Cutting.{part-next, part-whole}
 use Rattle.image.proofs.Told.{image-length, image-rest}
@@ -66,6 +67,34 @@ image-again ws e =
     ∙ ap (λ (x : List ℕ). x ++ restImage (bookFrom ts (restOf ws))) (join-trades ws l)
     ∙ ap (λ (x : List ℕ). part ws 0 2688 ++ x) (rest-again (restOf ws) (rest-long ws l) ts (image-rest ws e))
     ∙ join-all ws l
+
+-- ---- words that hold some trades already
+-- a list that stands at the front is written by writing what comes after it
+paste-after : (ws xs ys : List ℕ) (n : ℕ) → length xs ≡ n → n ≤ length ws → take n ws ≡ xs → pasted ws n ys ≡ pasted ws 0 (xs ++ ys)
+paste-after ws xs ys n l h e = go (leb (length ys) (length ws - n)) refl
+  where
+    front : pasted ws 0 xs ≡ ws
+    front =
+        let w : within ws 0 (length xs) ≡ true = in-within ws 0 (length xs) (omega arith) (omega arith) in
+        let m : 0 + length xs ≡ n = omega arith in
+        paste-in ws 0 xs w ∙ ap (λ (k : ℕ). xs ++ drop k ws) m ∙ ap (λ (k : List ℕ). k ++ drop n ws) (sym e) ∙ take-append-drop n ws
+
+    go : (fits : Bool) → leb (length ys) (length ws - n) ≡ fits → pasted ws n ys ≡ pasted ws 0 (xs ++ ys)
+    go true f =
+        let g = leb-true (length ys) (length ws - n) f in
+        ap (λ (k : List ℕ). pasted k n ys) (sym front) ∙ paste-more ws 0 xs ys n (omega arith) (omega arith)
+    go false f =
+        let g = leb-false (length ys) (length ws - n) f in
+        sym (paste-out ws n ys (out-short ws n (length ys) g)) ∙ paste-out ws 0 (xs ++ ys) (out-short ws 0 (length (xs ++ ys)) (omega (arith, length-append xs ys)))
+
+-- in an image a book with the same trades is written by writing the rest
+pub rest-alone : (ws : List ℕ) (b : Book) → isImage ws ≡ true → b .values .trades ≡ bookIn ws .values .trades
+    → pasted ws tradesWords (restImage b) ≡ pasted ws 0 (imageOf b)
+unfolding bookIn bookFrom imageOf part
+rest-alone ws b e q =
+    let l = image-length ws e in
+    let t : flatMap tradeImage (b .values .trades) ≡ take 2688 ws = ap (flatMap tradeImage) q ∙ join-trades ws l in
+    paste-after ws (flatMap tradeImage (b .values .trades)) (restImage b) 2688 (ap length t ∙ length-take-le 2688 ws (omega arith)) (omega arith) (sym t)
 
 -- ---- from a book to words and back
 module _ {A : Type 0} (f : A → List ℕ) (r : List ℕ) where

@@ -5,3 +5,4 @@ pub mod TradeBack
 pub mod RestBack
 pub mod Kept
 pub mod Joining
+pub mod Sized

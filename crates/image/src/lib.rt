@@ -226,23 +226,24 @@ fn rest_words(book: Book) -> [u64; REST_WORDS]
     rest
 }
 
-// The words of a book.
-fn image_of(book: Book) -> [u64; BOOK_WORDS]
-    ensures { λ r. ⌜ r ≡ imageOf book ⌝ }
-{
-    let values = book.values;
-    let trades = values.trades;
-    let rest = rest_words(book);
-    let mut image = [0u64; BOOK_WORDS];
-    put_trades(&mut image, trades);
-    put_words(&mut image, REST, &rest);
-    image
-}
-
 // Writes a book from the front. A slice that is too short for it stays as it is.
 pub fn write_book(words: &mut [u64], book: Book)
     ensures { λ _. ⌜ now (words .exit) ≡ pasted (now (words .entry)) 0 (imageOf book) ⌝ }
 {
-    let image = image_of(book);
-    put_words(words, 0, &image);
+    if words.len() < BOOK_WORDS {
+        return;
+    }
+    let values = book.values;
+    let trades = values.trades;
+    let rest = rest_words(book);
+    put_trades(&mut *words, trades);
+    put_words(&mut *words, REST, &rest);
+}
+
+// Writes all of a book but its trades, in its place: after a refusal the trades stand as they are. A slice that is too short for it stays as it is.
+pub fn write_rest(words: &mut [u64], book: Book)
+    ensures { λ _. ⌜ now (words .exit) ≡ pasted (now (words .entry)) tradesWords (restImage book) ⌝ }
+{
+    let rest = rest_words(book);
+    put_words(&mut *words, REST, &rest);
 }

@@ -3,3 +3,4 @@ pub mod Fits
 pub mod Rows
 pub mod Rest
 pub mod Whole
+pub mod Bits

@@ -10,7 +10,7 @@ use sequence::Received;
 ghost use mathlib.Core.Path.{_≡_};
 ghost use mathlib.Core.List.{map};
 ghost use mathlib.Core.Bool.{true};
-ghost use Prim.Native.Nat.{ℕ, _+_, _≤_};
+ghost use Prim.Native.Nat.{ℕ, _+_, _^_, _≤_};
 ghost use lib.ListN.{length};
 ghost use lib.Dec.{ltb};
 ghost use Rattle.lists.specs.Lists.{part, all};
@@ -49,20 +49,34 @@ pub struct Read {
     pub book: Book,
 }
 
-// Whether the n words from at are all below a limit.
-fn all_below(words: &[u64], at: usize, n: usize, limit: u64) -> bool
+// The n words from at, joined bit by bit: below a power of two exactly where each of them is. So a range of words asks for one test.
+fn joined(words: &[u64], at: usize, n: usize) -> u64
     requires { ⌜ at + n ≤ length (now words) ⌝ }
-    ensures { λ r. ⌜ r ≡ all (λ (w : ℕ). ltb w limit) (part (now (words .entry)) at n) ⌝ }
+    ensures { λ r. ⌜ ((k : ℕ) → ltb r (2 ^ k) ≡ all (λ (w : ℕ). ltb w (2 ^ k)) (part (now (words .entry)) at n)) ⌝ }
 {
+    let mut bits: u64 = 0;
     let mut i: usize = 0;
     while i < n {
-        let w = words[at + i];
+        bits = bits | words[at + i];
         i += 1;
-        if limit <= w {
-            return false;
-        }
     }
-    true
+    bits
+}
+
+// Whether the n words from at are all bytes.
+fn all_bytes(words: &[u64], at: usize, n: usize) -> bool
+    requires { ⌜ at + n ≤ length (now words) ⌝ }
+    ensures { λ r. ⌜ r ≡ all isByte (part (now (words .entry)) at n) ⌝ }
+{
+    joined(words, at, n) < BYTE_END
+}
+
+// Whether the n words from at are all numbers of 32 bits.
+fn all_numbers(words: &[u64], at: usize, n: usize) -> bool
+    requires { ⌜ at + n ≤ length (now words) ⌝ }
+    ensures { λ r. ⌜ r ≡ all isNumber (part (now (words .entry)) at n) ⌝ }
+{
+    joined(words, at, n) < NUMBER_END
 }
 
 // Fills out with the words from at, which are bytes.
@@ -94,8 +108,7 @@ fn trade_fits(row: &[u64]) -> bool
     requires { ⌜ length (now row) ≡ tradeWords ⌝ }
     ensures { λ r. ⌜ r ≡ tradeFits (now (row .entry)) ⌝ }
 {
-    all_below(row, image::ID, ID_WIDTH, BYTE_END)
-        & all_below(row, image::SELLER, NAMES_WIDTH, BYTE_END)
+    all_bytes(row, image::ID, ID_WIDTH) & all_bytes(row, image::SELLER, NAMES_WIDTH)
 }
 
 // The trade of a trade's words.
@@ -200,8 +213,8 @@ fn rest_fits(rest: &[u64]) -> bool
     ensures { λ r. ⌜ r ≡ restFits (now (rest .entry)) ⌝ }
 {
     let received = received_fits(rest[image::RECEIVED], rest[image::NUMBER]);
-    let dates = all_below(rest, image::HOLIDAYS, book::HOLIDAYS_MAX, NUMBER_END);
-    let accounts = all_below(rest, image::SUBSCRIBER, ACCOUNTS_WIDTH, BYTE_END);
+    let dates = all_numbers(rest, image::HOLIDAYS, book::HOLIDAYS_MAX);
+    let accounts = all_bytes(rest, image::SUBSCRIBER, ACCOUNTS_WIDTH);
     dates
         & (accounts
             & ((rest[image::OUTBOUND] < NUMBER_END)

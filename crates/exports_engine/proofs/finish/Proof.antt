@@ -1,5 +1,5 @@
--- The two numbers are those of the answer, and the words those of the book after it.
-use Rattle.exports_engine.proofs.Calling.{finish-silent, finish-written}
+-- The two numbers are those of the answer, and the words written are what the answer lets move of the book after it.
+use Rattle.exports_engine.proofs.Calling.{finish-silent, finish-accepted, finish-refused}
 use borrow.Author.Needs.{needs}
 use Rattle.exports_engine.proofs.finish.Statement.{statement}
 use Rattle.exports_engine.proofs.finish.Tie as tie
@@ -20,7 +20,12 @@ same-length : tie.Need-same-length
 same-length c = search needs
 
 returns : tie.Need-returns
-returns c = finish-silent (c .before .before .before .before .before .before .before .before .before .before .args .image .now) (c .before .before .before .before .before .before .before .before .before .before .args .said .now) (c .before .before .before .before .before .before .before .before .before .before .args .stepped) _ (c .before .is-silent .ensures) _ _ (c .before .before .before .before .before .before .before .said-of .ensures) (c .before .before .before .before .put-numbers .ensures) (c .if1 .taken)
+returns c =
+    let a = c .before .before .before .before .before .before .before .before .before .before .args in
+    finish-silent (a .image .now) (a .said .now) (a .stepped) _ (c .before .is-silent .ensures) _ _ (c .before .before .before .before .before .before .before .said-of .ensures) (c .before .before .before .before .put-numbers .ensures) (c .if1 .taken)
+
+is-accepted-requires : tie.Need-is-accepted-requires
+is-accepted-requires c κs = search needs
 
 write-book-requires : tie.Need-write-book-requires
 write-book-requires c κs = search needs
@@ -32,7 +37,23 @@ same-length-3 : tie.Need-same-length-3
 same-length-3 c = search needs
 
 returns-2 : tie.Need-returns-2
-returns-2 c = finish-written (c .before .before .before .before .before .before .before .before .before .before .before .before .before .before .before .args .image .now) (c .before .before .before .before .before .before .before .before .before .before .before .before .before .before .before .args .said .now) (c .before .before .before .before .before .before .before .before .before .before .before .before .before .before .before .args .stepped) _ (c .before .before .before .before .before .before .is-silent .ensures) _ _ (c .before .before .before .before .before .before .before .before .before .before .before .before .said-of .ensures) (c .before .before .before .before .before .before .before .before .before .put-numbers .ensures) (c .before .before .before .before .before .if1 .left) _ (c .before .before .write-book .ensures)
+returns-2 c =
+    let a = c .before .before .before .before .before .before .before .before .before .before .before .before .before .before .before .before .before .args in
+    finish-accepted (a .image .now) (a .said .now) (a .stepped) _ (c .before .before .before .before .before .before .before .before .is-silent .ensures) _ _ (c .before .before .before .before .before .before .before .before .before .before .before .before .before .before .said-of .ensures) (c .before .before .before .before .before .before .before .before .before .before .before .put-numbers .ensures) (c .before .before .before .before .before .before .before .if1 .left) _ (c .before .before .before .before .before .is-accepted .ensures) _ (c .before .before .before .before .if2 .taken) (c .before .before .write-book .ensures)
+
+write-rest-requires : tie.Need-write-rest-requires
+write-rest-requires c κs = search needs
+
+same-length-4 : tie.Need-same-length-4
+same-length-4 c = search needs
+
+same-length-5 : tie.Need-same-length-5
+same-length-5 c = search needs
+
+returns-3 : tie.Need-returns-3
+returns-3 c =
+    let a = c .before .before .before .before .before .before .before .before .before .before .before .before .before .before .before .before .before .args in
+    finish-refused (a .image .now) (a .said .now) (a .stepped) _ (c .before .before .before .before .before .before .before .before .is-silent .ensures) _ _ (c .before .before .before .before .before .before .before .before .before .before .before .before .before .before .said-of .ensures) (c .before .before .before .before .before .before .before .before .before .before .before .put-numbers .ensures) (c .before .before .before .before .before .before .before .if1 .left) _ (c .before .before .before .before .before .is-accepted .ensures) _ (c .before .before .before .before .if2 .left) (c .before .before .write-rest .ensures)
 
 pub finish-spec : {M : Type 1} → statement M
 finish-spec =
@@ -44,7 +65,12 @@ finish-spec =
     is-silent-requires
     same-length
     returns
+    is-accepted-requires
     write-book-requires
     same-length-2
     same-length-3
-    returns-2)
+    returns-2
+    write-rest-requires
+    same-length-4
+    same-length-5
+    returns-3)
