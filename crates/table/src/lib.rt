@@ -64,6 +64,36 @@ pub fn put_record(numbers: &mut [[u64; 6]], keys: &mut [[u8; 22]], i: usize, p: 
     keys[i] = key;
 }
 
+// A row of bytes, taken byte by byte: as a whole it would be copied in two parts that overlap, and wait for them.
+fn bytes_of(key: [u8; 22]) -> [u8; 22]
+    ensures { λ r. ⌜ r ≡ key ⌝ }
+{
+    [
+        key[0],
+        key[1],
+        key[2],
+        key[3],
+        key[4],
+        key[5],
+        key[6],
+        key[7],
+        key[8],
+        key[9],
+        key[10],
+        key[11],
+        key[12],
+        key[13],
+        key[14],
+        key[15],
+        key[16],
+        key[17],
+        key[18],
+        key[19],
+        key[20],
+        key[21],
+    ]
+}
+
 // Copies a record to another place. One that stays where it is is not copied.
 fn move_record(numbers: &mut [[u64; 6]], keys: &mut [[u8; 22]], from: usize, to: usize)
     requires { ⌜ (length (now keys) ≡ length (now numbers)) × (from < length (now numbers)) × (to < length (now numbers)) ⌝ }
@@ -74,8 +104,9 @@ fn move_record(numbers: &mut [[u64; 6]], keys: &mut [[u8; 22]], from: usize, to:
     }
     let row = numbers[from];
     let key = keys[from];
+    let bytes = bytes_of(key);
     numbers[to] = row;
-    keys[to] = key;
+    keys[to] = bytes;
 }
 
 // Zeros in the places from a up to e.

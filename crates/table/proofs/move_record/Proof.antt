@@ -24,17 +24,20 @@ mul-key c = search needs
 slice-copy-out-key : tie.Need-slice-copy-out-key
 slice-copy-out-key c = search needs
 
+bytes-of-requires : tie.Need-bytes-of-requires
+bytes-of-requires c κs = search needs
+
 mul-row-2 : tie.Need-mul-row-2
 mul-row-2 c = search needs
 
 slice-set-from-row : tie.Need-slice-set-from-row
 slice-set-from-row c = search needs
 
-mul-key-2 : tie.Need-mul-key-2
-mul-key-2 c = search needs
+mul-bytes : tie.Need-mul-bytes
+mul-bytes c = search needs
 
-slice-set-from-key : tie.Need-slice-set-from-key
-slice-set-from-key c = search needs
+slice-set-from-bytes : tie.Need-slice-set-from-bytes
+slice-set-from-bytes c = search needs
 
 same-length : tie.Need-same-length
 same-length c = search needs
@@ -44,8 +47,8 @@ same-length-2 c = search needs
 
 returns-2 : tie.Need-returns-2
 returns-2 c =
-    let a = c .before .before .before .args in
-    table-set (a .numbers .now) (a .keys .now) (a .to) (getD (a .numbers .now) (a .from) []) (getD (a .keys .now) (a .from) []) (omega arith) (omega arith)
+    let a = c .before .before .before .before .args in
+    rw (c .bytes-of .ensures) (table-set (a .numbers .now) (a .keys .now) (a .to) (getD (a .numbers .now) (a .from) []) (getD (a .keys .now) (a .from) []) (omega arith) (omega arith))
 
 pub move-record-spec : {M : Type 1} → statement M
 move-record-spec =
@@ -56,10 +59,11 @@ move-record-spec =
     slice-copy-out-row
     mul-key
     slice-copy-out-key
+    bytes-of-requires
     mul-row-2
     slice-set-from-row
-    mul-key-2
-    slice-set-from-key
+    mul-bytes
+    slice-set-from-bytes
     same-length
     same-length-2
     returns-2)
