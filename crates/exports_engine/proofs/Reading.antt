@@ -1,12 +1,12 @@
 -- A book that words say, and a book that 41 and 42 refuse with any table where they say none.
 use Prim.Native.Nat.{ℕ}
-use mathlib.Core.Path.{_≡_, sym, ap, _∙_}
+use mathlib.Core.Path.{_≡_, ap, _∙_}
 use mathlib.Core.List.{List}
-use mathlib.Core.Bool.{Bool, true, false, true≢false, _&&_}
+use mathlib.Core.Bool.{Bool, true, false, _&&_}
 use lib.ListN.{length}
 use lib.Dec.{eqb}
-use borrow.Author.Tests.{eqb-true, eq-eqb, ne-eqb}
-use Rattle.lists.proofs.Tests.{and-right}
+use borrow.Author.Tests.{eqb-true}
+use Rattle.lists.proofs.Tests.{and-left, and-right}
 use Rattle.book.specs.declared.Values.{Values}
 use Rattle.book.specs.declared.Book.{Book}
 use Rattle.book.specs.declared.Pool.{Pool}
@@ -29,36 +29,18 @@ pub values-refused : (v : Values) (t : List Pool) → valuesFine v ≡ false →
 unfolding openingFine
 values-refused v t e = rw e
 
--- what was read, with the test that was made
-module _ (ws : List ℕ) (b : Book) (fine : Bool) (fine-is : fine ≡ isImage ws) where
-  pub read-known : (fine ≡ true → b ≡ bookIn ws) → fine ≡ true → Reads (isImage ws) ws b
-  read-known read t = record { book = λ _. read t; none = λ n. absurd (true≢false (sym t ∙ fine-is ∙ n)) }
+-- a book that is given where it is known, else one that is refused
+module _ (ws : List ℕ) (b r : Book) where
+  pub reads-given : (known given : Bool) → given ≡ known → (given ≡ true → r ≡ b) × (given ≡ false → valuesFine (r .values) ≡ false) → (given ≡ true → b ≡ bookIn ws) → Reads known ws r
+  reads-given known given q e read = record { book = λ t. e .0 (q ∙ t) ∙ read (q ∙ t); none = λ n. e .1 (q ∙ n) }
 
-  pub read-unknown : valuesFine (b .values) ≡ false → fine ≡ false → Reads (isImage ws) ws b
-  read-unknown e n = record { book = λ t. absurd (true≢false (sym t ∙ sym fine-is ∙ n)); none = λ _. e }
-
-module _ (ws time : List ℕ) (b : Book) where
-  pub start-six : Reads (isImage ws) ws b → length time ≡ timeWidth → Reads (callable ws time) ws b
+  -- with six time bytes
+  pub starts-given : (time : List ℕ) (fine : Bool) → fine ≡ isImage ws
+      → ((fine && eqb (length time) timeWidth) ≡ true → r ≡ b) × ((fine && eqb (length time) timeWidth) ≡ false → valuesFine (r .values) ≡ false) → (fine ≡ true → b ≡ bookIn ws) → Reads (callable ws time) ws r
   unfolding callable
-  start-six r six = go (isImage ws) r
-    where
-      e : eqb (length time) timeWidth ≡ true
-      e = eq-eqb (length time) timeWidth six
-
-      go : (k : Bool) → Reads k ws b → Reads (k && eqb (length time) timeWidth) ws b
-      go true s = rw e s
-      go false s = s
-
-  pub start-none : valuesFine (b .values) ≡ false → (length time ≡ timeWidth → ⊥) → Reads (callable ws time) ws b
-  unfolding callable
-  start-none n other = go (isImage ws)
-    where
-      e : eqb (length time) timeWidth ≡ false
-      e = ne-eqb (length time) timeWidth other
-
-      go : (k : Bool) → Reads (k && eqb (length time) timeWidth) ws b
-      go true = rw e (record { book = λ t. absurd (true≢false (sym t)); none = λ _. n })
-      go false = record { book = λ t. absurd (true≢false (sym t)); none = λ _. n }
+  starts-given time fine q e read =
+      reads-given (isImage ws && eqb (length time) timeWidth) (fine && eqb (length time) timeWidth) (ap (λ (t : Bool). t && eqb (length time) timeWidth) q) e
+      (λ t. read (and-left fine (eqb (length time) timeWidth) t))
 
 pub callable-six : (ws time : List ℕ) → callable ws time ≡ true → length time ≡ timeWidth
 unfolding callable

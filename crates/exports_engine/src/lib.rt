@@ -7,7 +7,7 @@ use engine::Stepped;
 use figures::Figures;
 use opened::Opened;
 ghost use mathlib.Core.Path.{_≡_};
-ghost use mathlib.Core.Bool.{false};
+ghost use mathlib.Core.Bool.{true, false};
 ghost use lib.ListN.{length};
 ghost use Rattle.lists.specs.Lists.{pasted};
 ghost use Rattle.book.specs.Reasons.{isAccepted};
@@ -23,34 +23,16 @@ const TIME_WIDTH: usize = 6;
 // The number of an opening that is refused.
 const REFUSED: u64 = 41;
 
-// A book with more trades than a book has: an opening by its values and every call on it are refused, whatever the table is.
-fn unread(book: Book) -> Book
-    ensures { λ r. ⌜ valuesFine (r .values) ≡ false ⌝ }
+// A book where it is known; else it gets more trades than a book has: an opening by its values and every call on it are refused, whatever the table is.
+fn refused_unless(known: bool, book: Book) -> Book
+    ensures { λ r. ⌜ (known ≡ true → r ≡ book) × (known ≡ false → valuesFine (r .values) ≡ false) ⌝ }
 {
-    let values = book.values;
-    let trades = values.trades;
-    let holidays = values.holidays;
-    let subscriber = values.subscriber;
-    let connection = values.connection;
-    let limits = values.limits;
-    let last = values.last;
-    let outbound = values.outbound;
-    let line = book.line;
-    Book {
-        values: Values {
-            trades: trades,
-            count: book::TRADES_MAX + 1,
-            holidays: holidays,
-            days: 0,
-            subscriber: subscriber,
-            connection: connection,
-            limits: limits,
-            last: last,
-            outbound: outbound,
-        },
-        line: line,
-        live: 0,
+    let mut given = book;
+    if !known {
+        let count = book::TRADES_MAX + 1;
+        given.values.count = count;
     }
+    given
 }
 
 // The book that words say; where they say none, one that is refused.
@@ -59,21 +41,16 @@ fn book_of(image: &[u64]) -> Book
 {
     let read = image_reading::read_book(image);
     let book = read.book;
-    if read.fine {
-        return book;
-    }
-    unread(book)
+    refused_unless(read.fine, book)
 }
 
 // The book that words say, where the time bytes are six; else one that is refused.
 fn start(image: &[u64], time: &[u8]) -> Book
     ensures { λ r. ⌜ Reads (callable (now (image .entry)) (now (time .entry))) (now (image .entry)) r ⌝ }
 {
-    let book = book_of(image);
-    if time.len() == TIME_WIDTH {
-        return book;
-    }
-    unread(book)
+    let read = image_reading::read_book(image);
+    let book = read.book;
+    refused_unless(read.fine & (time.len() == TIME_WIDTH), book)
 }
 
 // The time bytes, where they are six.

@@ -1,5 +1,5 @@
 -- The book that was read, or one that is refused.
-use Rattle.exports_engine.proofs.Reading.{read-known, read-unknown}
+use Rattle.exports_engine.proofs.Reading.{reads-given}
 use borrow.Author.Needs.{needs}
 use Rattle.exports_engine.proofs.book_of.Statement.{statement}
 use Rattle.exports_engine.proofs.book_of.Tie as tie
@@ -7,14 +7,13 @@ use Rattle.exports_engine.proofs.book_of.Tie as tie
 read-book-requires : tie.Need-read-book-requires
 read-book-requires c κs = search needs
 
+refused-unless-requires : tie.Need-refused-unless-requires
+refused-unless-requires c κs = search needs
+
 returns : tie.Need-returns
-returns c = read-known (c .before .before .before .before .args .image .now) _ _ (c .before .before .read-book .ensures .0) (c .before .before .read-book .ensures .1) (c .if1 .taken)
-
-unread-requires : tie.Need-unread-requires
-unread-requires c κs = search needs
-
-returns-2 : tie.Need-returns-2
-returns-2 c = read-unknown (c .before .before .before .before .before .args .image .now) _ _ (c .before .before .before .read-book .ensures .0) (c .unread .ensures) (c .before .if1 .left)
+returns c =
+    let read = c .before .before in
+    reads-given (read .before .before .args .image .now) _ (c .refused-unless .result) _ _ (read .read-book .ensures .0) (c .refused-unless .ensures) (read .read-book .ensures .1)
 
 pub book-of-spec : {M : Type 1} → statement M
-book-of-spec = tie.close (tie.spec read-book-requires returns unread-requires returns-2)
+book-of-spec = tie.close (tie.spec read-book-requires refused-unless-requires returns)
