@@ -1,9 +1,9 @@
-//! Links the proved engine and its tally, which the toolchain writes as static libraries.
+//! Links the proved engine, its tally and the finder of frames, which the toolchain writes as static libraries.
 
 use std::path::Path;
 
 const FOLDER: &str = "../target/staticlib";
-const LIBRARIES: [&str; 2] = ["exports_engine", "exports_tally"];
+const LIBRARIES: [&str; 3] = ["exports_engine", "exports_tally", "exports_line"];
 
 fn main() {
     let folder = Path::new(env!("CARGO_MANIFEST_DIR")).join(FOLDER);

@@ -1,5 +1,5 @@
 /* The proved allocation book for C programs. Link target/staticlib/libexports_engine.a, which
-   `rt staticlib exports_engine` writes, and for the tally libexports_tally.a beside it. */
+   `rt staticlib exports_engine` writes, for the tally libexports_tally.a beside it, and for frames libexports_line.a. */
 #ifndef RHOIKANDRA_H
 #define RHOIKANDRA_H
 
@@ -68,5 +68,9 @@ typedef uint32_t rhoikandra_tally_row[3];
    refusals 10, 11 and 41 to 44 are not counted. A tally that is not four rows, or numbers that no answer says: everything stays. */
 void rhoikandra_tally(rhoikandra_tally_row *tally, size_t tally_len, const uint8_t *body, size_t body_len, const uint64_t *said,
                       size_t said_len);
+
+/* Finds the next frame of a tape from a place on: found gets 1, where its body starts and ends, and the place after it; or four
+   zeros where there is none. Gives how many bytes were dropped: no more than the tape has from that place on. */
+size_t rhoikandra_frame(const uint8_t *tape, size_t tape_len, size_t at, uint64_t *found, size_t found_len);
 
 #endif

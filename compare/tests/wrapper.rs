@@ -35,12 +35,21 @@ fn three_messages_from_c() {
         .arg(top.join("rhoikandra/examples/three_messages.c"))
         .arg(top.join("target/staticlib/libexports_engine.a"))
         .arg(top.join("target/staticlib/libexports_tally.a"))
+        .arg(top.join("target/staticlib/libexports_line.a"))
         .status();
     assert!(built.expect("cargo links by cc too").success());
     let printed = String::from_utf8(Command::new(program).output().unwrap().stdout).unwrap();
     // The example in Rust says what a refusal means, the one in C its number alone.
     let told = three_messages::lines().join("\n").replace(": no live pool under the target", "");
     assert_eq!(printed.trim_end(), told);
+}
+
+/// Noise before, between and after frames is dropped, an unfinished frame too; an empty body is a frame.
+#[test]
+fn frames_of_a_tape() {
+    let tape = b"noise\x02lost\x02ON\x03\x03more\x02\x03\x02unfinished";
+    assert_eq!(rhoikandra::frames(tape).collect::<Vec<_>>(), [&b"ON"[..], b""]);
+    assert_eq!(rhoikandra::frames(b"").next(), None);
 }
 
 #[test]

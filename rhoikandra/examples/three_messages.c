@@ -1,4 +1,4 @@
-/* Opens a book, sends an ON, a CC and a DK, and prints the figures after each, and how the answers were at the end. */
+/* Opens a book, sends an ON, a CC and a DK as frames of a tape, and prints the figures after each, and how the answers were at the end. */
 #include <stdio.h>
 #include <stdlib.h>
 #include <string.h>
@@ -8,6 +8,8 @@
 #define RECORDS 64
 #define HEADER 187
 #define DETAIL 199
+#define START 2
+#define END 3
 
 struct pool {
     const char *number;
@@ -17,6 +19,8 @@ struct pool {
 static uint64_t book[RHOIKANDRA_BOOK_WORDS];
 static rhoikandra_pool pools[RECORDS];
 static rhoikandra_tally_row tally[RHOIKANDRA_TALLY_ROWS];
+static uint8_t tape[4096];
+static size_t taped;
 
 /* A byte takes a word. */
 static void put(size_t at, const char *text) {
@@ -55,14 +59,21 @@ static size_t lay_body(uint8_t *body, const char *kind, int sequence, int millio
     return HEADER + DETAIL * (size_t)count;
 }
 
-static void send(const char *kind, int sequence, int millions, int target, const struct pool *sent, int count) {
-    uint8_t body[HEADER + 250 * DETAIL], out[RHOIKANDRA_OUTPUT_LENGTH];
+/* Puts a message on the tape, as a frame. */
+static void put_frame(const char *kind, int sequence, int millions, int target, const struct pool *sent, int count) {
+    tape[taped++] = START;
+    taped += lay_body(tape + taped, kind, sequence, millions, target, sent, count);
+    tape[taped++] = END;
+}
+
+/* Puts the body of a frame to the book. */
+static void send(const uint8_t *body, size_t length) {
+    uint8_t out[RHOIKANDRA_OUTPUT_LENGTH];
     uint64_t said[2], figures[3];
-    size_t length = lay_body(body, kind, sequence, millions, target, sent, count);
     rhoikandra_step(book, RHOIKANDRA_BOOK_WORDS, pools, RECORDS, body, length, (const uint8_t *)"093000", 6, out, sizeof out, said, 2);
     rhoikandra_tally(tally, RHOIKANDRA_TALLY_ROWS, body, length, said, 2);
     rhoikandra_figures(book, RHOIKANDRA_BOOK_WORDS, pools, RECORDS, 0, figures, 3);
-    printf("%s %s %llu; open par %llu, standing millions %llu\n", kind,
+    printf("%.2s %s %llu; open par %llu, standing millions %llu\n", (const char *)body,
            said[0] == 0   ? "accepted under"
            : said[0] == 1 ? "rejected with"
                           : "DKed with",
@@ -84,10 +95,14 @@ int main(void) {
         return EXIT_FAILURE;
 
     /* Two good lots of one million each; then one of them is replaced; then the replacement is questioned, twice. */
-    send("ON", 1, 2, 0, (const struct pool[]){{"AA00001", "0001"}, {"AA00002", "0001"}}, 2);
-    send("CC", 2, 0, 1, (const struct pool[]){{"AA00002", "6001"}, {"AA00003", "7001"}}, 2);
-    send("DK", 3, 0, 2, (const struct pool[]){{"AA00003", "0001"}}, 1);
-    send("DK", 4, 0, 2, (const struct pool[]){{"AA00003", "0001"}}, 1);
+    put_frame("ON", 1, 2, 0, (const struct pool[]){{"AA00001", "0001"}, {"AA00002", "0001"}}, 2);
+    put_frame("CC", 2, 0, 1, (const struct pool[]){{"AA00002", "6001"}, {"AA00003", "7001"}}, 2);
+    put_frame("DK", 3, 0, 2, (const struct pool[]){{"AA00003", "0001"}}, 1);
+    put_frame("DK", 4, 0, 2, (const struct pool[]){{"AA00003", "0001"}}, 1);
+
+    uint64_t found[4] = {0, 0, 0, 0};
+    while (rhoikandra_frame(tape, taped, found[3], found, 4), found[0] == 1)
+        send(tape + found[1], found[2] - found[1]);
 
     unsigned sums[3] = {0, 0, 0};
     for (int row = 0; row < RHOIKANDRA_TALLY_ROWS; row++)

@@ -1,6 +1,10 @@
-//! Opens a book, sends an ON, a CC and a DK, and prints the figures after each, and how the answers were at the end.
+//! Opens a book, sends an ON, a CC and a DK as frames of a tape, and prints the figures after each, and how the answers were at the end.
 
 use rhoikandra::{numbers, Answer, Book, Limits, Opening, Tally, Trade, OUTPUT_LENGTH};
+
+/// The bytes that start and end a frame.
+const START: u8 = 2;
+const END: u8 = 3;
 
 /// A pool of a message: number, original face in dollars, current face in cents, terminator.
 pub type Pool<'a> = (&'a str, u64, u64, &'a str);
@@ -61,12 +65,13 @@ pub fn lines() -> Vec<String> {
         body("DK", 3, 0, 2, &[("AA00003", 1_000_000, 100_000_000, "0001")]),
         body("DK", 4, 0, 2, &[("AA00003", 1_000_000, 100_000_000, "0001")]),
     ];
+    let tape: Vec<u8> = messages.iter().flat_map(|message| [&[START][..], message, &[END]].concat()).collect();
     let mut tally = Tally::default();
     let mut lines = Vec::new();
-    for message in messages {
+    for message in rhoikandra::frames(&tape) {
         let mut output = [0; OUTPUT_LENGTH];
-        let answer = book.step(&message, b"093000", &mut output);
-        tally.count(&message, answer);
+        let answer = book.step(message, b"093000", &mut output);
+        tally.count(message, answer);
         let figures = book.figures(0).expect("the book is sound");
         lines.push(format!(
             "{} {}; open par {}, standing millions {}",

@@ -43,4 +43,12 @@ extern "C" {
         said: *const u64,
         said_len: usize,
     );
+
+    pub fn rhoikandra_frame(
+        tape: *const u8,
+        tape_len: usize,
+        at: usize,
+        found: *mut u64,
+        found_len: usize,
+    ) -> usize;
 }

@@ -71,6 +71,40 @@ impl Tally {
     }
 }
 
+/// The bodies of the frames of a tape, one after another; all other bytes are dropped.
+pub fn frames(tape: &[u8]) -> Frames<'_> {
+    Frames { tape, at: 0 }
+}
+
+/// What is left of a tape, frame by frame.
+#[derive(Clone, Debug)]
+pub struct Frames<'a> {
+    tape: &'a [u8],
+    at: usize,
+}
+
+impl<'a> Iterator for Frames<'a> {
+    type Item = &'a [u8];
+
+    fn next(&mut self) -> Option<&'a [u8]> {
+        let mut found = [0; 4];
+        unsafe {
+            exported::rhoikandra_frame(
+                self.tape.as_ptr(),
+                self.tape.len(),
+                self.at,
+                found.as_mut_ptr(),
+                found.len(),
+            )
+        };
+        let [any, start, end, next] = found;
+        (any == 1).then(|| {
+            self.at = next as usize;
+            &self.tape[start as usize..end as usize]
+        })
+    }
+}
+
 /// What a book says of a trade.
 #[derive(Clone, Copy, Debug, PartialEq, Eq)]
 pub struct Figures {

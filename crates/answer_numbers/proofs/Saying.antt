@@ -13,7 +13,7 @@ use Rattle.book.specs.declared.Answer.{Answer}
 use Rattle.book.specs.declared.Answer.the-variants.{Rejected, Accepted, Dked}
 use Rattle.book.specs.declared.Reason.{Reason}
 use Rattle.book.specs.Reasons.{numberOf}
-use Rattle.answer_numbers.specs.Said.{saidOf, reasonOf, answerOf, answerIn, isSaid}
+use Rattle.answer_numbers.specs.Said.{saidOf, reasonOf, answerSaid, answerIn, isSaid}
 use Rattle.answer_numbers.proofs.Numbers.{reason-of-number}
 
 pub said-accepted : (a : Answer) (id : ℕ) → a ≡ Accepted id → 0 ∷ id ∷ [] ≡ saidOf a
@@ -26,16 +26,16 @@ pub said-dked : (a : Answer) (r : Reason) (n : ℕ) → a ≡ Dked r → n ≡ n
 said-dked a r n e h = rw (e, h)
 
 module _ (x y : ℕ) where
-  pub answer-accepted : x ≡ 0 → Accepted y ≡ answerOf x y
-  unfolding answerOf
+  pub answer-accepted : x ≡ 0 → Accepted y ≡ answerSaid x y
+  unfolding answerSaid
   answer-accepted e = rw e
 
-  pub answer-rejected : (r : Reason) → r ≡ reasonOf y → x ≡ 1 → Rejected r ≡ answerOf x y
-  unfolding answerOf
+  pub answer-rejected : (r : Reason) → r ≡ reasonOf y → x ≡ 1 → Rejected r ≡ answerSaid x y
+  unfolding answerSaid
   answer-rejected r h e = rw (e, h)
 
-  pub answer-dked : (r : Reason) → r ≡ reasonOf y → (x ≡ 0 → ⊥) → (x ≡ 1 → ⊥) → Dked r ≡ answerOf x y
-  unfolding answerOf
+  pub answer-dked : (r : Reason) → r ≡ reasonOf y → (x ≡ 0 → ⊥) → (x ≡ 1 → ⊥) → Dked r ≡ answerSaid x y
+  unfolding answerSaid
   answer-dked r h n m = rw (ne-eqb x 0 n, ne-eqb x 1 m, h)
 
   same-two : (a : Answer) → (eqb x (getD (saidOf a) 0 0) && eqb y (getD (saidOf a) 1 0)) ≡ same (x ∷ y ∷ []) (saidOf a)
@@ -61,7 +61,7 @@ module _ (said : List ℕ) where
       (same-unlike (take 2 said) (saidOf (answerIn said)) (λ e. omega (arith, said-length (answerIn said), simp length-take at e)), λ f. absurd (false≢true f))
 
   -- two numbers that are those of the one answer that they could say
-  pub heard : (two : List ℕ) (a : Answer) → 2 ≤ length said → a ≡ answerOf (getD said 0 0) (getD said 1 0) → two ≡ saidOf a
+  pub heard : (two : List ℕ) (a : Answer) → 2 ≤ length said → a ≡ answerSaid (getD said 0 0) (getD said 1 0) → two ≡ saidOf a
       → ((eqb (getD said 0 0) (getD two 0 0) && eqb (getD said 1 0) (getD two 1 0)) ≡ isSaid said)
       × ((eqb (getD said 0 0) (getD two 0 0) && eqb (getD said 1 0) (getD two 1 0)) ≡ true → a ≡ answerIn said)
   unfolding isSaid answerIn
@@ -69,7 +69,7 @@ module _ (said : List ℕ) where
 
 -- what an answer says is heard as that answer
 pub heard-again : (a : Answer) (rest : List ℕ) → answerIn (saidOf a ++ rest) ≡ a
-unfolding answerIn answerOf
+unfolding answerIn answerSaid
 heard-again (Accepted id) rest = refl
 heard-again (Rejected r) rest = ap Rejected (reason-of-number r)
 heard-again (Dked r) rest = ap Dked (reason-of-number r)

@@ -52,12 +52,12 @@ reasonOf n =
     ShortOutput))))))))))))))))))))))))))))
 
 -- the one answer that two numbers could say
-unfoldable pub answerOf : ℕ → ℕ → Answer
-answerOf first second = cond (eqb first 0) (Accepted second) (cond (eqb first 1) (Rejected (reasonOf second)) (Dked (reasonOf second)))
+unfoldable pub answerSaid : ℕ → ℕ → Answer
+answerSaid first second = cond (eqb first 0) (Accepted second) (cond (eqb first 1) (Rejected (reasonOf second)) (Dked (reasonOf second)))
 
 -- the same of the first two numbers of a list
 unfoldable pub answerIn : List ℕ → Answer
-answerIn said = answerOf (getD said 0 0) (getD said 1 0)
+answerIn said = answerSaid (getD said 0 0) (getD said 1 0)
 
 -- whether a list begins with the two numbers of an answer
 unfoldable pub isSaid : List ℕ → Bool

@@ -3,7 +3,7 @@ use book::Answer;
 use book::Reason;
 ghost use mathlib.Core.Path.{_≡_};
 ghost use mathlib.Core.Bool.{true};
-ghost use Rattle.answer_numbers.specs.Said.{saidOf, reasonOf, answerOf, isSaid, answerIn};
+ghost use Rattle.answer_numbers.specs.Said.{saidOf, reasonOf, answerSaid, isSaid, answerIn};
 
 const ACCEPTED: u64 = 0;
 
@@ -66,7 +66,7 @@ fn reason_of(number: u64) -> Reason
 
 // The one answer that two numbers could say.
 fn answer_of(first: u64, second: u64) -> Answer
-    ensures { λ r. ⌜ r ≡ answerOf first second ⌝ }
+    ensures { λ r. ⌜ r ≡ answerSaid first second ⌝ }
 {
     if first == ACCEPTED {
         return Answer::Accepted(second);

@@ -120,6 +120,17 @@ pub fn is_silent(answer: Answer) -> bool
     }
 }
 
+// Whether an answer is that of an accepted message.
+pub fn is_accepted(answer: Answer) -> bool
+    ensures { λ r. ⌜ r ≡ isAccepted answer ⌝ }
+{
+    match answer {
+        Answer::Accepted(_) => true,
+        Answer::Rejected(_) => false,
+        Answer::Dked(_) => false,
+    }
+}
+
 // The column of the tally that an answer belongs to.
 pub fn outcome_of(answer: Answer) -> Outcome
     ensures { λ r. ⌜ r ≡ outcomeOf answer ⌝ }

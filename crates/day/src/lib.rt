@@ -1,5 +1,4 @@
 // A day: every whole frame of a tape is put to a book over a lent table, one after another, and the accepted ones are counted.
-use book::Answer;
 use book::Book;
 use book::Pool;
 use engine::Stepped;
@@ -99,16 +98,6 @@ fn end_of(place: Place) -> usize
     place.end
 }
 
-fn is_accepted(answer: Answer) -> bool
-    ensures { λ r. ⌜ r ≡ isAccepted answer ⌝ }
-{
-    match answer {
-        Answer::Accepted(_) => true,
-        Answer::Rejected(_) => false,
-        Answer::Dked(_) => false,
-    }
-}
-
 // Before the first frame.
 fn begun(book: Book) -> Going
     ensures { λ r. ⌜ r ≡ begunOf book ⌝ }
@@ -132,7 +121,7 @@ fn counted(going: Going, stepped: Stepped, place: Place) -> Going
     let book = stepped.book;
     let mut accepted = going.day.accepted;
     let mut others = going.day.others;
-    if is_accepted(answer) {
+    if answers::is_accepted(answer) {
         accepted += 1;
     } else {
         others += 1;

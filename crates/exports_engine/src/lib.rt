@@ -1,5 +1,4 @@
 // Lends the engine to Rust and C: a book is kept as words, a table as a lent slice of pool records, and each exported function writes into lent slices.
-use book::Answer;
 use book::Book;
 use book::Pool;
 use book::Values;
@@ -10,7 +9,6 @@ ghost use mathlib.Core.Path.{_≡_};
 ghost use mathlib.Core.Bool.{true, false};
 ghost use lib.ListN.{length};
 ghost use Rattle.lists.specs.Lists.{pasted};
-ghost use Rattle.book.specs.Reasons.{isAccepted};
 ghost use Rattle.book.specs.Opening.{valuesFine};
 ghost use Rattle.image.specs.Images.{isImage};
 ghost use Rattle.exports_engine.specs.Reading.{Reads, ReadsValues};
@@ -63,16 +61,6 @@ fn six_of(time: &[u8]) -> [u8; 6]
     [time[0], time[1], time[2], time[3], time[4], time[5]]
 }
 
-fn is_accepted(answer: Answer) -> bool
-    ensures { λ r. ⌜ r ≡ isAccepted answer ⌝ }
-{
-    match answer {
-        Answer::Accepted(_) => true,
-        Answer::Rejected(_) => false,
-        Answer::Dked(_) => false,
-    }
-}
-
 // Writes the answer in two numbers, and of the book after the call what can have moved: nothing after a silent refusal, and all but the trades after any other.
 fn finish(image: &mut [u64], said: &mut [u64], stepped: Stepped)
     ensures { λ _. ⌜ Finishes (now (image .entry)) (now (said .entry)) stepped (now (image .exit)) (now (said .exit)) ⌝ }
@@ -84,7 +72,7 @@ fn finish(image: &mut [u64], said: &mut [u64], stepped: Stepped)
         return;
     }
     let after = stepped.book;
-    if is_accepted(answer) {
+    if answers::is_accepted(answer) {
         image::write_book(&mut *image, after);
         return;
     }

@@ -3,7 +3,7 @@ use mathlib.Core.Path.{_≡_, refl, _∙_}
 use mathlib.Core.List.{List, [], _∷_}
 use mathlib.Core.Bool.{Bool, false, _&&_, _||_}
 use Prim.Native.Nat.{ℕ}
-use Rattle.lists.proofs.Folds.{fold}
+use Rattle.lists.specs.Lists.{fold}
 use Rattle.fields.specs.declared.Field.{Field}
 use Rattle.fields.specs.Fields.{readNumber}
 use Rattle.layout.specs.declared.Detail.{Detail}

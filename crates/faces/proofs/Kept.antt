@@ -4,8 +4,7 @@ use mathlib.Core.List.{List, [], _∷_}
 use mathlib.Core.Bool.{Bool, true, false, cond, _&&_, _||_, or-false, or-assoc}
 use Prim.Native.Nat.{ℕ, _+_}
 use native.Mathlib.Omega.{arith}
-use Rattle.lists.specs.Lists.{keep, any, sumOf}
-use Rattle.lists.proofs.Folds.{fold}
+use Rattle.lists.specs.Lists.{keep, any, sumOf, fold}
 
 module _ {A : Type 0} (q : A → Bool) where
   -- whether some kept element passes a test

@@ -4,9 +4,9 @@ use layout::Detail;
 ghost use mathlib.Core.Path.{_≡_};
 ghost use lib.Dec.{ltb};
 ghost use Prim.Native.Nat.{_-_, _*_};
+ghost use Rattle.lists.specs.Lists.{fold};
 ghost use Rattle.layout.specs.Details.{details};
 ghost use Rattle.terminator.specs.Lots.{millionCents};
-ghost use Rattle.lists.proofs.Folds.{fold};
 ghost use Rattle.faces.specs.Faces.{isNew, currentFails, originalFails, faceFails, checkFace, facesFail, goodLotFails};
 
 // The highest original face, in whole dollars.

@@ -7,9 +7,8 @@ use native.Mathlib.Omega.{arith}
 use lib.ListN.{length, length-append}
 use lib.Dec.{eqb, ltb}
 use borrow.Author.Tests.{eq-eqb, ne-eqb, lt-ltb, le-ltb, not-true, not-false}
-use Rattle.lists.specs.Lists.{sumOf, all}
+use Rattle.lists.specs.Lists.{sumOf, all, fold}
 use Rattle.lists.proofs.Tests.{sum-append, all-append}
-use Rattle.lists.proofs.Folds.{fold}
 use Rattle.layout.specs.declared.Detail.{Detail}
 use Rattle.layout.specs.Details.{poolCount}
 use Rattle.layout.proofs.Lengths.{count-max}

@@ -4,7 +4,7 @@ use terminator::Groups;
 use terminator::Mark;
 ghost use mathlib.Core.Path.{_≡_};
 ghost use Prim.Native.Nat.{_+_, _<_, _≤_};
-ghost use Rattle.lists.proofs.Folds.{fold};
+ghost use Rattle.lists.specs.Lists.{fold};
 ghost use Rattle.layout.specs.Details.{details};
 ghost use Rattle.terminator.specs.Groups.{groupsJudged};
 ghost use Rattle.groups.specs.Runs.{judged, emptyRun, withCanceled, withReplacement, runOn, runStep, Small};

@@ -2,8 +2,8 @@
 use mathlib.Core.Path.{_≡_, ap, _∙_}
 use mathlib.Core.List.{List}
 use Prim.Native.Nat.{ℕ, _+_, _≤_, _<_}
-use Rattle.lists.specs.Lists.{tab}
-use Rattle.lists.proofs.Folds.{fold, Folded, fold-none, fold-more, fold-done}
+use Rattle.lists.specs.Lists.{tab, fold}
+use Rattle.lists.proofs.Folds.{Folded, fold-none, fold-more, fold-done}
 use Rattle.layout.specs.declared.Detail.{Detail}
 use Rattle.layout.specs.Details.{detailAt, details, poolCount, placeOf}
 

@@ -6,9 +6,8 @@ use mathlib.Core.Bool.{Bool, true, false, cond, not, _&&_, false≢true, Bool·b
 use mathlib.Core.Logic.{_⊎_, inl, inr}
 use lib.Dec.{eqb}
 use borrow.Author.Tests.{eqb-true, eq-eqb}
-use Rattle.lists.specs.Lists.{keep, all}
+use Rattle.lists.specs.Lists.{keep, all, fold}
 use Rattle.lists.proofs.Tests.{_∈_, and-left, and-right, both, all-out, keep-const}
-use Rattle.lists.proofs.Folds.{fold}
 use Rattle.layout.specs.declared.Detail.{Detail}
 use Rattle.terminator.specs.Terminators.{digitCanceled, isEnd, isWrong, isBad, one, term, isCanceled}
 use Rattle.terminator.specs.Lots.{Lot, poolsOf, lotsFrom, lots, goesOn, lotsFormed, firstOn, firstCc, formedFor}

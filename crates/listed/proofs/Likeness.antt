@@ -6,9 +6,8 @@ use mathlib.Core.List.{List, [], _∷_, _++_, List·Memᴰ·head, List·Memᴰ·
 use mathlib.Core.Bool.{Bool, true, false, cond, not, _&&_, _||_, and-true, and-assoc}
 use lib.Dec.{eqb}
 use borrow.Author.Tests.{eq-eqb, eqb-true}
-use Rattle.lists.specs.Lists.{all}
+use Rattle.lists.specs.Lists.{all, fold}
 use Rattle.lists.proofs.Tests.{_∈_, all-in, all-out, all-append}
-use Rattle.lists.proofs.Folds.{fold}
 use Rattle.layout.specs.declared.Detail.{Detail}
 use Rattle.terminator.specs.Terminators.{isEnd, term}
 use Rattle.terminator.specs.Lots.{Lot, poolsOf, lots, formedFor}

@@ -5,13 +5,8 @@ use mathlib.Core.Bool.{Bool, true, false, cond}
 use Prim.Native.Nat.{ℕ, _+_, _-_, _≤_, _<_}
 use native.Mathlib.Omega.{arith}
 use lib.ListN.{length}
-use Rattle.lists.specs.Lists.{tab, keep, sumOf}
+use Rattle.lists.specs.Lists.{tab, keep, sumOf, fold}
 use Rattle.lists.proofs.Tables.{tab-turn, tab-end, tab-all}
-
--- the state after the elements are taken in, from the first to the last
-abbrev pub fold : {S A : Type 0} → (S → A → S) → S → List A → S
-fold f s [] = s
-fold f s (x ∷ xs) = fold f (f s x) xs
 
 module _ {S A : Type 0} (f : S → A → S) (g : ℕ → A) (n : ℕ) (s₀ : S) where
   abbrev pub Folded : S → ℕ → Type 0

@@ -1,4 +1,4 @@
--- Lists: parts of them, lists made by a function of the index, tests and sums over them.
+-- Lists: parts of them, lists made by a function of the index, tests, sums and states over them.
 use Prim.Native.Nat.{ℕ, zero, suc, _+_, _-_}
 use mathlib.Core.List.{List, [], _∷_, _++_}
 use mathlib.Core.Bool.{Bool, true, false, cond, not, _&&_, _||_}
@@ -41,6 +41,11 @@ all p (x ∷ xs) = p x && all p xs
 abbrev pub sumOf : {A : Type 0} → (A → ℕ) → List A → ℕ
 sumOf f [] = 0
 sumOf f (x ∷ xs) = f x + sumOf f xs
+
+-- the state after the elements are taken in, from the first to the last
+abbrev pub fold : {S A : Type 0} → (S → A → S) → S → List A → S
+fold f s [] = s
+fold f s (x ∷ xs) = fold f (f s x) xs
 
 -- whether two lists of numbers are equal
 abbrev pub same : List ℕ → List ℕ → Bool

@@ -4,7 +4,7 @@ use mathlib.Core.List.{List, [], _∷_}
 use mathlib.Core.Bool.{Bool, true, false, cond, not, _&&_, _||_, Bool·beq, and-assoc, and-false}
 use Prim.Native.Nat.{ℕ}
 use lib.Dec.{eqb}
-use Rattle.lists.proofs.Folds.{fold}
+use Rattle.lists.specs.Lists.{fold}
 use Rattle.layout.specs.declared.Detail.{Detail}
 use Rattle.terminator.specs.declared.Mark.{Mark}
 use Rattle.lots.specs.declared.Walk.{Walk}

@@ -6,8 +6,8 @@ use Prim.Native.Nat.{ℕ, zero, suc, _+_, _*_, _≤_, _<_}
 use native.Mathlib.Omega.{arith}
 use lib.Dec.{eqb}
 use borrow.Author.Tests.{eq-eqb, ne-eqb}
-use Rattle.lists.specs.Lists.{sumOf}
-use Rattle.lists.proofs.Folds.{fold, fold-sum, fold-count}
+use Rattle.lists.specs.Lists.{sumOf, fold}
+use Rattle.lists.proofs.Folds.{fold-sum, fold-count}
 use Rattle.layout.specs.declared.Detail.{Detail}
 use Rattle.layout.specs.Details.{poolsMax, poolCount}
 use Rattle.layout.proofs.Lengths.{count-max}

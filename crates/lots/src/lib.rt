@@ -5,7 +5,7 @@ use terminator::Mark;
 ghost use mathlib.Core.Path.{_≡_};
 ghost use Prim.Native.Nat.{_*_, _≤_};
 ghost use lib.ListN.{drop};
-ghost use Rattle.lists.proofs.Folds.{fold};
+ghost use Rattle.lists.specs.Lists.{fold};
 ghost use Rattle.layout.specs.Details.{details, poolsMax};
 ghost use Rattle.terminator.specs.Lots.{replacementCount, goodMillions, formedFor, firstLot, lots};
 ghost use Rattle.lots.specs.Sums.{countNext, sumNext};

@@ -3,7 +3,7 @@ use layout::Detail;
 use terminator::Terminator;
 ghost use mathlib.Core.Path.{_≡_};
 ghost use Prim.Native.Nat.{_+_, _*_, _≤_};
-ghost use Rattle.lists.proofs.Folds.{fold};
+ghost use Rattle.lists.specs.Lists.{fold};
 ghost use Rattle.layout.specs.Details.{details, poolsMax};
 ghost use Rattle.terminator.specs.Terminators.{kindOf, millionsOf};
 ghost use Rattle.terminator.specs.Lots.{weightOf};

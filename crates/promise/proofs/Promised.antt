@@ -1,19 +1,26 @@
 -- Demand 3 for the calls themselves: a book that a call opened without refusal, and any run of frame calls on it, refused ones included. What the promise says of
--- definitions it says of what the calls leave; and 42 never meets such a client.
-use mathlib.Core.Path.{_≡_, sym, _∙_}
+-- definitions it says of what the calls leave; and 42 never meets such a client. Demand 1 of a refusal, for any book and table, stands here too.
+use mathlib.Core.Path.{_≡_, sym, ap, _∙_}
 use mathlib.Core.List.{List}
-use mathlib.Core.Bool.{true}
+use mathlib.Core.Bool.{true, false}
 use lib.ListN.{length}
 use Rattle.book.specs.declared.Values.{Values}
+use Rattle.lists.proofs.Tests.{_∈_}
+use Rattle.book.specs.declared.Book.{Book}
 use Rattle.book.specs.declared.Pool.{Pool}
+use Rattle.book.specs.Reasons.{isAccepted}
+use Rattle.book.specs.Records.{Fields}
+use Rattle.book.specs.Messages.{targetOf, listed}
 use Rattle.book.specs.Opening.{openingFine}
 use Rattle.book.specs.Soundness.{Sound}
-use Rattle.book.specs.History.{Fed, atOpening, history}
-use Rattle.book.specs.Promise.{State, openedState, Demand3}
-use Rattle.book.proofs.Demand3.{Trace, done, next, traced}
+use Rattle.book.specs.Checks.{lotFields, answerOf}
+use Rattle.book.specs.History.{Brought, Fed, atOpening, history, isTarget, takesOff}
+use Rattle.book.specs.Promise.{State, Put, callOf, after, openedState, Demand3}
+use Rattle.book.proofs.Demand3.{Trace, done, next, traced, traced-not-twice, traced-brought-before, refused-keeps}
 use Rattle.book.proofs.Undamaged.{traced-sound}
 use Rattle.opened.specs.declared.Opened.{Opened}
-use Rattle.padded.specs.Calls.{Opens}
+use Rattle.engine.specs.declared.Stepped.{Stepped}
+use Rattle.padded.specs.Calls.{Framed, Opens}
 use Rattle.promise.specs.Runs as runs
 use Rattle.promise.specs.Runs.{Run}
 
@@ -22,6 +29,18 @@ pub run-trace : {s s″ : State} {fs : List Fed} → Run s fs s″ → Trace s f
 run-trace runs.done = done
 run-trace (runs.next {s} {s″} {fs} body time out r pools out′ f rest) =
     next (record { body = body; room = length out }) (r .answer) (f .book) (f .table) (f .answer) (run-trace rest)
+
+-- demand 1: a call that refuses, on any book and table, changes no trade, no live pool and no message ID
+pub calls-refused-keep : (s : State) (body time out : List ℕ) (r : Stepped) (pools : List Pool) (out′ : List ℕ) → Framed (s .book) (s .table) body time out r pools out′ → isAccepted (r .answer) ≡ false
+    → (r .book .values .trades ≡ s .book .values .trades) × (r .book .values .last ≡ s .book .values .last) × (r .book .live ≡ s .book .live) × (pools ≡ s .table)
+unfolding after
+calls-refused-keep s body time out r pools out′ f n =
+    let kept = refused-keeps s (record { body = body; room = length out }) (ap isAccepted (sym (f .answer)) ∙ n) in (
+      ap (λ (b : Book). b .values .trades) (f .book) ∙ kept .0,
+      ap (λ (b : Book). b .values .last) (f .book) ∙ kept .1,
+      ap (λ (b : Book). b .live) (f .book) ∙ kept .2,
+      f .table ∙ kept .3,
+    )
 
 module _ (v : Values) (pools zeros : List Pool) (r : Opened) (o : Opens v pools r zeros) (fine : r .fine ≡ true) where
   isOpened : openingFine v pools ≡ true
@@ -46,3 +65,19 @@ module _ (v : Values) (pools zeros : List Pool) (r : Opened) (o : Opens v pools 
     -- and it is sound, so that 42 never meets them
     pub calls-sound : Sound (s .book) (s .table)
     calls-sound = traced-sound v pools isOpened s fs from-opening
+
+    -- one more call, known by its contract, that is accepted: each lot that it takes off was not yet off
+    module _ (body time out : List ℕ) (x : Stepped) (pools′ : List Pool) (out′ : List ℕ) (f : Framed (s .book) (s .table) body time out x pools′ out′) (ok : isAccepted (x .answer) ≡ true) where
+      abbrev put : Put
+      put = record { body = body; room = length out }
+
+      passes : isAccepted (answerOf (callOf s put)) ≡ true
+      passes = ap isAccepted (sym (f .answer)) ∙ ok
+
+      pub calls-not-twice : (h : Brought) → h ∈ history v (atOpening v) fs .lots → takesOff body h ≡ true → h .offs ≡ 0
+      calls-not-twice = traced-not-twice v pools isOpened s fs from-opening put passes
+
+      -- and each pool that it lists is of a lot that an earlier accepted message brought under its target, not yet off, which it takes off
+      pub calls-brought-before : (g : Fields) → g ∈ listed body
+          → (h : Brought) × (h ∈ history v (atOpening v) fs .lots) × (isTarget (targetOf body) (h .id) ≡ true) × (h .offs ≡ 0) × (takesOff body h ≡ true) × (g ∈ lotFields (h .lot))
+      calls-brought-before = traced-brought-before v pools isOpened s fs from-opening put passes

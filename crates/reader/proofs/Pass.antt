@@ -37,8 +37,8 @@ use denote.Triple.Statement.{Contract, Triple}
 use denote.Triple.Call.{calls-at}
 use denote.Triple.Clauses.{ensured, lasts}
 use denote.Triple.Spec.{Spec, tripleOf}
+use Rattle.lists.specs.Lists.{fold}
 use Rattle.walking.proofs.Count.{holds, fails, one-more, counted}
-use Rattle.lists.proofs.Folds.{fold}
 use Rattle.layout.specs.Columns.{headerWidth}
 use Rattle.layout.specs.Details.{nextDetail, details, poolCount, placeOf}
 use Rattle.layout.specs.declared.Detail.{Detail}

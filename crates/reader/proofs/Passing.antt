@@ -31,7 +31,7 @@ use denote.Triple.Entry.{Vals, onEntry}
 use denote.Triple.Spec.{Meets}
 use denote.Triple.Walked.{says, needs, Stays, stay-none-slice, stay-none, walkOf, goes-none-slice, goes-none, Walks, ends-at, walked, walk-meets}
 use denote.Exit.{Exit, Last, left, yes}
-use Rattle.lists.proofs.Folds.{fold}
+use Rattle.lists.specs.Lists.{fold}
 use Rattle.layout.specs.declared.Detail.{Detail}
 use Rattle.layout.specs.Details.{details, poolCount}
 use Rattle.layout.proofs.Passes.{poolOf}

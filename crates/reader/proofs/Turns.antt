@@ -4,7 +4,7 @@ use mathlib.Core.List.{List}
 use mathlib.Core.Bool.{false}
 use Prim.Native.Nat.{ℕ, zero, suc, _+_, _≤_, _<_}
 use native.Mathlib.Omega.{arith}
-use Rattle.lists.proofs.Folds.{fold}
+use Rattle.lists.specs.Lists.{fold}
 use Rattle.layout.specs.declared.Detail.{Detail}
 use Rattle.layout.specs.declared.Step.{Step}
 use Rattle.layout.specs.Columns.{detailWidth}

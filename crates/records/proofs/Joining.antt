@@ -9,8 +9,7 @@ use lib.ListN.{length, getD, take, drop, replicate, length-drop}
 use lib.Seq.{take-suc, getD-drop}
 use lib.Bits.{bitOr, or-add-and, and-le-l, and-le-r}
 use lib.Dec.{eqb}
-use Rattle.lists.specs.Lists.{tab, same}
-use Rattle.lists.proofs.Folds.{fold}
+use Rattle.lists.specs.Lists.{tab, same, fold}
 use Rattle.lists.proofs.Tables.{table-of}
 use Rattle.book.specs.declared.Pool.{Pool}
 use Rattle.book.specs.Records.{noPool}

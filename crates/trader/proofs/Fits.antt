@@ -9,8 +9,8 @@ use lib.Dec.{leb, ltb}
 use native.Mathlib.Decide.{decLt}
 use lib.Seq.{getD-take}
 use borrow.Author.Tests.{eq-eqb, ne-eqb, le-leb, lt-leb, lt-ltb, le-ltb}
-use Rattle.lists.specs.Lists.{keep}
-use Rattle.lists.proofs.Folds.{fold, fold-count}
+use Rattle.lists.specs.Lists.{keep, fold}
+use Rattle.lists.proofs.Folds.{fold-count}
 use Rattle.lists.proofs.Tables.{length-tab}
 use Rattle.layout.specs.declared.Detail.{Detail}
 use Rattle.layout.specs.Details.{poolsMax, details, poolCount, detailAt, placeOf}

@@ -1,7 +1,7 @@
 -- A pass over all pools, from no groups, leads to the groups that are judged.
 use mathlib.Core.Path.{ap, _∙_}
 use mathlib.Core.Bool.{true}
-use Rattle.lists.proofs.Folds.{fold}
+use Rattle.lists.specs.Lists.{fold}
 use Rattle.layout.specs.Details.{details}
 use Rattle.groups.specs.declared.Run.{Run}
 use Rattle.groups.specs.Runs.{judged, runStep}
