@@ -1,5 +1,6 @@
 -- Demand 3 for the calls themselves: a book that a call opened without refusal, and any run of frame calls on it, refused ones included. What the promise says of
 -- definitions it says of what the calls leave; and 42 never meets such a client. Demand 1 of a refusal, for any book and table, stands here too.
+use Prim.Native.Nat.{ℕ}
 use mathlib.Core.Path.{_≡_, sym, ap, _∙_}
 use mathlib.Core.List.{List}
 use mathlib.Core.Bool.{true, false}
