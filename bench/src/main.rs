@@ -76,10 +76,12 @@ impl Least {
     }
 }
 
-/// Puts each body to the same book, round after round, by both in turn; the book is set back between calls, untimed.
-/// Of each body the quickest call counts: what else the machine does only adds to the others.
+/// Puts each body to the same book, round after round, by both in turn; the book is set back in its place between calls,
+/// untimed. Of each body the quickest call counts: what else the machine does only adds to the others.
 fn time(name: &str, desk: &Desk, bodies: &[Vec<u8>], rounds: usize) {
     let before = held(&desk.book, &desk.table);
+    let mut client = before.clone();
+    let (mut book, mut table) = (desk.book.clone(), desk.table.clone());
     let (mut engine, mut reference) = (Least::of(bodies.len()), Least::of(bodies.len()));
     let mut answers = Vec::new();
     for call in 0..rounds * bodies.len() {
@@ -87,14 +89,17 @@ fn time(name: &str, desk: &Desk, bodies: &[Vec<u8>], rounds: usize) {
         let body = &bodies[at];
         let mut output = [0; OUTPUT];
 
-        let mut book = before.clone();
+        client.words.copy_from_slice(&before.words);
+        client.pools.copy_from_slice(&before.pools);
         let began = Instant::now();
-        let answer = black_box(book.step(black_box(body), b"000000", &mut output));
+        let answer = black_box(client.step(black_box(body), b"000000", &mut output));
         engine.take(at, began.elapsed());
 
-        let (mut book, mut table) = (desk.book.clone(), desk.table.clone());
+        book.clone_from(&desk.book);
+        table.copy_from_slice(&desk.table);
         let began = Instant::now();
-        let step = black_box(frame_call(&mut book, &mut table, &mut output, b"000000", black_box(body), Default::default()));
+        let step =
+            black_box(frame_call(&mut book, &mut table, &mut output, b"000000", black_box(body), Default::default()));
         reference.take(at, began.elapsed());
 
         assert_eq!(told(answer), step.answer, "{name}");

@@ -14,6 +14,7 @@ use reference::draft::DraftPool;
 use reference::frame_call::frame_call;
 use reference::generator::{day, Day, Random};
 use reference::history::History;
+use reference::opening::CENTS_MAX;
 use reference::pool_detail::MatchedFields;
 use reference::script;
 use rhoikandra::Tally;
@@ -34,9 +35,8 @@ impl Met {
 const FRAMES: u64 = 200_000;
 const LONGER: &str = "COMPARE_FRAMES";
 /// Every number that a frame can get from a sound book, and 0 for accepted.
-const CODES: [Number; 29] = [
-    0, 10, 11, 12, 13, 14, 15, 16, 17, 18, 19, 20, 21, 22, 23, 24, 25, 30, 31, 32, 33, 34, 35, 36, 37, 38, 40, 43, 44,
-];
+const CODES: [Number; 29] =
+    [0, 10, 11, 12, 13, 14, 15, 16, 17, 18, 19, 20, 21, 22, 23, 24, 25, 30, 31, 32, 33, 34, 35, 36, 37, 38, 40, 43, 44];
 
 /// A tally to begin with: mostly empty, else with cells full or nearly so.
 fn any_tally(random: &mut Random) -> Tally {
@@ -153,6 +153,53 @@ fn random_days() {
         assert!(met.times(code) >= 50, "{code} was met too seldom: {met:?}");
     }
     assert!(met.full >= 50, "full cells were met too seldom: {met:?}");
+}
+
+/// The rows of a call that is made on few of them: the live pools and the pools of its message.
+const FEW_ROWS: u64 = 512;
+
+/// Live pools and pools of a message whose sum lies on either side of the few rows, on tables that hold them just so or not.
+#[test]
+fn on_either_side_of_few_rows() {
+    let mut cases = Cases::of("either side of few rows");
+    let mut met = Met::default();
+    let mut values = reference::day::opening_values();
+    values.trades[0].par_cents = CENTS_MAX;
+    for brings in [1, 2, 100, 250] {
+        for sum in FEW_ROWS - 2..=FEW_ROWS + 2 {
+            for records in [sum - 1, sum, sum + 1, 4096] {
+                let mut desk = Desk::open(&values, records as usize);
+                let mut next = 0;
+                let mut pools = |count: u64| {
+                    next += count;
+                    (next - count..next).map(|number| pool(number, 100)).collect::<Vec<_>>()
+                };
+                let ends = |pools: Vec<DraftPool>| pools.into_iter().map(|pool| (pool, b"0999")).collect::<Vec<_>>();
+                for left in [250, 250, (sum - brings).saturating_sub(500)] {
+                    let count = left.min(sum - brings - desk.book.live_count as u64);
+                    if count > 0 {
+                        assert_eq!(desk.send(&desk.on(0, 0, &ends(pools(count)))), Answer::Accepted);
+                    }
+                }
+                assert_eq!(desk.book.live_count as u64, sum - brings);
+                let new = pools(brings);
+                let bodies = [
+                    desk.on(0, 0, &ends(new.clone())).body(),
+                    desk.dk(0, 1, &[pool(0, 100), pool(7, 100)]).body(),
+                    desk.cc(0, 1, &[(pool(3, 100), b"6999"), (new[0].clone(), b"7999")]).body(),
+                ];
+                for body in &bodies {
+                    let (mut book, mut table) = (desk.book.clone(), desk.table.clone());
+                    let mut client = held(&book, &table);
+                    let mut tally = any_tally(&mut cases.random);
+                    let call = (b"093000", 217, &body[..]);
+                    both(&mut client, &mut book, &mut table, &mut tally, &mut cases.random, call, &mut met);
+                    cases.count();
+                }
+            }
+        }
+    }
+    assert!(met.times(0) > 200 && met.times(40) > 15 && met.codes.len() == 2, "{met:?}");
 }
 
 /// An ON, a DK and a CC that the sound book takes.
