@@ -1,6 +1,6 @@
 -- Words joined bit by bit are below a power of two exactly where each of them is: none is above the join, and a join needs no more bits than they do.
 use mathlib.Core.Path.{_≡_, refl, sym, ap, _∙_}
-use mathlib.Core.Bool.{Bool, true, false, _&&_}
+use mathlib.Core.Bool.{Bool, true, false, _&&_, and-true, and-assoc}
 use Prim.Native.Nat.{ℕ, _+_, _-_, _^_, _≤_, _<_}
 use native.Mathlib.Nat.{one-le-pow}
 use native.Mathlib.Omega.{arith}
@@ -30,14 +30,6 @@ or-below k a b = go (below k a) (below k b) refl refl
     go true false e f = le-ltb (bitOr a b) (2 ^ k) (omega (arith, least .1, ltb-false b (2 ^ k) f))
     go false q e f = le-ltb (bitOr a b) (2 ^ k) (omega (arith, least .0, ltb-false a (2 ^ k) e))
 
-and-assoc : (p q r : Bool) → ((p && q) && r) ≡ (p && (q && r))
-and-assoc true q r = refl
-and-assoc false q r = refl
-
-and-all : (p : Bool) → (p && true) ≡ p
-and-all true = refl
-and-all false = refl
-
 module _ (g : ℕ → ℕ) (n : ℕ) where
   -- whether the join so far and what is left at i are below is still the answer
   abbrev pub Bounded : ℕ → ℕ → Type 0
@@ -55,4 +47,4 @@ module _ (g : ℕ → ℕ) (n : ℕ) where
 
     pub bounded-done : n ≤ i → (k : ℕ) → below k bits ≡ all (below k) (tab g n 0)
     bounded-done h k =
-        sym (and-all (below k bits)) ∙ ap (λ (p : Bool). below k bits && p) (sym (ap (all (below k)) (tab-end g n i h))) ∙ inv k
+        sym (and-true (below k bits)) ∙ ap (λ (p : Bool). below k bits && p) (sym (ap (all (below k)) (tab-end g n i h))) ∙ inv k

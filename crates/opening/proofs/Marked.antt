@@ -14,6 +14,7 @@ use Rattle.lists.specs.Lists.{any, same}
 use Rattle.lists.proofs.Parts.{drop-turn}
 use Rattle.lists.proofs.Looking.{first-turn, first-done}
 use Rattle.lists.proofs.Tests.{same-equal, clash, un-true}
+use Rattle.book.proofs.ListLaws.{neither-left}
 use Rattle.opening.specs.Marks.{markBase, markFrom, markOf}
 
 -- ---- the mark of some bytes: what is left still gives it, and 16 bytes give a number of 64 bits
@@ -76,10 +77,6 @@ module _ {A : Type 0} (p : A → Bool) {answer : Bool} where
   search-done false e inv = sym (ap (any p) e) ∙ inv
 
 -- ---- marks that are unlike tell IDs apart
-neither-left : (a b : Bool) → (a || b) ≡ false → a ≡ false
-neither-left true b e = e
-neither-left false b e = refl
-
 neither-right : (a b : Bool) → (a || b) ≡ false → b ≡ false
 neither-right true b e = clash refl e
 neither-right false b e = e

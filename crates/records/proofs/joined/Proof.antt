@@ -3,25 +3,16 @@ use borrow.Author.Needs.{needs}
 use Rattle.records.proofs.Joining.{joined-is}
 use Rattle.records.proofs.joined.Statement.{statement}
 use Rattle.records.proofs.joined.Tie as tie
-use Rattle.records.proofs.joined.Reads as reads
-use Rattle.records.proofs.joined.Lts as lts
-use Rattle.records.proofs.joined_lot.Reads as joined-lot-reads
-use Rattle.records.proofs.joined_original.Reads as joined-original-reads
-use Rattle.records.proofs.joined_pool.Reads as joined-pool-reads
 
--- src/lib.rt:141:9
 joined-lot-requires : tie.Need-joined-lot-requires
 joined-lot-requires c κs = search needs
 
--- src/lib.rt:142:9
 joined-pool-requires : tie.Need-joined-pool-requires
 joined-pool-requires c κs = search needs
 
--- src/lib.rt:143:9
 joined-original-requires : tie.Need-joined-original-requires
 joined-original-requires c κs = search needs
 
--- src/lib.rt:132:1
 returns : tie.Need-returns
 returns c =
     let called = c .before .before .before .before .before .before .before .before .before .before .before .before in
