@@ -3,11 +3,6 @@ use Rattle.listed.proofs.Passes.{alike-end, alike-begun, alike-first}
 use borrow.Author.Needs.{needs}
 use Rattle.listed.proofs.alike_pool.Statement.{statement}
 use Rattle.listed.proofs.alike_pool.Tie as tie
-use Rattle.listed.proofs.alike_pool.Reads as reads
-use Rattle.listed.proofs.alike_pool.Lts as lts
-use Rattle.listed.proofs.last_fits.Reads as last-fits-reads
-use Rattle.terminator.proofs.is_end.Reads as is-end-reads
-use Rattle.terminator.proofs.terminator_of.Reads as terminator-of-reads
 
 terminator-of-requires : tie.Need-terminator-of-requires
 terminator-of-requires c κs = search needs

@@ -3,13 +3,6 @@ use Rattle.listed.proofs.Fine.{run-fits, search-none, search-judged, se
 use borrow.Author.Needs.{needs}
 use Rattle.listed.proofs.find_listed.Statement.{statement}
 use Rattle.listed.proofs.find_listed.Tie as tie
-use Rattle.listed.proofs.find_listed.Reads as reads
-use Rattle.listed.proofs.find_listed.Lts as lts
-use Rattle.header.proofs.message_type.Reads as message-type-reads
-use Rattle.listed.proofs.is_cc.Reads as is-cc-reads
-use Rattle.listed.proofs.judge.Reads as judge-reads
-use Rattle.places.proofs.find_places.Reads as find-places-reads
-use Rattle.places.proofs.target_run.Reads as target-run-reads
 
 message-type-requires : tie.Need-message-type-requires
 message-type-requires c κs = search needs

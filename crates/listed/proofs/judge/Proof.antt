@@ -4,11 +4,6 @@ use Rattle.listed.proofs.Judged.{judged-cc, judged-dk}
 use borrow.Author.Needs.{needs}
 use Rattle.listed.proofs.judge.Statement.{statement}
 use Rattle.listed.proofs.judge.Tie as tie
-use Rattle.listed.proofs.judge.Reads as reads
-use Rattle.listed.proofs.judge.Lts as lts
-use Rattle.listed.proofs.lots_alike.Reads as lots-alike-reads
-use Rattle.listed.proofs.mark_places.Reads as mark-places-reads
-use Rattle.listed.proofs.marks_even.Reads as marks-even-reads
 
 mark-places-requires : tie.Need-mark-places-requires
 mark-places-requires c κs = c .before .pre .cells

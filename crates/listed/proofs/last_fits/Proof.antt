@@ -3,11 +3,6 @@ use Rattle.listed.proofs.Passes.{last-is}
 use borrow.Author.Needs.{needs}
 use Rattle.listed.proofs.last_fits.Statement.{statement}
 use Rattle.listed.proofs.last_fits.Tie as tie
-use Rattle.listed.proofs.last_fits.Reads as reads
-use Rattle.listed.proofs.last_fits.Lts as lts
-use Rattle.listed.proofs.kind_number.Reads as kind-number-reads
-use Rattle.terminator.proofs.millions_of.Reads as millions-of-reads
-use Rattle.terminator.proofs.terminator_of.Reads as terminator-of-reads
 
 terminator-of-requires : tie.Need-terminator-of-requires
 terminator-of-requires c κs = search needs

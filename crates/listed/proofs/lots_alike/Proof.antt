@@ -8,12 +8,6 @@ use Rattle.listed.proofs.Passes.{AlikeLeft, alike-none, alike-more, ali
 use borrow.Author.Needs.{needs}
 use Rattle.listed.proofs.lots_alike.Statement.{statement}
 use Rattle.listed.proofs.lots_alike.Tie as tie
-use Rattle.listed.proofs.lots_alike.Reads as reads
-use Rattle.listed.proofs.lots_alike.Lts as lts
-use Rattle.layout.proofs.pool_at.Reads as pool-at-reads
-use Rattle.layout.proofs.pool_count.Reads as pool-count-reads
-use Rattle.listed.proofs.alike_pool.Reads as alike-pool-reads
-use Rattle.listed.proofs.numbers_of.Reads as numbers-of-reads
 
 abbrev Inv-loop : tie.InvT-loop
 Inv-loop numbers body at n s₀ i₀ s i = (i ≤ n) × AlikeLeft numbers body at n s i

@@ -9,12 +9,6 @@ use Rattle.listed.proofs.Passes.{MarkLeft, mark-none, mark-more, mark-p
 use borrow.Author.Needs.{needs}
 use Rattle.listed.proofs.mark_places.Statement.{statement}
 use Rattle.listed.proofs.mark_places.Tie as tie
-use Rattle.listed.proofs.mark_places.Reads as reads
-use Rattle.listed.proofs.mark_places.Lts as lts
-use Rattle.layout.proofs.pool_at.Reads as pool-at-reads
-use Rattle.layout.proofs.pool_count.Reads as pool-count-reads
-use Rattle.listed.proofs.is_listed.Reads as is-listed-reads
-use Rattle.listed.proofs.number_after.Reads as number-after-reads
 
 abbrev Inv-loop : tie.InvT-loop
 Inv-loop body at cc n fine₀ marks₀ lot₀ i₀ fine marks lot i = (i ≤ n) × (lot ≤ i + 1) × (length marks ≡ recordsMax) × MarkLeft cc body at n fine marks lot i

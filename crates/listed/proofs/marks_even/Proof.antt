@@ -5,9 +5,6 @@ use Rattle.listed.proofs.Passes.{EvenLeft, even-none, even-more, even-s
 use borrow.Author.Needs.{needs}
 use Rattle.listed.proofs.marks_even.Statement.{statement}
 use Rattle.listed.proofs.marks_even.Tie as tie
-use Rattle.listed.proofs.marks_even.Reads as reads
-use Rattle.listed.proofs.marks_even.Lts as lts
-use Rattle.listed.proofs.even_at.Reads as even-at-reads
 
 abbrev Inv-loop : tie.InvT-loop
 Inv-loop numbers marks start stop i₀ i = (i ≤ stop) × EvenLeft numbers marks start stop i

@@ -3,10 +3,6 @@ use Rattle.listed.proofs.Passes.{number-end, number-on}
 use borrow.Author.Needs.{needs}
 use Rattle.listed.proofs.number_after.Statement.{statement}
 use Rattle.listed.proofs.number_after.Tie as tie
-use Rattle.listed.proofs.number_after.Reads as reads
-use Rattle.listed.proofs.number_after.Lts as lts
-use Rattle.terminator.proofs.is_end.Reads as is-end-reads
-use Rattle.terminator.proofs.terminator_of.Reads as terminator-of-reads
 
 terminator-of-requires : tie.Need-terminator-of-requires
 terminator-of-requires c κs = search needs

@@ -5,8 +5,6 @@ use Rattle.listed.proofs.Passes.{numbers-there, numbers-none}
 use borrow.Author.Needs.{needs}
 use Rattle.listed.proofs.numbers_of.Statement.{statement}
 use Rattle.listed.proofs.numbers_of.Tie as tie
-use Rattle.listed.proofs.numbers_of.Reads as reads
-use Rattle.listed.proofs.numbers_of.Lts as lts
 
 array-read-if1 : tie.Need-array-read-if1
 array-read-if1 c = search needs
