@@ -145,10 +145,3 @@ pub fn good_lot_fails(
         | too_light(sum, millions, variance)
         | over(pools, millions, pools_a_million)
 }
-
-// The pools of a message before anything is stored: current faces in cents and terminators, zeros after count.
-pub struct Staged {
-    pub count: usize,
-    pub faces: [u64; layout::POOLS_MAX],
-    pub terminators: [u64; layout::POOLS_MAX],
-}

@@ -3,7 +3,7 @@ use Prim.Native.Nat.{ℕ, zero, suc, _+_, _-_, _≤_}
 use native.Mathlib.Omega.{arith}
 use native.Mathlib.Nat.{sub-zero, suc-sub-suc}
 use mathlib.Core.Path.{_≡_, refl, sym, ap, _∙_}
-use mathlib.Core.List.{List, [], _++_, map, append-assoc}
+use mathlib.Core.List.{List, [], _++_, map, append-assoc, append-nil}
 use mathlib.Core.Bool.{Bool, true, false, not, true≢false, and-false}
 use lib.ListN.{length, take, drop, replicate, length-append, length-replicate, replicate-append-replicate, take-append-drop}
 use lib.Seq.{length-take-le, take-append-seam, drop-append-add}
@@ -116,17 +116,11 @@ module _ (body : List ℕ) (message trade : ℕ) (k : MessageType) (b : Bool) (e
   brings-all at r t u e er eu = rw (brings e) (er, eu)
 
   -- another brings nothing
-  pub brings-none : (t : List Pool) (at : ℕ) → b ≡ false → at ≤ length t
-      → (at ≡ at + length (bringing body message trade)) × (t ≡ pasted t at (bringing body message trade))
-  brings-none t at e h =
-      let n : bringing body message trade ≡ [] = ap (recordsOf message trade 1) (none-brought k body ek (sym eb ∙ e)) in
-      (rw n (omega arith), rw n (nothing t at h))
-    where
-      nothing : (t : List Pool) (at : ℕ) → at ≤ length t → t ≡ pasted t at []
-      nothing t at h =
-          let w : within t at 0 ≡ true = in-within t at 0 h (omega arith) in
-          let e : at + 0 ≡ at = omega arith in
-          sym (paste-in t at [] w ∙ ap (λ (n : ℕ). take at t ++ drop n t) e ∙ take-append-drop at t)
+  pub brings-none : (n r : ℕ) (rs u : List Pool) → b ≡ false → r ≡ length rs → u ≡ filled n rs
+      → (r ≡ length (rs ++ bringing body message trade)) × (u ≡ filled n (rs ++ bringing body message trade))
+  brings-none n r rs u e er eu =
+      let q : bringing body message trade ≡ [] = ap (recordsOf message trade 1) (none-brought k body ek (sym eb ∙ e)) in
+      rw (q, append-nil) (er, eu)
 
 -- new records in the place of the first zeros
 pub filled-more : (n : ℕ) (rs new : List Pool) → length (rs ++ new) ≤ n → pasted (filled n rs) (length rs) new ≡ filled n (rs ++ new)

@@ -2,9 +2,8 @@
 use tally::MessageType;
 ghost use mathlib.Core.Path.{_≡_};
 ghost use mathlib.Core.List.{_++_};
-ghost use Prim.Native.Nat.{_+_, _≤_};
+ghost use Prim.Native.Nat.{_≤_};
 ghost use lib.ListN.{length, take};
-ghost use Rattle.lists.specs.Lists.{pasted};
 ghost use Rattle.book.specs.Checks.{onOrCc, ccOrDk};
 ghost use Rattle.table.specs.Rows.{tableOf};
 ghost use Rattle.moves.specs.Moves.{remaining, bringing, filled, Movable};
@@ -52,27 +51,7 @@ fn take_off(
     live
 }
 
-// Stores the new lots of a message from a row on, and gives back the row after them.
-fn bring(
-    numbers: &mut [[u64; 6]],
-    keys: &mut [[u8; 22]],
-    at: usize,
-    body: &[u8],
-    message: u64,
-    trade: u64,
-) -> usize
-    requires { ⌜ (length (now keys) ≡ length (now numbers)) × (at + length (bringing (now body) message trade) ≤ length (now numbers)) ⌝ }
-    ensures { λ r. ⌜ (r ≡ at + length (bringing (now (body .entry)) message trade))
-        × (tableOf (now (numbers .exit)) (now (keys .exit)) ≡ pasted (tableOf (now (numbers .entry)) (now (keys .entry))) at (bringing (now (body .entry)) message trade)) ⌝ }
-{
-    let kind = header::message_type(body);
-    if brings_lots(kind) {
-        return new_pools::put_lots(&mut *numbers, &mut *keys, at, body, message, trade);
-    }
-    at
-}
-
-// Moves the table for an accepted message, and gives back how many records are live after it.
+// Moves the table for an accepted message, and gives back how many records are live after it. What it brings is staged before any record moves.
 pub fn move_table(
     numbers: &mut [[u64; 6]],
     keys: &mut [[u8; 22]],
@@ -87,6 +66,22 @@ pub fn move_table(
     ensures { λ r. ⌜ (r ≡ length (remaining (now (body .entry)) (take live (tableOf (now (numbers .entry)) (now (keys .entry)))) ++ bringing (now (body .entry)) message trade))
         × (tableOf (now (numbers .exit)) (now (keys .exit)) ≡ filled (length (now (numbers .entry))) (remaining (now (body .entry)) (take live (tableOf (now (numbers .entry)) (now (keys .entry)))) ++ bringing (now (body .entry)) message trade)) ⌝ }
 {
+    let kind = header::message_type(body);
+    if !brings_lots(kind) {
+        return take_off(&mut *numbers, &mut *keys, live, body, marks);
+    }
+    let staged = new_pools::stage(body);
+    let faces = staged.faces;
+    let terminators = staged.terminators;
     let left = take_off(&mut *numbers, &mut *keys, live, body, marks);
-    bring(&mut *numbers, &mut *keys, left, body, message, trade)
+    new_pools::put_lots(
+        &mut *numbers,
+        &mut *keys,
+        left,
+        body,
+        &faces,
+        &terminators,
+        message,
+        trade,
+    )
 }

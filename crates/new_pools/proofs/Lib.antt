@@ -1,3 +1,4 @@
+pub mod Staging
 pub mod Heads
 pub mod Pools
 pub mod Turns

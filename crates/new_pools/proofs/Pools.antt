@@ -13,32 +13,37 @@ use Rattle.layout.specs.Details.{details, poolCount, detailAt, placeOf, noDetai
 use Rattle.layout.proofs.Passes as passes
 use Rattle.layout.proofs.Reader.{length-details}
 use Rattle.terminator.specs.Lots.{currentCents}
-use Rattle.faces.specs.declared.Staged.{Staged}
-use Rattle.faces.specs.Faces.{staged}
 use Rattle.book.specs.declared.Pool.{Pool}
 use Rattle.book.specs.Records.{noPool}
 use Rattle.new_pools.specs.declared.Common.{Common}
-use Rattle.new_pools.specs.Stored.{recordWith, recordFrom, recordsFrom, AreFaces}
+use Rattle.new_pools.specs.declared.Staged.{Staged}
+use Rattle.new_pools.specs.Staged.{terminatorNumber, padded, staged, AreStaged}
+use Rattle.new_pools.specs.Stored.{recordWith, recordFrom, recordsFrom}
 
--- ---- the faces staged
+-- ---- the numbers staged
 map-at : {A : Type 0} (f : A → ℕ) (l : List A) (i : ℕ) (d : A) → i < length l → getD (map f l) i 0 ≡ f (getD l i d)
 map-at f [] i d h = absurd (omega arith)
 map-at f (x ∷ l) zero d h = refl
 map-at f (x ∷ l) (suc i) d h = map-at f l i d (omega arith)
 
-pub staged-faces : (body : List ℕ) (r : Staged) → r ≡ staged (details body) → AreFaces body (r .faces)
-unfolding staged details
-staged-faces body r e i h =
-    let l : i < length (details body) = rw (length-details body) h in
-    let m : i < length (map currentCents (details body)) = rw (length-map (details body) currentCents) l in
-    ap (λ (x : Staged). getD (x .faces) i 0) e
-    ∙ List·getD-append (map currentCents (details body)) _ 0 i m
-    ∙ map-at currentCents (details body) i noDetail l
-    ∙ ap currentCents (getD-tab (passes.poolOf body) (poolCount body) 0 i noDetail h ∙ ap (passes.poolOf body) (zero-add i))
+module _ (f : Detail → ℕ) (body : List ℕ) where
+  padded-at : AreStaged f body (padded (map f (details body)))
+  unfolding details
+  padded-at i h =
+      let l : i < length (details body) = rw (length-details body) h in
+      let m : i < length (map f (details body)) = rw (length-map (details body) f) l in
+      List·getD-append (map f (details body)) _ 0 i m
+      ∙ map-at f (details body) i noDetail l
+      ∙ ap f (getD-tab (passes.poolOf body) (poolCount body) 0 i noDetail h ∙ ap (passes.poolOf body) (zero-add i))
 
-pub staged-count : (body : List ℕ) (r : Staged) → r ≡ staged (details body) → r .count ≡ poolCount body
-unfolding staged
-staged-count body r e = ap (λ (x : Staged). x .count) e ∙ length-details body
+module _ (body : List ℕ) (r : Staged) (e : r ≡ staged (details body)) where
+  pub staged-faces : AreStaged currentCents body (r .faces)
+  unfolding staged
+  staged-faces i h = ap (λ (x : Staged). getD (x .faces) i 0) e ∙ padded-at currentCents body i h
+
+  pub staged-terminators : AreStaged terminatorNumber body (r .terminators)
+  unfolding staged
+  staged-terminators i h = ap (λ (x : Staged). getD (x .terminators) i 0) e ∙ padded-at terminatorNumber body i h
 
 -- ---- the loop
 module _ (body : List ℕ) (s : Common) (first n at : ℕ) (t₀ : List Pool) where

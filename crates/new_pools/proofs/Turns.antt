@@ -14,16 +14,21 @@ use Rattle.lists.proofs.Pasting.{paste-in, paste-out, paste-more}
 use Rattle.layout.specs.Details.{details, poolCount}
 use Rattle.layout.proofs.Passes as passes
 use Rattle.layout.proofs.Reader.{length-details}
-use Rattle.terminator.specs.declared.LotHead.{LotHead}
-use Rattle.terminator.specs.Terminators.{digitCanceled, one}
+use Rattle.terminator.specs.declared.Terminator.{Terminator}
+use Rattle.terminator.specs.Terminators.{digitCanceled, kindOf, millionsOf, one, term}
 use Rattle.terminator.specs.Lots.{Lot, poolsOf, lotKind, lotMillions, lots}
 use Rattle.faces.specs.Faces.{isNewLot, newLots}
 use Rattle.book.specs.declared.Pool.{Pool}
 use Rattle.book.specs.Records.{kindNumber, poolOf, recordsOf}
 use Rattle.new_pools.specs.declared.Common.{Common}
+use Rattle.new_pools.specs.Staged.{terminatorNumber, numberOne, numberTerm}
 use Rattle.new_pools.specs.Stored.{commonOf, recordFrom, recordsFrom}
 use Rattle.new_pools.proofs.Pools.{length-records}
-use Rattle.new_pools.proofs.Heads.{Heads}
+use Rattle.new_pools.proofs.Heads.{number-one, number-term, Heads}
+
+pub common-is : (number message ordinal trade kind millions : ℕ) → kind ≡ kindNumber (kindOf (numberTerm number)) → millions ≡ millionsOf (numberTerm number)
+    → _≡_ {A = Common} (record { message = message; ordinal = ordinal; trade = trade; kind = kind; millions = millions }) (commonOf number message ordinal trade)
+common-is number message ordinal trade kind millions ek em = rw (ek, em)
 
 paste-nil : {A : Type 0} (t : List A) (at : ℕ) → pasted t at [] ≡ t
 paste-nil t at = go (within t at 0) refl
@@ -66,45 +71,53 @@ module _ (message trade at : ℕ) (body : List ℕ) (t₀ : List Pool) where
         let l : length (details body) ≤ next = rw (length-details body) h in
         ap lots (drop-of-length-le (details body) l)
 
-    module _ (h : LotHead) (s : Heads body next h) where
-      pub storing-canceled : h .one ≡ digitCanceled → Storing t place ordinal (h .last + 1)
+    module _ (last : ℕ) (s : Heads body next last) (number : ℕ) (en : number ≡ terminatorNumber (passes.poolOf body last)) where
+      -- the staged terminator is that of the lot's last pool
+      same-one : numberOne number ≡ one (s .lot .last)
+      same-one = ap numberOne en ∙ number-one (passes.poolOf body last) ∙ ap one (sym (s .same-last))
+
+      same-term : numberTerm number ≡ term (s .lot .last)
+      same-term = ap numberTerm en ∙ number-term (passes.poolOf body last) ∙ ap term (sym (s .same-last))
+
+      pub storing-canceled : numberOne number ≡ digitCanceled → Storing t place ordinal (last + 1)
       storing-canceled e =
-          let c : eqb (one (s .lot .last)) digitCanceled ≡ true = eq-eqb (one (s .lot .last)) digitCanceled (sym (s .same-one) ∙ e) in
-          let k : left next ordinal ≡ left (h .last + 1) ordinal = ap (λ (ls : List Lot). recordsOf message trade ordinal (keep isNewLot ls)) (s .after) ∙ rw c in
+          let c : eqb (one (s .lot .last)) digitCanceled ≡ true = eq-eqb (one (s .lot .last)) digitCanceled (sym same-one ∙ e) in
+          let k : left next ordinal ≡ left (last + 1) ordinal = ap (λ (ls : List Lot). recordsOf message trade ordinal (keep isNewLot ls)) (s .after) ∙ rw c in
           record { table = ap (pasted t place) (sym k) ∙ inv .table; end = ap (λ (l : List Pool). place + length l) (sym k) ∙ inv .end }
 
       -- the records of the lot
-      lot-records : (q : Common) → q ≡ commonOf h message ordinal trade → map (poolOf message ordinal trade (s .lot)) (poolsOf (s .lot)) ≡ recordsFrom body q next (h .last + 1 - next)
+      lot-records : (q : Common) → q ≡ commonOf number message ordinal trade → map (poolOf message ordinal trade (s .lot)) (poolsOf (s .lot)) ≡ recordsFrom body q next (last + 1 - next)
       unfolding recordsFrom
       lot-records q e =
-          let k : q ≡ record { message = message; ordinal = ordinal; trade = trade; kind = kindNumber (lotKind (s .lot)); millions = lotMillions (s .lot) } = e ∙ rw (s .same-kind, s .same-millions) in
+          let k : q ≡ record { message = message; ordinal = ordinal; trade = trade; kind = kindNumber (lotKind (s .lot)); millions = lotMillions (s .lot) } =
+          e ∙ ap {B = Common} (λ (x : Terminator). record { message = message; ordinal = ordinal; trade = trade; kind = kindNumber (kindOf x); millions = millionsOf x }) same-term in
           ap (map (poolOf message ordinal trade (s .lot))) (s .pools)
-          ∙ map-tab (poolOf message ordinal trade (s .lot)) (passes.poolOf body) (h .last + 1 - next) next
-          ∙ ap (λ (x : Common). tab (recordFrom body x) (h .last + 1 - next) next) (sym k)
+          ∙ map-tab (poolOf message ordinal trade (s .lot)) (passes.poolOf body) (last + 1 - next) next
+          ∙ ap (λ (x : Common). tab (recordFrom body x) (last + 1 - next) next) (sym k)
 
-      module _ (d : h .one ≡ digitCanceled → ⊥) (q : Common) (e : q ≡ commonOf h message ordinal trade) where
-        brought : left next ordinal ≡ recordsFrom body q next (h .last + 1 - next) ++ left (h .last + 1) (ordinal + 1)
+      module _ (d : numberOne number ≡ digitCanceled → ⊥) (q : Common) (e : q ≡ commonOf number message ordinal trade) where
+        brought : left next ordinal ≡ recordsFrom body q next (last + 1 - next) ++ left (last + 1) (ordinal + 1)
         brought =
-            let c : eqb (one (s .lot .last)) digitCanceled ≡ false = ne-eqb (one (s .lot .last)) digitCanceled (λ f. d (s .same-one ∙ f)) in
-            let k : recordsOf message trade ordinal (keep isNewLot (s .lot ∷ lots (drop (h .last + 1) (details body)))) ≡ map (poolOf message ordinal trade (s .lot)) (poolsOf (s .lot)) ++ left (h .last + 1) (ordinal + 1) = rw c in
+            let c : eqb (one (s .lot .last)) digitCanceled ≡ false = ne-eqb (one (s .lot .last)) digitCanceled (λ f. d (same-one ∙ f)) in
+            let k : recordsOf message trade ordinal (keep isNewLot (s .lot ∷ lots (drop (last + 1) (details body)))) ≡ map (poolOf message ordinal trade (s .lot)) (poolsOf (s .lot)) ++ left (last + 1) (ordinal + 1) = rw c in
             ap (λ (ls : List Lot). recordsOf message trade ordinal (keep isNewLot ls)) (s .after) ∙ k
-            ∙ ap (λ (l : List Pool). l ++ left (h .last + 1) (ordinal + 1)) (lot-records q e)
+            ∙ ap (λ (l : List Pool). l ++ left (last + 1) (ordinal + 1)) (lot-records q e)
 
-        counted : place + (h .last + 1 - next) + length (left (h .last + 1) (ordinal + 1)) ≡ at + length whole
+        counted : place + (last + 1 - next) + length (left (last + 1) (ordinal + 1)) ≡ at + length whole
         counted =
-            omega (arith, sym (inv .end), ap length brought, length-append (recordsFrom body q next (h .last + 1 - next)) (left (h .last + 1) (ordinal + 1)), length-records body q next (h .last + 1 - next) place t)
+            omega (arith, sym (inv .end), ap length brought, length-append (recordsFrom body q next (last + 1 - next)) (left (last + 1) (ordinal + 1)), length-records body q next (last + 1 - next) place t)
 
-        pub room : place + (h .last + 1 - next) ≤ at + length whole
+        pub room : place + (last + 1 - next) ≤ at + length whole
         room = omega (arith, counted)
 
-        pub storing-new : (u : List Pool) → u ≡ pasted t place (recordsFrom body q next (h .last + 1 - next)) → at + length whole ≤ length t
-            → Storing u (place + (h .last + 1 - next)) (ordinal + 1) (h .last + 1)
+        pub storing-new : (u : List Pool) → u ≡ pasted t place (recordsFrom body q next (last + 1 - next)) → at + length whole ≤ length t
+            → Storing u (place + (last + 1 - next)) (ordinal + 1) (last + 1)
         storing-new u f l =
-            let n : place + length (recordsFrom body q next (h .last + 1 - next)) ≡ place + (h .last + 1 - next) = ap (λ (k : ℕ). place + k) (length-records body q next (h .last + 1 - next) place t) in
+            let n : place + length (recordsFrom body q next (last + 1 - next)) ≡ place + (last + 1 - next) = ap (λ (k : ℕ). place + k) (length-records body q next (last + 1 - next) place t) in
             record {
               table =
-                  ap (λ (x : List Pool). pasted x (place + (h .last + 1 - next)) (left (h .last + 1) (ordinal + 1))) f
-                  ∙ paste-more t place (recordsFrom body q next (h .last + 1 - next)) (left (h .last + 1) (ordinal + 1)) (place + (h .last + 1 - next)) n (omega (arith, counted))
+                  ap (λ (x : List Pool). pasted x (place + (last + 1 - next)) (left (last + 1) (ordinal + 1))) f
+                  ∙ paste-more t place (recordsFrom body q next (last + 1 - next)) (left (last + 1) (ordinal + 1)) (place + (last + 1 - next)) n (omega (arith, counted))
                   ∙ ap (pasted t place) (sym brought) ∙ inv .table;
               end = counted;
             }

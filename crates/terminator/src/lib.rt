@@ -129,7 +129,8 @@ fn is_bad(t: Terminator) -> bool
     }
 }
 
-fn kind_of(t: Terminator) -> Kind
+// The kind of the lot that a terminator ends.
+pub fn kind_of(t: Terminator) -> Kind
     ensures { λ r. ⌜ r ≡ kindOf t ⌝ }
 {
     match t {

@@ -1,18 +1,37 @@
--- The kind is the number that the call gives; the rest is handed on.
-use mathlib.Core.Path.{ap}
-use Prim.Native.Nat.{ℕ}
-use Rattle.new_pools.specs.declared.Common.{Common}
+-- Kind and millions are what the calls give; the rest is handed on.
+use mathlib.Core.Path.{ap, _∙_}
+use Rattle.terminator.specs.Terminators.{kindOf, millionsOf}
+use Rattle.book.specs.Records.{kindNumber}
+use Rattle.new_pools.proofs.Turns.{common-is}
 use borrow.Author.Needs.{needs}
 use Rattle.new_pools.proofs.common_of.Statement.{statement}
 use Rattle.new_pools.proofs.common_of.Tie as tie
 
+staged-term-requires : tie.Need-staged-term-requires
+staged-term-requires c κs = search needs
+
+kind-of-requires : tie.Need-kind-of-requires
+kind-of-requires c κs = search needs
+
 kind-number-requires : tie.Need-kind-number-requires
 kind-number-requires c κs = search needs
 
+millions-of-requires : tie.Need-millions-of-requires
+millions-of-requires c κs = search needs
+
 returns : tie.Need-returns
 returns c =
-    let a = c .before .args in
-    ap {B = Common} (λ (k : ℕ). record { message = a .message; ordinal = a .ordinal; trade = a .trade; kind = k; millions = a .l .millions }) (c .kind-number .ensures)
+    let a = c .before .before .before .before .args in
+    let t = c .before .before .before .staged-term .ensures in
+    common-is (a .number) (a .message) (a .ordinal) (a .trade) _ _
+    (c .before .kind-number .ensures ∙ ap kindNumber (c .before .before .kind-of .ensures ∙ ap kindOf t)) (c .millions-of .ensures ∙ ap millionsOf t)
 
 pub common-of-spec : {M : Type 1} → statement M
-common-of-spec = tie.close (tie.spec kind-number-requires returns)
+common-of-spec =
+    tie.close
+    (tie.spec
+    staged-term-requires
+    kind-of-requires
+    kind-number-requires
+    millions-of-requires
+    returns)

@@ -2,7 +2,7 @@
 use mathlib.Core.Path.{_≡_, sym, ap, _∙_}
 use mathlib.Core.List.{List, _++_, map}
 use mathlib.Core.Bool.{true}
-use Prim.Native.Nat.{ℕ, zero, _+_, _-_, _≤_, _<_}
+use Prim.Native.Nat.{ℕ, _+_, _-_, _≤_, _<_}
 use native.Mathlib.Nat.{zero-add}
 use native.Mathlib.Omega.{arith}
 use lib.ListN.{length, drop, set, replicate, length-replicate, replicate-append-replicate}
@@ -14,10 +14,9 @@ use Rattle.lists.proofs.Pasting.{Pasting, pasting-none, pasting-more, pasting-d
 use Rattle.layout.specs.declared.Detail.{Detail}
 use Rattle.layout.specs.Details.{details, poolCount}
 use Rattle.layout.proofs.Passes.{poolOf}
-use Rattle.layout.proofs.Reader.{length-details}
 use Rattle.terminator.specs.Lots.{currentCents}
-use Rattle.faces.specs.declared.Staged.{Staged}
-use Rattle.faces.specs.Faces.{padded, terminatorNumber, staged}
+use Rattle.new_pools.specs.declared.Staged.{Staged}
+use Rattle.new_pools.specs.Staged.{padded, terminatorNumber, staged}
 
 drop-replicate : (most n : ℕ) → n ≤ most → drop {A = ℕ} n (replicate most 0) ≡ replicate (most - n) 0
 drop-replicate most n h =
@@ -63,8 +62,7 @@ module _ (most : ℕ) (f : Detail → ℕ) (body : List ℕ) (n : ℕ) where
         ∙ paste-zeros most numbers (omega arith)
         ∙ ap (λ (l : List ℕ). l ++ replicate (most - length l) 0) s
 
-pub staged-is : (body faces terminators : List ℕ) (n : ℕ) → n ≡ poolCount body → faces ≡ padded (map currentCents (details body))
-    → terminators ≡ padded (map terminatorNumber (details body))
-    → _≡_ {A = Staged} (record { count = n; faces = faces; terminators = terminators }) (staged (details body))
+pub staged-is : (body faces terminators : List ℕ) → faces ≡ padded (map currentCents (details body)) → terminators ≡ padded (map terminatorNumber (details body))
+    → _≡_ {A = Staged} (record { faces = faces; terminators = terminators }) (staged (details body))
 unfolding staged
-staged-is body faces terminators n e f t = rw (e ∙ sym (length-details body), f, t)
+staged-is body faces terminators f t = rw (f, t)

@@ -6,11 +6,11 @@ use lib.ListN.{length, length-set, length-replicate}
 use Rattle.layout.specs.Details.{poolsMax}
 use Rattle.layout.proofs.Lengths.{count-max}
 use Rattle.terminator.specs.Lots.{currentCents}
-use Rattle.faces.specs.Faces.{terminatorNumber}
-use Rattle.staging.proofs.Staging.{Staging, staging-none, staging-more, staging-done, staged-is}
+use Rattle.new_pools.specs.Staged.{terminatorNumber}
+use Rattle.new_pools.proofs.Staging.{Staging, staging-none, staging-more, staging-done, staged-is}
 use borrow.Author.Needs.{needs}
-use Rattle.staging.proofs.stage.Statement.{statement}
-use Rattle.staging.proofs.stage.Tie as tie
+use Rattle.new_pools.proofs.stage.Statement.{statement}
+use Rattle.new_pools.proofs.stage.Tie as tie
 
 abbrev Inv-loop : tie.InvT-loop
 Inv-loop body faces₀ terminators₀ n i₀ faces terminators i =
@@ -80,7 +80,7 @@ returns c =
     let l = c .before .loop in
     let e = c .before .before .pool-count .ensures in
     let k = count-max b in
-    staged-is b (l .faces) (l .terminators) _ e
+    staged-is b (l .faces) (l .terminators)
     (staging-done poolsMax currentCents b _ (l .faces) (l .i) (l .inv .3) (omega arith) (omega arith) e (omega arith))
     (staging-done poolsMax terminatorNumber b _ (l .terminators) (l .i) (l .inv .4) (omega arith) (omega arith) e (omega arith))
 
