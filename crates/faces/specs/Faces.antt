@@ -1,21 +1,18 @@
--- The faces of a message's pools: checks 34 and 35, the weight of its new lots, and its pools as they are staged (01, "The trader", "The book").
+-- The faces of a message's pools: checks 34 and 35, and the weight of its new lots (01, "The trader").
 use Prim.Native.Nat.{ℕ, _+_, _-_, _*_}
-use mathlib.Core.List.{List, _++_, map}
+use mathlib.Core.List.{List}
 use mathlib.Core.Bool.{Bool, true, false, not, _&&_, _||_}
-use lib.ListN.{length, replicate}
+use lib.ListN.{length}
 use lib.Dec.{ltb}
 use Rattle.lists.specs.Lists.{keep, any, sumOf}
 use Rattle.fields.specs.declared.Field.{Field}
 use Rattle.fields.specs.declared.Field.the-variants.{Number, NotDigits}
 use Rattle.fields.specs.Fields.{readNumber}
 use Rattle.layout.specs.declared.Detail.{Detail}
-use Rattle.layout.specs.Columns.{originalFace, currentFace, terminator}
-use Rattle.layout.specs.Details.{poolsMax}
+use Rattle.layout.specs.Columns.{originalFace, currentFace}
 use Rattle.terminator.specs.Terminators.{isCanceled, isGood}
 use Rattle.terminator.specs.Lots.{Lot, poolsOf, lotKind, lotMillions, lots, currentCents, millionCents, lotWeight}
 use Rattle.terminator.specs.Groups.{lotCanceled}
-use Rattle.faces.specs.declared.FaceCheck.{FaceCheck}
-use Rattle.faces.specs.declared.Staged.{Staged}
 
 -- ---- the new pools and lots of a message: an ON's, and a CC's that are not canceled
 abbrev pub isNew : Detail → Bool
@@ -48,10 +45,6 @@ currentFails NotDigits = true
 unfoldable pub faceFails : ℕ → Detail → Bool
 faceFails least d = currentFails (readNumber (d .current) 0 (currentFace .width)) || originalFails least (readNumber (d .original) 0 (originalFace .width))
 
--- a pass over the pools: whether this one or one before it is new and fails 34
-unfoldable pub checkFace : FaceCheck → Detail → FaceCheck
-checkFace s d = record { least = s .least; fails = s .fails || (isNew d && faceFails (s .least) d) }
-
 -- 34 of a message: some new pool fails it
 unfoldable pub facesFail : ℕ → List Detail → Bool
 facesFail least ds = any (faceFails least) (newPools ds)
@@ -77,22 +70,3 @@ lotsFail variance poolsAMillion ds = any (lotFails variance poolsAMillion) (newL
 -- ---- 38: the weight that a message brings is that of its new lots
 unfoldable pub newWeight : List Detail → ℕ
 newWeight ds = sumOf lotWeight (newLots ds)
-
--- ---- staging: a terminator as one number of four digits, or one that no four digits make
-abbrev pub noTerminator : ℕ
-noTerminator = 10000
-
-abbrev pub fourDigits : Field → ℕ
-fourDigits (Number n) = n
-fourDigits NotDigits = noTerminator
-
-unfoldable pub terminatorNumber : Detail → ℕ
-terminatorNumber d = fourDigits (readNumber (d .terminator) 0 (terminator .width))
-
--- an array with a number for each pool of a message, and zeros after them
-abbrev pub padded : List ℕ → List ℕ
-padded xs = xs ++ replicate (poolsMax - length xs) 0
-
--- the pools of a message before anything is stored: current faces in cents (0 where not digits), and terminators
-unfoldable pub staged : List Detail → Staged
-staged ds = record { count = length ds; faces = padded (map currentCents ds); terminators = padded (map terminatorNumber ds) }

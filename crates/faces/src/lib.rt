@@ -7,7 +7,8 @@ ghost use Prim.Native.Nat.{_-_, _*_};
 ghost use Rattle.lists.specs.Lists.{fold};
 ghost use Rattle.layout.specs.Details.{details};
 ghost use Rattle.terminator.specs.Lots.{millionCents};
-ghost use Rattle.faces.specs.Faces.{isNew, currentFails, originalFails, faceFails, checkFace, facesFail, goodLotFails};
+ghost use Rattle.faces.specs.Faces.{isNew, currentFails, originalFails, faceFails, facesFail, goodLotFails};
+ghost use Rattle.faces.specs.Passes.{checkFace};
 
 // The highest original face, in whole dollars.
 pub const ORIGINAL_MOST: u64 = 50000000;
@@ -144,11 +145,4 @@ pub fn good_lot_fails(
     too_heavy(sum, millions, variance)
         | too_light(sum, millions, variance)
         | over(pools, millions, pools_a_million)
-}
-
-// The pools of a message before anything is stored: current faces in cents and terminators, zeros after count.
-pub struct Staged {
-    pub count: usize,
-    pub faces: [u64; layout::POOLS_MAX],
-    pub terminators: [u64; layout::POOLS_MAX],
 }

@@ -17,7 +17,8 @@ use Rattle.terminator.specs.declared.LotHead.{LotHead}
 use Rattle.terminator.specs.declared.LotRead.{LotRead}
 use Rattle.terminator.specs.declared.LotRead.the-variants.{Found, Nothing}
 use Rattle.terminator.specs.Terminators.{isEnd, one, term}
-use Rattle.terminator.specs.Lots.{Lot, poolsOf, lotKind, lotMillions, lotsFrom, lots, lotEnded, firstLot}
+use Rattle.terminator.specs.Lots.{Lot, poolsOf, lotKind, lotMillions, lotsFrom, lots}
+use Rattle.terminator.specs.Reading.{lotEnded, firstLot}
 
 -- ---- the first lot of a list, and what is left after it
 record Split (ls : List Lot) (ds : List Detail) : Type 0 where

@@ -13,8 +13,8 @@ use Rattle.layout.specs.Details.{details, poolCount, detailAt, placeOf, noDetai
 use Rattle.layout.proofs.Passes as passes
 use Rattle.layout.proofs.Reader.{length-details}
 use Rattle.terminator.specs.Lots.{currentCents}
-use Rattle.faces.specs.declared.Staged.{Staged}
-use Rattle.faces.specs.Faces.{staged}
+use Rattle.staging.specs.declared.Staged.{Staged}
+use Rattle.staging.specs.Pools.{staged}
 use Rattle.book.specs.declared.Pool.{Pool}
 use Rattle.book.specs.Records.{noPool}
 use Rattle.new_pools.specs.declared.Common.{Common}

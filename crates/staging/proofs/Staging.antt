@@ -2,7 +2,7 @@
 use mathlib.Core.Path.{_≡_, sym, ap, _∙_}
 use mathlib.Core.List.{List, _++_, map}
 use mathlib.Core.Bool.{true}
-use Prim.Native.Nat.{ℕ, zero, _+_, _-_, _≤_, _<_}
+use Prim.Native.Nat.{ℕ, _+_, _-_, _≤_, _<_}
 use native.Mathlib.Nat.{zero-add}
 use native.Mathlib.Omega.{arith}
 use lib.ListN.{length, drop, set, replicate, length-replicate, replicate-append-replicate}
@@ -16,8 +16,8 @@ use Rattle.layout.specs.Details.{details, poolCount}
 use Rattle.layout.proofs.Passes.{poolOf}
 use Rattle.layout.proofs.Reader.{length-details}
 use Rattle.terminator.specs.Lots.{currentCents}
-use Rattle.faces.specs.declared.Staged.{Staged}
-use Rattle.faces.specs.Faces.{padded, terminatorNumber, staged}
+use Rattle.staging.specs.declared.Staged.{Staged}
+use Rattle.staging.specs.Pools.{padded, terminatorNumber, staged}
 
 drop-replicate : (most n : ℕ) → n ≤ most → drop {A = ℕ} n (replicate most 0) ≡ replicate (most - n) 0
 drop-replicate most n h =

@@ -1,10 +1,16 @@
 // The pools of a message staged before anything is stored: their current faces and terminators.
-use faces::Staged;
 use fields::Field;
 use layout::Detail;
 ghost use mathlib.Core.Path.{_≡_};
 ghost use Rattle.layout.specs.Details.{details};
-ghost use Rattle.faces.specs.Faces.{fourDigits, terminatorNumber, staged};
+ghost use Rattle.staging.specs.Pools.{fourDigits, terminatorNumber, staged};
+
+// The pools of a message before anything is stored: current faces in cents and terminators, zeros after count.
+pub struct Staged {
+    pub count: usize,
+    pub faces: [u64; layout::POOLS_MAX],
+    pub terminators: [u64; layout::POOLS_MAX],
+}
 
 // What a terminator is staged as where it is not four digits.
 pub const NO_TERMINATOR: u64 = 10000;

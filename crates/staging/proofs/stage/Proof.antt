@@ -6,7 +6,7 @@ use lib.ListN.{length, length-set, length-replicate}
 use Rattle.layout.specs.Details.{poolsMax}
 use Rattle.layout.proofs.Lengths.{count-max}
 use Rattle.terminator.specs.Lots.{currentCents}
-use Rattle.faces.specs.Faces.{terminatorNumber}
+use Rattle.staging.specs.Pools.{terminatorNumber}
 use Rattle.staging.proofs.Staging.{Staging, staging-none, staging-more, staging-done, staged-is}
 use borrow.Author.Needs.{needs}
 use Rattle.staging.proofs.stage.Statement.{statement}

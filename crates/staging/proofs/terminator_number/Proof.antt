@@ -1,6 +1,6 @@
 -- The field is read at its width and gives its number or the one that no four digits make.
 use mathlib.Core.Path.{ap, _∙_}
-use Rattle.faces.specs.Faces.{fourDigits, terminatorNumber}
+use Rattle.staging.specs.Pools.{fourDigits, terminatorNumber}
 use borrow.Author.Needs.{needs}
 use Rattle.staging.proofs.terminator_number.Statement.{statement}
 use Rattle.staging.proofs.terminator_number.Tie as tie
