@@ -2,15 +2,14 @@
 use Prim.Native.Nat.{ℕ}
 use mathlib.Core.Path.{_≡_, refl, sym, ap, _∙_}
 use mathlib.Core.List.{List, [], _∷_, map}
-use mathlib.Core.Bool.{Bool, true, false, cond, not, _&&_, _||_, false≢true}
-use lib.Dec.{eqb, leb}
+use mathlib.Core.Bool.{Bool, true, false, cond, not, _&&_, false≢true}
+use lib.Dec.{eqb}
 use borrow.Author.Tests.{not-false}
-use Rattle.lists.specs.Lists.{any}
+use Rattle.lists.specs.Lists.{any, all, between}
 use Rattle.layout.specs.Details.{lengthFits, details}
 use Rattle.terminator.specs.Lots.{formedFor}
 use Rattle.terminator.specs.Groups.{groupsFormed, groupsBalanced}
 use Rattle.faces.specs.Faces.{newPools}
-use Rattle.sequence.specs.Sequence.{arrivalOf, outboundSpent}
 use Rattle.tally.specs.declared.MessageType.{MessageType}
 use Rattle.book.specs.declared.Reason.{Reason}
 use Rattle.book.specs.declared.Verdict.{Verdict}
@@ -18,15 +17,19 @@ use Rattle.book.specs.declared.Verdict.the-variants.{Passes, Fails}
 use Rattle.book.specs.declared.Answer.the-variants.{Rejected, Dked}
 use Rattle.book.specs.Reasons.{numberOf, isAccepted}
 use Rattle.book.specs.Records.{fieldsOf, distinct}
-use Rattle.book.specs.Messages.{typeOf, idIn, targetOf, under}
-use Rattle.book.specs.Opening.{elevenDigitsMax, between}
+use Rattle.book.specs.Messages.{typeOf, targetOf, under}
 use Rattle.book.specs.Soundness.{isSound}
-use Rattle.book.specs.Checks.{Call, live, trades, targetTrade, sequenceFails, arrived, isDuplicate, isOther, isCc, isDk, isCx, onOrCc, ccOrDk, idFails, termsFail, listedFine, parFine, tableFine, Check, checks, refusal, firstFailing, answerTo, answerOf}
+use Rattle.book.specs.Checks.{Call, live, numbersSpent, sequenceFails, sequenceRepeats, typeUnknown, isCc, isDk, isCx, onOrCc, ccOrDk, tradeIdFails, termsDiffer, listedFine, parFine, tableFine, Check, checks, refusal, firstFailing, answerTo, answerOf}
+
+-- the number that a check shows is the paper's for its reason
+pub numbers-shown : all (λ (k : Check). eqb (k .number) (numberOf (k .reason))) checks ≡ true
+unfolding checks
+numbers-shown = refl
 
 -- whether the first check of a number is for the type and fails
 abbrev pub failsFor : ℕ → List Check → Call → Bool
 failsFor n [] c = false
-failsFor n (k ∷ ks) c = cond (eqb n (numberOf (k .reason))) (k .types (typeOf (c .body)) && k .fails c) (failsFor n ks c)
+failsFor n (k ∷ ks) c = cond (eqb n (k .number)) (k .types (typeOf (c .body)) && k .fails c) (failsFor n ks c)
 
 refused : (t : MessageType) (r : Reason) → isAccepted (refusal t r) ≡ false
 refused t r = elim (between 30 38 (numberOf r) && not (isDk t)) as (λ b. isAccepted (cond b (Dked r) (Rejected r)) ≡ false) [ true ↦ refl | false ↦ refl ]
@@ -49,9 +52,9 @@ passes n (k ∷ ks) c e = go (k .types (typeOf (c .body)) && k .fails c) e (pass
   where
     go : (f : Bool) → cond f (Fails (k .reason)) (firstFailing ks c) ≡ Passes
         → (firstFailing ks c ≡ Passes → failsFor n ks c ≡ false)
-        → cond (eqb n (numberOf (k .reason))) f (failsFor n ks c) ≡ false
+        → cond (eqb n (k .number)) f (failsFor n ks c) ≡ false
     go true a below = absurd (fails-passes a)
-    go false a below = elim (eqb n (numberOf (k .reason))) as (λ b. cond b false (failsFor n ks c) ≡ false) [ true ↦ refl | false ↦ below a ]
+    go false a below = elim (eqb n (k .number)) as (λ b. cond b false (failsFor n ks c) ≡ false) [ true ↦ refl | false ↦ below a ]
 
 -- a check that an accepted call passed, by its number
 pub passed : (n : ℕ) (c : Call) → isAccepted (answerOf c) ≡ true → failsFor n checks c ≡ false
@@ -71,12 +74,12 @@ and-true false e = refl
 pub record Fine (c : Call) : Type 0 where
   -- 42, 43, 10, 11, 12
   pub sound : isSound (c .book) (c .table) ≡ true
-  pub notSpent : (leb elevenDigitsMax (c .book .values .last) || outboundSpent (c .book .values .outbound)) ≡ false
+  pub notSpent : numbersSpent (c .book .values) ≡ false
   pub lengthFine : lengthFits (c .body) ≡ true
   pub sequenceFine : sequenceFails (c .body) ≡ false
-  pub notDuplicate : isDuplicate (arrivalOf (c .book .line) (arrived (c .body))) ≡ false
+  pub notDuplicate : sequenceRepeats c ≡ false
   -- 13, 18
-  pub notOther : isOther (typeOf (c .body)) ≡ false
+  pub notOther : typeUnknown (c .body) ≡ false
   pub notCancel : isCx (typeOf (c .body)) ≡ false
   -- 19, 20, 21
   pub formed : onOrCc (typeOf (c .body)) ≡ true → formedFor (isCc (typeOf (c .body))) (details (c .body)) ≡ true
@@ -84,8 +87,8 @@ pub record Fine (c : Call) : Type 0 where
   pub balanced : isCc (typeOf (c .body)) ≡ true → groupsBalanced (details (c .body)) ≡ true
   -- 30, 31, 32
   pub targetLive : ccOrDk (typeOf (c .body)) ≡ true → any (under (targetOf (c .body))) (live c) ≡ true
-  pub idFine : idFails (c .body) (trades c) (targetTrade (c .body) (live c)) (idIn (c .body)) ≡ false
-  pub termsFine : termsFail (c .body) (trades c) (targetTrade (c .body) (live c)) (idIn (c .body)) ≡ false
+  pub idFine : tradeIdFails c ≡ false
+  pub termsFine : termsDiffer c ≡ false
   -- 36, 37, 38, 40
   pub repeated : onOrCc (typeOf (c .body)) ≡ true → distinct (map fieldsOf (newPools (details (c .body)))) ≡ true
   pub listedExact : ccOrDk (typeOf (c .body)) ≡ true → listedFine (c .body) (live c) ≡ true

@@ -115,32 +115,6 @@ length-records id t o (l ∷ ls) =
 pub records-new : (id t o : ℕ) (cc : Bool) (ds : List Detail) → formedFor cc ds ≡ true → length (recordsOf id t o (newLots ds)) ≡ length (newPools ds)
 records-new id t o cc ds f = length-records id t o (newLots ds) ∙ ap length (flat-new cc ds f)
 
--- ---- an ON cancels nothing
-new-is-not-canceled : (n : ℕ) → firstOn n ≡ true → eqb n digitCanceled ≡ false
-new-is-not-canceled n e = rw (eqb-true n 48 e)
-
-none-canceled : (ms ds : List Detail) → lotsFormed firstOn ds ≡ true → keep lotCanceled (lotsFrom ms ds) ≡ []
-none-canceled ms [] f = refl
-none-canceled ms (d ∷ ds) f = go (isEnd (term d)) (none-canceled [] ds below) (none-canceled (ms ++ (d ∷ [])) ds below)
-  where
-    below : lotsFormed firstOn ds ≡ true
-    below = and-right ((firstOn (one d) && not (isWrong (term d))) && goesOn d ds) (lotsFormed firstOn ds) f
-
-    new : isCanceled d ≡ false
-    new = new-is-not-canceled (one d)
-        (and-left (firstOn (one d)) (not (isWrong (term d)))
-        (and-left (firstOn (one d) && not (isWrong (term d))) (goesOn d ds)
-        (and-left ((firstOn (one d) && not (isWrong (term d))) && goesOn d ds) (lotsFormed firstOn ds) f)))
-
-    go : (b : Bool) → keep lotCanceled (lotsFrom [] ds) ≡ [] → keep lotCanceled (lotsFrom (ms ++ (d ∷ [])) ds) ≡ []
-        → keep lotCanceled (cond b (record { middles = ms; last = d } ∷ lotsFrom [] ds) (lotsFrom (ms ++ (d ∷ [])) ds)) ≡ []
-    go true p q = rw new p
-    go false p q = q
-
-pub on-none-canceled : (ds : List Detail) → formedFor false ds ≡ true → canceledLots ds ≡ []
-unfolding formedFor lots
-on-none-canceled ds f = none-canceled [] ds f
-
 -- ---- groups
 -- the canceled and the replacement lots of some groups, in order
 abbrev pub canceledOf : List Group → List Lot

@@ -325,10 +325,6 @@ accepted-sound c ok s p =
     }
 
 -- soundness outlasts every call that is refused, and every other where the open pars do
-pub kept-refused : (c : Call) → accepted c ≡ false → Sound (c .book) (c .table) → Sound (bookAfter c) (tableAfter c)
-unfolding bookAfter tableAfter
-kept-refused c e s = rw e (refused-sound c s)
-
 pub kept : (c : Call) → Sound (c .book) (c .table) → parsFrom 0 (tradesOf (bookAfter c .values)) (liveOf (bookAfter c) (tableAfter c)) ≡ true
     → Sound (bookAfter c) (tableAfter c)
 unfolding bookAfter tableAfter

@@ -7,7 +7,7 @@ use mathlib.Core.Bool.{Bool, true, false, cond, _&&_, _||_, false≢true}
 use native.Mathlib.Omega.{arith}
 use lib.Dec.{eqb, leb, ltb}
 use borrow.Author.Tests.{leb-true, le-leb, eqb-false}
-use Rattle.lists.specs.Lists.{all}
+use Rattle.lists.specs.Lists.{all, between}
 use Rattle.lists.proofs.Tests.{and-left, and-right, both}
 use Rattle.fields.specs.declared.Field.{Field}
 use Rattle.fields.specs.declared.Field.the-variants.{Number, NotDigits}
@@ -22,7 +22,7 @@ use Rattle.faces.specs.Faces.{isNewLot, newLots}
 use Rattle.book.specs.declared.Values.{Values}
 use Rattle.book.specs.declared.Pool.{Pool}
 use Rattle.book.specs.Records.{kindGood, kindOdd, kindBad, kindNumber, poolOf, recordsOf}
-use Rattle.book.specs.Opening.{between, elevenDigitsMax}
+use Rattle.book.specs.Opening.{elevenDigitsMax}
 use Rattle.book.specs.Soundness.{kindFine, recordFine}
 use Rattle.book.proofs.ListLaws.{all-keep, all-both, all-map}
 

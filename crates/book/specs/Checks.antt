@@ -4,10 +4,11 @@ use mathlib.Core.List.{List, [], _∷_, map}
 use mathlib.Core.Bool.{Bool, true, false, cond, not, _&&_, _||_}
 use lib.ListN.{length, getD}
 use lib.Dec.{eqb, leb, ltb}
-use Rattle.lists.specs.Lists.{same, keep, any, all}
+use Rattle.lists.specs.Lists.{same, keep, any, all, between}
 use Rattle.fields.specs.declared.Field.{Field}
 use Rattle.fields.specs.declared.Field.the-variants.{Number, NotDigits}
 use Rattle.fields.specs.Fields.{allBlank}
+use Rattle.output.specs.Output.{blanks}
 use Rattle.layout.specs.declared.Column.{Column}
 use Rattle.layout.specs.declared.Detail.{Detail}
 use Rattle.layout.specs.Columns as columns
@@ -20,7 +21,9 @@ use Rattle.calendar.specs.Calendar.{businessDate}
 use Rattle.sequence.specs.declared.Inbound.{Inbound}
 use Rattle.sequence.specs.declared.Arrival.{Arrival}
 use Rattle.sequence.specs.declared.Arrival.the-variants.{Refused, Duplicate, Expected, Gap}
-use Rattle.sequence.specs.Sequence.{inbound, arrivalOf, outboundSpent}
+use Rattle.sequence.specs.declared.Line.{Line}
+use Rattle.sequence.specs.Sequence.{inbound, isRefused, arrivalOf, outboundSpent}
+use Rattle.acknowledgment.specs.Frames.{version, txLength, aaLength}
 use Rattle.tally.specs.declared.MessageType.{MessageType}
 use Rattle.tally.specs.declared.MessageType.the-variants.{On, Cc, Dk, Cx, Other}
 use Rattle.trade_id.specs.declared.TradeId.{TradeId}
@@ -39,7 +42,7 @@ use Rattle.book.specs.Reasons.{numberOf}
 use Rattle.book.specs.Records.{Fields, fieldsOf, liveFields, sameFields, hasFields, distinct, kindNumber, sameLot, weightOfRecords}
 use Rattle.book.specs.Messages.{typeOf, ftba, fsti, isStipulated, idIn, targetOf, under, listed}
 use Rattle.book.specs.Trades.{tradesOf, agrees, isNamedBy, firstTrade, broughtWeight, tradeOfOn, openPars}
-use Rattle.book.specs.Opening.{holidaysOf, elevenDigitsMax, between}
+use Rattle.book.specs.Opening.{holidaysOf, elevenDigitsMax}
 use Rattle.book.specs.Soundness.{liveOf, isSound}
 
 -- what a frame call is given: book, table, body and the room in the output
@@ -55,14 +58,39 @@ live c = liveOf (c .book) (c .table)
 abbrev pub trades : Call → List Trade
 trades c = tradesOf (c .book .values)
 
+-- ---- 42 to 44: the operator
+-- 42: unsound book
+abbrev pub unsound : Call → Bool
+unsound c = not (isSound (c .book) (c .table))
+
+-- 43: the last ID is the highest, or the last outbound number over 999997
+abbrev pub numbersSpent : Values → Bool
+numbersSpent v = leb elevenDigitsMax (v .last) || outboundSpent (v .outbound)
+
+-- 44 asks for room for a TX and an AA
+abbrev pub roomLeast : ℕ
+roomLeast = txLength + aaLength
+
+-- 44: output under 217 bytes
+abbrev pub outputShort : Call → Bool
+outputShort c = ltb (c .room) roomLeast
+
 -- ---- 10 to 25: the line and the sender's system
 abbrev pub notNumber : (ℕ → Bool) → Field → Bool
 notNumber p (Number n) = not (p n)
 notNumber p NotDigits = true
 
--- 11: not digits, or 999999
+-- 10: the length is not 187 + n × D, n from 1 to 250
+abbrev pub lengthWrong : List ℕ → Bool
+lengthWrong body = not (lengthFits body)
+
+-- 11: not digits, or a number that the line refuses
+abbrev pub isNoSequence : Field → Bool
+isNoSequence (Number n) = isRefused n
+isNoSequence NotDigits = true
+
 abbrev pub sequenceFails : List ℕ → Bool
-sequenceFails body = notNumber (λ (n : ℕ). leb n 999998) (numberIn body columns.sequence)
+sequenceFails body = isNoSequence (numberIn body columns.sequence)
 
 abbrev pub arrived : List ℕ → Inbound
 arrived body = inbound (valueOf (numberIn body columns.sequence))
@@ -73,6 +101,13 @@ isDuplicate Duplicate = true
 isDuplicate Expected = false
 isDuplicate Gap = false
 
+-- 12: the sequence is the last one received
+abbrev pub repeatsLast : Line → List ℕ → Bool
+repeatsLast line body = isDuplicate (arrivalOf line (arrived body))
+
+abbrev pub sequenceRepeats : Call → Bool
+sequenceRepeats c = repeatsLast (c .book .line) (c .body)
+
 abbrev pub isOther : MessageType → Bool
 isOther On = false
 isOther Cc = false
@@ -80,29 +115,55 @@ isOther Dk = false
 isOther Cx = false
 isOther Other = true
 
+-- 13: none of the four types
+abbrev pub typeUnknown : List ℕ → Bool
+typeUnknown body = isOther (typeOf body)
+
+-- 14: version not 002
+abbrev pub versionWrong : List ℕ → Bool
+versionWrong body = not (same (bytesIn body columns.version) version)
+
 -- 15: the three fillers, and Pos Dup: "X" or blank
 abbrev pub blankIn : List ℕ → Column → Bool
 blankIn body c = allBlank body (c .at) (c .width)
 
+abbrev pub possiblyDuplicate : List ℕ
+possiblyDuplicate = 88 ∷ []
+
 abbrev pub posDupFine : List ℕ → Bool
-posDupFine s = same s (88 ∷ []) || same s (32 ∷ [])
+posDupFine s = same s possiblyDuplicate || same s (blanks (columns.posDup .width))
 
 abbrev pub fillersFine : List ℕ → Bool
 fillersFine body = (blankIn body columns.fillerOne && (blankIn body columns.fillerTwo && blankIn body columns.fillerThree)) && posDupFine (bytesIn body columns.posDup)
 
+abbrev pub fillersFail : List ℕ → Bool
+fillersFail body = not (fillersFine body)
+
 -- 16: par and price above 0, GDMM at most the ceiling
-abbrev pub amountsFail : ℕ → List ℕ → Bool
-amountsFail ceiling body =
+abbrev pub atMost : ℕ → ℕ → Bool
+atMost most n = leb n most
+
+abbrev pub amountsWrong : ℕ → List ℕ → Bool
+amountsWrong ceiling body =
     notNumber (leb 1) (numberIn body columns.par)
-    || (notNumber (leb 1) (numberIn body columns.price) || notNumber (λ (n : ℕ). leb n ceiling) (numberIn body columns.gdmm))
+    || (notNumber (leb 1) (numberIn body columns.price) || notNumber (atMost ceiling) (numberIn body columns.gdmm))
+
+abbrev pub amountsFail : Values → List ℕ → Bool
+amountsFail v body = amountsWrong (v .limits .ceiling) body
 
 -- 17: the book's subscriber and connection, a submitter that is seller or buyer of some trade, and one of the two contras
+abbrev pub isSide : List ℕ → Trade → Bool
+isSide body t = same (bytesIn body columns.submitter) (t .seller) || same (bytesIn body columns.submitter) (t .buyer)
+
 abbrev pub partiesFine : Values → List ℕ → Bool
 partiesFine v body =
     same (bytesIn body columns.subscriber) (v .subscriber)
     && (same (bytesIn body columns.connection) (v .connection)
-    && (any (λ (t : Trade). same (bytesIn body columns.submitter) (t .seller) || same (bytesIn body columns.submitter) (t .buyer)) (tradesOf v)
+    && (any (isSide body) (tradesOf v)
     && (same (bytesIn body columns.contra) ftba || same (bytesIn body columns.contra) fsti)))
+
+abbrev pub partiesFail : Values → List ℕ → Bool
+partiesFail v body = not (partiesFine v body)
 
 abbrev pub isCc : MessageType → Bool
 isCc On = false
@@ -118,12 +179,51 @@ isCx Dk = false
 isCx Cx = true
 isCx Other = false
 
+-- 18: every CX fails
+abbrev pub always : Call → Bool
+always c = true
+
+-- 19: terminator or lot form
+abbrev pub lotFormFails : List ℕ → Bool
+lotFormFails body = not (formedFor (isCc (typeOf body)) (details body))
+
+-- 20: groups
+abbrev pub groupsFail : List ℕ → Bool
+groupsFail body = not (groupsFormed (details body))
+
+-- 21: sums
+abbrev pub sumsFail : List ℕ → Bool
+sumsFail body = not (groupsBalanced (details body))
+
+-- 22: number of pools not the replacement count
+abbrev pub replacementsFail : List ℕ → Bool
+replacementsFail body = notNumber (eqb (replacementCount (details body))) (numberIn body columns.numberOfPools)
+
+-- 23: settlement not a business date
+abbrev pub isBusinessDate : List ℕ → ℕ → Bool
+isBusinessDate holidays n = businessDate n holidays
+
+abbrev pub settlementFails : Values → List ℕ → Bool
+settlementFails v body = notNumber (isBusinessDate (holidaysOf v)) (numberIn body columns.settlement)
+
+-- 24: reason not digits, or 0000
+abbrev pub reasonFails : List ℕ → Bool
+reasonFails body = notNumber (leb 1) (numberIn body columns.reason)
+
 abbrev pub isWhole : TradeId → Bool
 isWhole (Whole place n) = true
 isWhole Broken = false
 isWhole Absent = false
 
+-- 25: contra FSTI and no whole TRID
+abbrev pub tradeIdMissing : List ℕ → Bool
+tradeIdMissing body = isStipulated body && not (isWhole (idIn body))
+
 -- ---- 30 to 40: the trader
+-- 30: no live pool under the target
+abbrev pub targetGone : Call → Bool
+targetGone c = not (any (under (targetOf (c .body))) (live c))
+
 -- the trade of the target's live pools
 abbrev pub firstUnder : List Pool → ℕ
 firstUnder [] = 0
@@ -177,11 +277,33 @@ idFails body ts target (Whole place n) = not (namedFine body ts target (namedTra
 idFails body ts target Broken = true
 idFails body ts target Absent = isStipulated body
 
+abbrev pub tradeIdFails : Call → Bool
+tradeIdFails c = idFails (c .body) (trades c) (targetTrade (c .body) (live c)) (idIn (c .body))
+
 -- 32: without a trade ID, some trade's terms agree with an ON's, and the target's with a CC's or DK's
 abbrev pub termsFail : List ℕ → List Trade → ℕ → TradeId → Bool
 termsFail body ts target (Whole place n) = false
 termsFail body ts target Broken = false
 termsFail body ts target Absent = cond (isOn (typeOf body)) (not (any (agrees body) ts)) (not (agrees body (tradeAt ts target)))
+
+abbrev pub termsDiffer : Call → Bool
+termsDiffer c = termsFail (c .body) (trades c) (targetTrade (c .body) (live c)) (idIn (c .body))
+
+-- 33: GDMM not the sum of good millions
+abbrev pub millionsFail : List ℕ → Bool
+millionsFail body = notNumber (eqb (goodMillions (details body))) (numberIn body columns.gdmm)
+
+-- 34: a new pool's faces
+abbrev pub newFacesFail : Values → List ℕ → Bool
+newFacesFail v body = facesFail (v .limits .least) (details body)
+
+-- 35: a new good lot's faces or pools
+abbrev pub newLotsFail : Values → List ℕ → Bool
+newLotsFail v body = lotsFail (v .limits .variance) (v .limits .pools) (details body)
+
+-- 36: matched fields twice among the new pools
+abbrev pub newPoolsRepeat : List ℕ → Bool
+newPoolsRepeat body = not (distinct (map fieldsOf (newPools (details body))))
 
 -- a live record that a message takes off: under its target, with matched fields that it lists
 abbrev pub isTaken : Field → List Fields → Pool → Bool
@@ -223,25 +345,45 @@ listedFine body rs =
     exactLots (targetOf body) (listed body) rs
     && (not (isCc (typeOf body)) || all (oneLot (targetOf body) rs) (canceledLots (details body)))
 
+abbrev pub listedFail : Call → Bool
+listedFail c = not (listedFine (c .body) (live c))
+
 -- 38: the trade's open par, with what the message takes off, holds what it brings
 abbrev pub parFine : Call → Bool
 parFine c =
     ltb (concerned c) (length (trades c))
     && leb (broughtWeight (c .body)) (tradeAt (trades c) (concerned c) .left + weightOfRecords (taken c))
 
+abbrev pub parShort : Call → Bool
+parShort c = not (parFine c)
+
 -- 40: the live pools less those listed, plus the new ones, fit the table
 abbrev pub tableFine : Call → Bool
 tableFine c = leb (length (live c) + length (newPools (details (c .body)))) (length (c .table) + length (listed (c .body)))
 
+abbrev pub tableFull : Call → Bool
+tableFull c = not (tableFine c)
+
 -- ---- the list
--- a check: why it refuses, the types that it is for, and whether it fails
+-- a check: its number, why it refuses, the types that it is for, and whether it fails
 pub record Check : Type 0 where
+  pub number : ℕ
   pub reason : Reason
   pub types : MessageType → Bool
   pub fails : Call → Bool
 
-abbrev pub check : Reason → (MessageType → Bool) → (Call → Bool) → Check
-check r p f = record { reason = r; types = p; fails = f }
+abbrev pub check : ℕ → Reason → (MessageType → Bool) → (Call → Bool) → Check
+check n r p f = record { number = n; reason = r; types = p; fails = f }
+
+-- a test of the body alone, of the opened values alone, and of both
+abbrev pub ofBody : (List ℕ → Bool) → Call → Bool
+ofBody p c = p (c .body)
+
+abbrev pub ofValues : (Values → Bool) → Call → Bool
+ofValues p c = p (c .book .values)
+
+abbrev pub ofBoth : (Values → List ℕ → Bool) → Call → Bool
+ofBoth p c = p (c .book .values) (c .body)
 
 abbrev pub every : MessageType → Bool
 every t = true
@@ -252,41 +394,37 @@ onOrCc t = isOn t || isCc t
 abbrev pub ccOrDk : MessageType → Bool
 ccOrDk t = isCc t || isDk t
 
--- 44 asks for room for a TX and an AA
-abbrev pub roomLeast : ℕ
-roomLeast = 217
-
 unfoldable pub checks : List Check
 checks =
-    check reason.Unsound every (λ (c : Call). not (isSound (c .book) (c .table)))
-    ∷ check reason.Spent every (λ (c : Call). leb elevenDigitsMax (c .book .values .last) || outboundSpent (c .book .values .outbound))
-    ∷ check reason.ShortOutput every (λ (c : Call). ltb (c .room) roomLeast)
-    ∷ check reason.Length every (λ (c : Call). not (lengthFits (c .body)))
-    ∷ check reason.Sequence every (λ (c : Call). sequenceFails (c .body))
-    ∷ check reason.Duplicate every (λ (c : Call). isDuplicate (arrivalOf (c .book .line) (arrived (c .body))))
-    ∷ check reason.MessageType every (λ (c : Call). isOther (typeOf (c .body)))
-    ∷ check reason.Version every (λ (c : Call). not (same (bytesIn (c .body) columns.version) (48 ∷ 48 ∷ 50 ∷ [])))
-    ∷ check reason.Filler every (λ (c : Call). not (fillersFine (c .body)))
-    ∷ check reason.Amounts every (λ (c : Call). amountsFail (c .book .values .limits .ceiling) (c .body))
-    ∷ check reason.Parties every (λ (c : Call). not (partiesFine (c .book .values) (c .body)))
-    ∷ check reason.Cancel isCx (λ (c : Call). true)
-    ∷ check reason.LotForm onOrCc (λ (c : Call). not (formedFor (isCc (typeOf (c .body))) (details (c .body))))
-    ∷ check reason.Groups isCc (λ (c : Call). not (groupsFormed (details (c .body))))
-    ∷ check reason.Sums isCc (λ (c : Call). not (groupsBalanced (details (c .body))))
-    ∷ check reason.Replacements isCc (λ (c : Call). notNumber (eqb (replacementCount (details (c .body)))) (numberIn (c .body) columns.numberOfPools))
-    ∷ check reason.Settlement isCc (λ (c : Call). notNumber (λ (n : ℕ). businessDate n (holidaysOf (c .book .values))) (numberIn (c .body) columns.settlement))
-    ∷ check reason.ReasonCode isDk (λ (c : Call). notNumber (leb 1) (numberIn (c .body) columns.reason))
-    ∷ check reason.NoTradeId isDk (λ (c : Call). isStipulated (c .body) && not (isWhole (idIn (c .body))))
-    ∷ check reason.Target ccOrDk (λ (c : Call). not (any (under (targetOf (c .body))) (live c)))
-    ∷ check reason.TradeId every (λ (c : Call). idFails (c .body) (trades c) (targetTrade (c .body) (live c)) (idIn (c .body)))
-    ∷ check reason.Terms every (λ (c : Call). termsFail (c .body) (trades c) (targetTrade (c .body) (live c)) (idIn (c .body)))
-    ∷ check reason.Millions isOn (λ (c : Call). notNumber (eqb (goodMillions (details (c .body)))) (numberIn (c .body) columns.gdmm))
-    ∷ check reason.Faces onOrCc (λ (c : Call). facesFail (c .book .values .limits .least) (details (c .body)))
-    ∷ check reason.Variance onOrCc (λ (c : Call). lotsFail (c .book .values .limits .variance) (c .book .values .limits .pools) (details (c .body)))
-    ∷ check reason.Repeated onOrCc (λ (c : Call). not (distinct (map fieldsOf (newPools (details (c .body))))))
-    ∷ check reason.Listed ccOrDk (λ (c : Call). not (listedFine (c .body) (live c)))
-    ∷ check reason.Par onOrCc (λ (c : Call). not (parFine c))
-    ∷ check reason.TableFull onOrCc (λ (c : Call). not (tableFine c))
+    check 42 reason.Unsound every unsound
+    ∷ check 43 reason.Spent every (ofValues numbersSpent)
+    ∷ check 44 reason.ShortOutput every outputShort
+    ∷ check 10 reason.Length every (ofBody lengthWrong)
+    ∷ check 11 reason.Sequence every (ofBody sequenceFails)
+    ∷ check 12 reason.Duplicate every sequenceRepeats
+    ∷ check 13 reason.MessageType every (ofBody typeUnknown)
+    ∷ check 14 reason.Version every (ofBody versionWrong)
+    ∷ check 15 reason.Filler every (ofBody fillersFail)
+    ∷ check 16 reason.Amounts every (ofBoth amountsFail)
+    ∷ check 17 reason.Parties every (ofBoth partiesFail)
+    ∷ check 18 reason.Cancel isCx always
+    ∷ check 19 reason.LotForm onOrCc (ofBody lotFormFails)
+    ∷ check 20 reason.Groups isCc (ofBody groupsFail)
+    ∷ check 21 reason.Sums isCc (ofBody sumsFail)
+    ∷ check 22 reason.Replacements isCc (ofBody replacementsFail)
+    ∷ check 23 reason.Settlement isCc (ofBoth settlementFails)
+    ∷ check 24 reason.ReasonCode isDk (ofBody reasonFails)
+    ∷ check 25 reason.NoTradeId isDk (ofBody tradeIdMissing)
+    ∷ check 30 reason.Target ccOrDk targetGone
+    ∷ check 31 reason.TradeId every tradeIdFails
+    ∷ check 32 reason.Terms every termsDiffer
+    ∷ check 33 reason.Millions isOn (ofBody millionsFail)
+    ∷ check 34 reason.Faces onOrCc (ofBoth newFacesFail)
+    ∷ check 35 reason.Variance onOrCc (ofBoth newLotsFail)
+    ∷ check 36 reason.Repeated onOrCc (ofBody newPoolsRepeat)
+    ∷ check 37 reason.Listed ccOrDk listedFail
+    ∷ check 38 reason.Par onOrCc parShort
+    ∷ check 40 reason.TableFull onOrCc tableFull
     ∷ []
 
 -- a trader's number, 30 to 38, is DKed, but on a DK rejected; every other is rejected

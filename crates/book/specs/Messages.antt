@@ -20,16 +20,28 @@ use Rattle.trade_id.specs.SpecialInstructions.{tradeIdOf}
 use Rattle.book.specs.declared.Pool.{Pool}
 use Rattle.book.specs.Records.{Fields, fieldsOf}
 
--- "ON", "CC", "DK", "CX"; anything else is another type
+-- "ON", "CC", "DK" and "CX"; anything else is another type
+abbrev pub on : List ℕ
+on = 79 ∷ 78 ∷ []
+
+abbrev pub cc : List ℕ
+cc = 67 ∷ 67 ∷ []
+
+abbrev pub dk : List ℕ
+dk = 68 ∷ 75 ∷ []
+
+abbrev pub cx : List ℕ
+cx = 67 ∷ 88 ∷ []
+
 abbrev pub isNamed : List ℕ → List ℕ → Bool
 isNamed body name = same (bytesIn body columns.messageType) name
 
 unfoldable pub typeOf : List ℕ → MessageType
 typeOf body =
-    cond (isNamed body (79 ∷ 78 ∷ [])) On
-    (cond (isNamed body (67 ∷ 67 ∷ [])) Cc
-    (cond (isNamed body (68 ∷ 75 ∷ [])) Dk
-    (cond (isNamed body (67 ∷ 88 ∷ [])) Cx Other)))
+    cond (isNamed body on) On
+    (cond (isNamed body cc) Cc
+    (cond (isNamed body dk) Dk
+    (cond (isNamed body cx) Cx Other)))
 
 -- "FTBA" and "FSTI", the two contras
 abbrev pub ftba : List ℕ

@@ -4,9 +4,12 @@ use mathlib.Core.List.{List, [], _∷_, map}
 use mathlib.Core.Bool.{Bool, false, not, _&&_, _||_}
 use lib.ListN.{length, take, replicate}
 use lib.Dec.{eqb, leb}
-use Rattle.lists.specs.Lists.{same, any, all}
+use Rattle.lists.specs.Lists.{between, same, any, all}
 use Rattle.fields.specs.Fields.{allVisible}
+use Rattle.layout.specs.Columns as columns
+use Rattle.faces.specs.Faces.{originalMost}
 use Rattle.calendar.specs.Calendar.{isDate, businessDate}
+use Rattle.trade_id.specs.SpecialInstructions.{equalsSign, idLengthMax}
 use Rattle.sequence.specs.Sequence.{startLine, outboundMax}
 use Rattle.book.specs.declared.Trade.{Trade}
 use Rattle.book.specs.declared.Limits.{Limits}
@@ -44,34 +47,27 @@ varianceMax = 1000000
 abbrev pub poolsAMillionMax : ℕ
 poolsAMillionMax = 250
 
--- dollars
-abbrev pub faceMax : ℕ
-faceMax = 50000000
-
-abbrev pub between : ℕ → ℕ → ℕ → Bool
-between low high n = leb low n && leb n high
-
 -- the holidays that are opened
 abbrev pub holidaysOf : Values → List ℕ
 holidaysOf v = take (v .days) (v .holidays)
 
 abbrev pub limitsFine : Limits → Bool
-limitsFine l = leb (l .ceiling) ceilingMax && (leb (l .variance) varianceMax && (between 1 poolsAMillionMax (l .pools) && between 1 faceMax (l .least)))
+limitsFine l = leb (l .ceiling) ceilingMax && (leb (l .variance) varianceMax && (between 1 poolsAMillionMax (l .pools) && between 1 originalMost (l .least)))
 
 -- an account, a subscriber and a connection: four characters of codes 33 to 126
 abbrev pub accountFine : List ℕ → Bool
-accountFine a = allVisible a 0 4
+accountFine a = allVisible a 0 (columns.submitter .width)
 
 -- an ID: 1 to 16 characters of codes 33 to 126, none of them "="
 abbrev pub idFine : Trade → Bool
-idFine t = between 1 16 (t .length) && (allVisible (t .id) 0 (t .length) && not (any (eqb 61) (tradeName t)))
+idFine t = between 1 idLengthMax (t .length) && (allVisible (t .id) 0 (t .length) && not (any (eqb equalsSign) (tradeName t)))
 
 abbrev pub tradeFine : List ℕ → Trade → Bool
 tradeFine holidays t =
     idFine t
     && (accountFine (t .seller) && (accountFine (t .buyer) && (not (same (t .seller) (t .buyer))
     && ((same (t .contra) ftba || same (t .contra) fsti)
-    && (allVisible (t .cusip) 0 9
+    && (allVisible (t .cusip) 0 (columns.cusip .width)
     && (businessDate (t .settlement) holidays
     && (between 1 priceMax (t .price) && between 1 elevenDigitsMax (t .par))))))))
 

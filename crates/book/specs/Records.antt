@@ -6,6 +6,7 @@ use lib.ListN.{replicate}
 use lib.Dec.{eqb}
 use Rattle.lists.specs.Lists.{same, any}
 use Rattle.layout.specs.declared.Detail.{Detail}
+use Rattle.layout.specs.Columns.{lotId, poolNumber, originalFace}
 use Rattle.terminator.specs.declared.Kind.{Kind}
 use Rattle.terminator.specs.declared.Kind.the-variants.{Good, Odd, Bad}
 use Rattle.terminator.specs.Lots.{Lot, poolsOf, lotKind, lotMillions, currentCents, millionCents}
@@ -77,9 +78,9 @@ noPool =
       message = 0;
       ordinal = 0;
       trade = 0;
-      lot = replicate 6 0;
-      pool = replicate 7 0;
-      original = replicate 9 0;
+      lot = replicate (lotId .width) 0;
+      pool = replicate (poolNumber .width) 0;
+      original = replicate (originalFace .width) 0;
       current = 0;
       kind = 0;
       millions = 0;

@@ -5,7 +5,8 @@ use mathlib.Core.Bool.{Bool, true, not, _&&_, _||_}
 use mathlib.Core.Path.{_≡_}
 use lib.ListN.{length, take, drop}
 use lib.Dec.{eqb, leb, ltb}
-use Rattle.lists.specs.Lists.{same, any, all}
+use Rattle.lists.specs.Lists.{same, any, all, between}
+use Rattle.terminator.specs.Terminators.{millionsMost}
 use Rattle.sequence.specs.Sequence.{soundLine}
 use Rattle.book.specs.declared.Trade.{Trade}
 use Rattle.book.specs.declared.Values.{Values}
@@ -13,7 +14,7 @@ use Rattle.book.specs.declared.Book.{Book}
 use Rattle.book.specs.declared.Pool.{Pool}
 use Rattle.book.specs.Records.{liveFields, sameFields, kindGood, kindOdd, kindBad, tradeWeight, noPool}
 use Rattle.book.specs.Trades.{tradesOf}
-use Rattle.book.specs.Opening.{valuesFine, recordsMax, elevenDigitsMax, between}
+use Rattle.book.specs.Opening.{valuesFine, recordsMax, elevenDigitsMax}
 
 -- the live records: the first of the table
 abbrev pub liveOf : Book → List Pool → List Pool
@@ -21,7 +22,7 @@ liveOf b table = take (b .live) table
 
 -- kind and millions that a terminator gives
 abbrev pub kindFine : Pool → Bool
-kindFine r = (eqb (r .kind) kindGood && between 1 99 (r .millions)) || ((eqb (r .kind) kindOdd || eqb (r .kind) kindBad) && eqb (r .millions) 0)
+kindFine r = (eqb (r .kind) kindGood && between 1 millionsMost (r .millions)) || ((eqb (r .kind) kindOdd || eqb (r .kind) kindBad) && eqb (r .millions) 0)
 
 -- a live record by itself: a trade that is opened, an ID from 1 to the last, an ordinal, a face of eleven digits, kind and millions
 abbrev pub recordFine : Values → Pool → Bool

@@ -195,24 +195,6 @@ outcomeOf (Dked r) = outcome.Dked
 unfoldable pub tallyAfter : List ℕ → Answer → List (List ℕ) → List (List ℕ)
 tallyAfter body a tally = cond (isSilent a) tally (raised tally (typeOf body) (outcomeOf a))
 
--- ---- the frame call as one: all that it leaves
-pub record After : Type 0 where
-  pub answer : Answer
-  pub book : Book
-  pub table : List Pool
-  pub output : List ℕ
-  pub tally : List (List ℕ)
-
 -- a call on a book and a table with a body, and an output whose length is its room
 abbrev pub callWith : Book → List Pool → List ℕ → List ℕ → Call
 callWith book table body out = record { book = book; table = table; body = body; room = length out }
-
-unfoldable pub frameCall : Book → List Pool → List ℕ → List ℕ → List ℕ → List (List ℕ) → After
-frameCall book table body time out tally =
-    record {
-      answer = answerOf (callWith book table body out);
-      book = bookAfter (callWith book table body out);
-      table = tableAfter (callWith book table body out);
-      output = outputAfter (callWith book table body out) time out;
-      tally = tallyAfter body (answerOf (callWith book table body out)) tally;
-    }

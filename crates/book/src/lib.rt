@@ -9,9 +9,15 @@ pub const HOLIDAYS_MAX: usize = 32;
 
 pub const RECORDS_MAX: usize = 4096;
 
+// Eleven digits: message IDs, and par in cents.
+pub const ELEVEN_DIGITS_MAX: u64 = 99999999999;
+
+// The room that 44 asks for: a TX and an AA.
+pub const ROOM_LEAST: usize = acknowledgment::TX_LENGTH + acknowledgment::AA_LENGTH;
+
 // A trade. Only the first length bytes of id are its ID; price has nine decimals, par and left are cents, left is the open par.
 pub struct Trade {
-    pub id: [u8; 16],
+    pub id: [u8; trade_id::ID_LENGTH_MAX],
     pub length: usize,
     pub seller: [u8; 4],
     pub buyer: [u8; 4],
@@ -33,9 +39,9 @@ pub struct Limits {
 
 // What opening lends: the first count trades and the first days holidays count; last is the last message ID used, outbound the last outbound number.
 pub struct Values {
-    pub trades: [Trade; 64],
+    pub trades: [Trade; TRADES_MAX],
     pub count: usize,
-    pub holidays: [u32; 32],
+    pub holidays: [u32; HOLIDAYS_MAX],
     pub days: usize,
     pub subscriber: [u8; 4],
     pub connection: [u8; 4],

@@ -10,9 +10,6 @@ ghost use Rattle.book.specs.Reasons.{isAccepted};
 ghost use Rattle.day.specs.Days.{Passes};
 ghost use Rattle.day.specs.Turns.{framesIn, placeAfter, countedOf, begunOf, turn};
 
-// The room for what goes out: what 44 asks for, a TX and an AA.
-const ROOM: usize = 217;
-
 // The book after the day, the frames accepted, and all other whole frames.
 pub struct Day {
     pub book: Book,
@@ -145,7 +142,7 @@ fn put_frame(going: Going, pools: &mut [Pool], tape: &[u8]) -> Going
     let book = book_of(going);
     let start = start_of(place);
     let end = end_of(place);
-    let mut out = [0u8; ROOM];
+    let mut out = [0u8; book::ROOM_LEAST];
     let stepped = calls::step_part(book, pools, tape, start, end, [b'0'; 6], &mut out);
     counted(going, stepped, place)
 }

@@ -1,15 +1,13 @@
 -- The answer of a call, by the part of the checks that decides it.
 use Prim.Native.Nat.{ℕ, _+_, _≤_}
 use native.Mathlib.Omega.{arith}
-use mathlib.Core.Path.{_≡_, refl, sym, ap, _∙_}
+use mathlib.Core.Path.{_≡_, refl, ap, _∙_}
 use mathlib.Core.List.{List}
-use mathlib.Core.Bool.{Bool, true, false, cond, not, _&&_, _||_, false≢true, true≢false}
+use mathlib.Core.Bool.{Bool, true, false, cond, not, _&&_, true≢false}
 use lib.ListN.{length, take, drop}
-use lib.Dec.{leb, ltb}
-use Rattle.sequence.specs.Sequence.{outboundSpent}
 use borrow.Author.Tests.{not-false}
 use Rattle.layout.specs.Columns.{headerWidth}
-use Rattle.layout.specs.Details.{pools, lengthFits, details}
+use Rattle.layout.specs.Details.{lengthFits, details}
 use Rattle.layout.proofs.Lengths.{fit-length}
 use Rattle.terminator.specs.Lots.{formedFor}
 use Rattle.tally.specs.declared.MessageType.{MessageType}
@@ -20,15 +18,14 @@ use Rattle.book.specs.declared.Verdict.the-variants.{Passes, Fails}
 use Rattle.book.specs.declared.Answer.the-variants.{Accepted, Rejected, Dked}
 use Rattle.book.specs.Reasons.{numberOf, isAccepted}
 use Rattle.book.specs.Messages.{typeOf}
-use Rattle.book.specs.Opening.{between, elevenDigitsMax}
+use Rattle.lists.specs.Lists.{between}
 use Rattle.book.specs.Soundness.{isSound}
-use Rattle.book.specs.Checks.{Call, Check, isOn, isCc, isDk, onOrCc, roomLeast, checks, refusal, firstFailing, answerTo, answerOf}
+use Rattle.book.specs.Checks.{Call, numbersSpent, outputShort, isCc, isDk, onOrCc, checks, refusal, firstFailing, answerTo, answerOf}
 use Rattle.book.specs.Step.{isSilentFor, isSilent}
 use Rattle.book.proofs.Passed.{passes, for-type}
-use Rattle.book.proofs.ListLaws.{or-right}
 use Rattle.sender.specs.Order.{senderChecks}
 use Rattle.trader.specs.Decisions.{traderChecks}
-use Rattle.trader.proofs.Firsts.{fails-not, first-late, first-early}
+use Rattle.trader.proofs.Firsts.{first-late, first-early}
 
 -- a refusal by any reason is not accepted, and as silent as its reason
 pub refusal-refuses : (t : MessageType) (r : Reason) → isAccepted (refusal t r) ≡ false
@@ -83,18 +80,15 @@ module _ (c : Call) where
       unfolding senderChecks checks
       sender-length = not-false (lengthFits (c .body)) (passes 10 senderChecks c p)
 
-      pub sender-formed : isCc (typeOf (c .body)) ≡ true → formedFor true (details (c .body)) ≡ true
+      pub sender-formed : onOrCc (typeOf (c .body)) ≡ true → formedFor (isCc (typeOf (c .body))) (details (c .body)) ≡ true
       unfolding senderChecks checks
-      sender-formed e =
-          let f : formedFor (isCc (typeOf (c .body))) (details (c .body)) ≡ true =
-          for-type (onOrCc (typeOf (c .body))) (formedFor (isCc (typeOf (c .body))) (details (c .body))) (passes 19 senderChecks c p) (or-right (isOn (typeOf (c .body))) (isCc (typeOf (c .body))) e) in
-          rw e at f
+      sender-formed = for-type (onOrCc (typeOf (c .body))) (formedFor (isCc (typeOf (c .body))) (details (c .body))) (passes 19 senderChecks c p)
 
   -- a number that goes out comes after 10
   pub loud-length : (r : Reason) → firstFailing senderChecks c ≡ Fails r → isSilentFor r ≡ false → lengthFits (c .body) ≡ true
   unfolding senderChecks checks
   loud-length r e n =
-      go (leb elevenDigitsMax (c .book .values .last) || outboundSpent (c .book .values .outbound)) (ltb (c .room) roomLeast) (lengthFits (c .body))
+      go (numbersSpent (c .book .values)) (outputShort c) (lengthFits (c .body))
       (firstFailing (drop 3 senderChecks) c) e
     where
       go : (a b l : Bool) (v : Verdict) → cond a (Fails reason.Spent) (cond b (Fails reason.ShortOutput) (cond (not l) (Fails reason.Length) v)) ≡ Fails r → l ≡ true

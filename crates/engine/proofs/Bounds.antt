@@ -1,13 +1,13 @@
 -- Bounds that a sound book gives: its weights and open pars fit their words, and zeros follow the live records.
 use Prim.Native.Nat.{ℕ, zero, suc, _+_, _*_, _-_, _≤_, _<_}
 use native.Mathlib.Omega.{arith}
-use mathlib.Core.Path.{_≡_, refl, sym, ap, _∙_}
+use mathlib.Core.Path.{_≡_, refl, ap, _∙_}
 use mathlib.Core.List.{List, [], _∷_}
 use mathlib.Core.Bool.{Bool, true, false, cond, not, _&&_, _||_}
-use lib.ListN.{length, getD, replicate}
+use lib.ListN.{length, replicate}
 use lib.Dec.{eqb, leb}
 use borrow.Author.Tests.{eqb-true, leb-true}
-use Rattle.lists.specs.Lists.{same, all, keep}
+use Rattle.lists.specs.Lists.{same, all, between}
 use Rattle.lists.proofs.Tests.{and-left, and-right, same-equal}
 use Rattle.terminator.specs.Lots.{millionCents}
 use Rattle.calendar.specs.Calendar.{businessDate}
@@ -15,11 +15,11 @@ use Rattle.book.specs.declared.Trade.{Trade}
 use Rattle.book.specs.declared.Values.{Values}
 use Rattle.book.specs.declared.Pool.{Pool}
 use Rattle.book.specs.Records.{kindGood, runSum, weightShare, tradeWeight, noPool, weightOfRecords}
-use Rattle.book.specs.Opening.{elevenDigitsMax, priceMax, between, idFine, accountFine, tradeFine}
+use Rattle.book.specs.Opening.{elevenDigitsMax, priceMax, idFine, accountFine, tradeFine}
 use Rattle.book.specs.Messages.{ftba, fsti}
 use Rattle.fields.specs.Fields.{allVisible}
 use Rattle.book.specs.Soundness.{recordFine, isNone, parsFrom}
-use Rattle.book.specs.Checks.{noTrade, tradeAt}
+use Rattle.book.specs.Checks.{tradeAt}
 use Rattle.soundness.proofs.Whole.{record-light}
 
 -- a record's share is at most eleven digits

@@ -11,7 +11,7 @@ use Rattle.terminator.specs.declared.Terminator.{Terminator}
 use Rattle.terminator.specs.declared.LotRead.{LotRead}
 use Rattle.terminator.specs.declared.Groups.{Groups}
 use Rattle.terminator.specs.Lots.{formedFor, replacementCount, goodMillions}
-use Rattle.terminator.specs.Groups.{groupsJudged}
+use Rattle.terminator.specs.Reading.{groupsJudged}
 use Rattle.faces.specs.Faces.{facesFail, lotsFail, newWeight}
 use Rattle.exports_pools.specs.Numbers.{terminatorNumbers, lotNumbers, formNumbers, sumNumbers, faceNumbers}
 

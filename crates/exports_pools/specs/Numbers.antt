@@ -14,7 +14,8 @@ use Rattle.terminator.specs.declared.Kind.the-variants.{Good, Odd, Bad}
 use Rattle.terminator.specs.declared.LotRead.{LotRead}
 use Rattle.terminator.specs.declared.LotRead.the-variants.{Found, Nothing}
 use Rattle.terminator.specs.Terminators.{terminatorOf}
-use Rattle.terminator.specs.Lots.{lots, firstLot, formedFor, replacementCount, goodMillions}
+use Rattle.terminator.specs.Lots.{lots, formedFor, replacementCount, goodMillions}
+use Rattle.terminator.specs.Reading.{firstLot}
 use Rattle.terminator.specs.Groups.{groupsFormed, groupsBalanced}
 use Rattle.faces.specs.Faces.{facesFail, lotsFail, newWeight}
 

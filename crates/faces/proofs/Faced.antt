@@ -9,7 +9,8 @@ use Rattle.fields.specs.Fields.{readNumber}
 use Rattle.layout.specs.declared.Detail.{Detail}
 use Rattle.layout.specs.Columns.{originalFace, currentFace}
 use Rattle.faces.specs.declared.FaceCheck.{FaceCheck}
-use Rattle.faces.specs.Faces.{isNew, currentFails, originalFails, faceFails, checkFace, facesFail}
+use Rattle.faces.specs.Faces.{isNew, currentFails, originalFails, faceFails, facesFail}
+use Rattle.faces.specs.Passes.{checkFace}
 use Rattle.faces.proofs.Kept.{orKept, fold-any}
 
 pub face-is : (d : Detail) (least : ℕ) (c o : Field) (n f : Bool) → c ≡ readNumber (d .current) 0 (currentFace .width) → o ≡ readNumber (d .original) 0 (originalFace .width)

@@ -13,7 +13,6 @@ use Rattle.layout.specs.Columns.{originalFace, currentFace}
 use Rattle.terminator.specs.Terminators.{isCanceled, isGood}
 use Rattle.terminator.specs.Lots.{Lot, poolsOf, lotKind, lotMillions, lots, currentCents, millionCents, lotWeight}
 use Rattle.terminator.specs.Groups.{lotCanceled}
-use Rattle.faces.specs.declared.FaceCheck.{FaceCheck}
 
 -- ---- the new pools and lots of a message: an ON's, and a CC's that are not canceled
 abbrev pub isNew : Detail → Bool
@@ -45,10 +44,6 @@ currentFails NotDigits = true
 -- 34 of one pool: both faces must be digits, and the original face within its bounds
 unfoldable pub faceFails : ℕ → Detail → Bool
 faceFails least d = currentFails (readNumber (d .current) 0 (currentFace .width)) || originalFails least (readNumber (d .original) 0 (originalFace .width))
-
--- a pass over the pools: whether this one or one before it is new and fails 34
-unfoldable pub checkFace : FaceCheck → Detail → FaceCheck
-checkFace s d = record { least = s .least; fails = s .fails || (isNew d && faceFails (s .least) d) }
 
 -- 34 of a message: some new pool fails it
 unfoldable pub facesFail : ℕ → List Detail → Bool

@@ -7,7 +7,8 @@ ghost use Prim.Native.Nat.{_-_, _*_};
 ghost use Rattle.lists.specs.Lists.{fold};
 ghost use Rattle.layout.specs.Details.{details};
 ghost use Rattle.terminator.specs.Lots.{millionCents};
-ghost use Rattle.faces.specs.Faces.{isNew, currentFails, originalFails, faceFails, checkFace, facesFail, goodLotFails};
+ghost use Rattle.faces.specs.Faces.{isNew, currentFails, originalFails, faceFails, facesFail, goodLotFails};
+ghost use Rattle.faces.specs.Passes.{checkFace};
 
 // The highest original face, in whole dollars.
 pub const ORIGINAL_MOST: u64 = 50000000;

@@ -7,10 +7,10 @@ use native.Mathlib.Nat.{pow-le-pow-right, add-zero, sub-zero}
 use native.Mathlib.Omega.{arith}
 use lib.ListN.{length, getD}
 use borrow.Author.Tests.{le-leb, lt-leb}
-use Rattle.lists.specs.Lists.{within, part, all}
+use Rattle.lists.specs.Lists.{within, part, all, between}
 use Rattle.lists.proofs.Parts.{part-turn, part-done, in-within}
 use Rattle.fields.specs.declared.Field.the-variants.{Number, NotDigits}
-use Rattle.fields.specs.Fields.{digitsMax, between, isDigit, numberFrom, readNumber, allBetween}
+use Rattle.fields.specs.Fields.{digitsMax, isDigit, numberFrom, readNumber, allBetween}
 
 -- ---- which codes lie between two
 pub below : (low high b : ℕ) → b < low → between low high b ≡ false

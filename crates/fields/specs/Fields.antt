@@ -3,7 +3,7 @@ use Prim.Native.Nat.{ℕ, _+_, _-_, _*_}
 use mathlib.Core.List.{List, [], _∷_}
 use mathlib.Core.Bool.{Bool, cond, _&&_}
 use lib.Dec.{leb}
-use Rattle.lists.specs.Lists.{within, part, all, same}
+use Rattle.lists.specs.Lists.{within, part, between, all, same}
 use Rattle.fields.specs.declared.Field.{Field}
 use Rattle.fields.specs.declared.Field.the-variants.{Number, NotDigits}
 
@@ -11,18 +11,31 @@ use Rattle.fields.specs.declared.Field.the-variants.{Number, NotDigits}
 abbrev pub digitsMax : ℕ
 digitsMax = 19
 
--- the codes from low to high
-abbrev pub between : ℕ → ℕ → ℕ → Bool
-between low high b = leb low b && leb b high
+-- the codes of 0 and 9
+abbrev pub digitZero : ℕ
+digitZero = 48
 
--- the codes of 0 to 9
+abbrev pub digitNine : ℕ
+digitNine = 57
+
+-- blank is hex 20
+abbrev pub blank : ℕ
+blank = 32
+
+-- the first and the last code of a visible character
+abbrev pub visibleFirst : ℕ
+visibleFirst = 33
+
+abbrev pub visibleLast : ℕ
+visibleLast = 126
+
 abbrev pub isDigit : ℕ → Bool
-isDigit = between 48 57
+isDigit = between digitZero digitNine
 
 -- the number whose leading digits are n and whose other digits are the list
 abbrev pub numberFrom : ℕ → List ℕ → Field
 numberFrom n [] = Number n
-numberFrom n (b ∷ bs) = cond (isDigit b) (numberFrom (n * 10 + (b - 48)) bs) NotDigits
+numberFrom n (b ∷ bs) = cond (isDigit b) (numberFrom (n * 10 + (b - digitZero)) bs) NotDigits
 
 -- the number in the width bytes from at; a place outside the list, or another byte than a digit, is not digits
 unfoldable pub readNumber : List ℕ → ℕ → ℕ → Field
@@ -32,13 +45,13 @@ readNumber s at width = cond (leb width digitsMax && within s at width) (numberF
 unfoldable pub allBetween : ℕ → ℕ → List ℕ → ℕ → ℕ → Bool
 allBetween low high s at n = within s at n && all (between low high) (part s at n)
 
--- all blank: hex 20
+-- all blank
 abbrev pub allBlank : List ℕ → ℕ → ℕ → Bool
-allBlank = allBetween 32 32
+allBlank = allBetween blank blank
 
 -- all of codes 33 to 126
 abbrev pub allVisible : List ℕ → ℕ → ℕ → Bool
-allVisible = allBetween 33 126
+allVisible = allBetween visibleFirst visibleLast
 
 -- whether the n bytes of a from i and those of b from j stand there and are equal
 unfoldable pub samePart : List ℕ → ℕ → List ℕ → ℕ → ℕ → Bool

@@ -20,9 +20,10 @@ use Rattle.groups.specs.declared.Run.{Run}
 use Rattle.terminator.specs.declared.Groups.{Groups}
 use Rattle.terminator.specs.declared.Kind.{Kind}
 use Rattle.terminator.specs.declared.Kind.the-variants.{Good, Odd, Bad}
-use Rattle.terminator.specs.Terminators.{digitCanceled, isEnd, isCanceled, one, term, markOf}
+use Rattle.terminator.specs.Terminators.{digitCanceled, isEnd, isCanceled, one, term}
+use Rattle.terminator.specs.Reading.{markOf, groupsJudged}
 use Rattle.terminator.specs.Lots.{Lot, lotKind, lotMillions, lotsFrom, lots}
-use Rattle.terminator.specs.Groups.{Group, groupsFrom, groups, sameKind, ofKind, groupFormed, groupBalanced, groupsFormed, groupsBalanced, groupsJudged}
+use Rattle.terminator.specs.Groups.{Group, groupsFrom, groups, sameKind, ofKind, groupFormed, groupBalanced, groupsFormed, groupsBalanced}
 use Rattle.groups.specs.Runs.{judged, emptyRun, withCanceled, withReplacement, runOn, runStep, Small}
 
 -- ---- the ways through one pool

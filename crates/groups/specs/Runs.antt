@@ -5,7 +5,8 @@ use lib.Dec.{eqb, leb, ltb}
 use Rattle.layout.specs.declared.Detail.{Detail}
 use Rattle.terminator.specs.declared.Mark.{Mark}
 use Rattle.terminator.specs.declared.Groups.{Groups}
-use Rattle.terminator.specs.Terminators.{digitCanceled, markOf}
+use Rattle.terminator.specs.Terminators.{digitCanceled, millionsMost}
+use Rattle.terminator.specs.Reading.{markOf}
 use Rattle.groups.specs.declared.Run.{Run}
 
 -- 20 of the group at hand
@@ -83,9 +84,9 @@ runOn g m =
 abbrev pub runStep : Run → Detail → Run
 runStep g d = runOn g (markOf d)
 
--- the sizes of the group at hand after so many pools: no lot without a pool, and at most 99 millions each
+-- the sizes of the group at hand after so many pools: no lot without a pool, and no more millions than a good lot has
 pub record Small (n : ℕ) (g : Run) : Type 0 where
   pub lotsCanceled : g .canceled ≤ n
   pub lotsReplacement : g .replacement ≤ n
-  pub canceledSum : g .taken ≤ 99 * n
-  pub replacementSum : g .brought ≤ 99 * n
+  pub canceledSum : g .taken ≤ millionsMost * n
+  pub replacementSum : g .brought ≤ millionsMost * n

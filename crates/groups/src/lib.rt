@@ -3,10 +3,11 @@ use layout::Detail;
 use terminator::Groups;
 use terminator::Mark;
 ghost use mathlib.Core.Path.{_≡_};
-ghost use Prim.Native.Nat.{_+_, _<_, _≤_};
+ghost use Prim.Native.Nat.{_+_, _*_, _≤_};
 ghost use Rattle.lists.specs.Lists.{fold};
-ghost use Rattle.layout.specs.Details.{details};
-ghost use Rattle.terminator.specs.Groups.{groupsJudged};
+ghost use Rattle.layout.specs.Details.{details, poolsMax};
+ghost use Rattle.terminator.specs.Terminators.{millionsMost};
+ghost use Rattle.terminator.specs.Reading.{groupsJudged};
 ghost use Rattle.groups.specs.Runs.{judged, emptyRun, withCanceled, withReplacement, runOn, runStep, Small};
 
 // Checks 20 and 21 of the groups so far, and the group at hand: its lots, whether all are of one kind, and the millions that its canceled and its replacement lots have.
@@ -51,7 +52,7 @@ fn empty_run(formed: bool, balanced: bool) -> Run
 }
 
 fn with_canceled(g: Run, m: Mark) -> Run
-    requires { ⌜ (g .canceled < 4096) × (g .taken + m .millions < 4294967296) ⌝ }
+    requires { ⌜ (g .canceled ≤ poolsMax) × (g .taken + m .millions ≤ millionsMost * (poolsMax + 1)) ⌝ }
     ensures { λ r. ⌜ r ≡ withCanceled g m ⌝ }
 {
     Run {
@@ -68,7 +69,7 @@ fn with_canceled(g: Run, m: Mark) -> Run
 }
 
 fn with_replacement(g: Run, m: Mark) -> Run
-    requires { ⌜ (g .replacement < 4096) × (g .brought + m .millions < 4294967296) ⌝ }
+    requires { ⌜ (g .replacement ≤ poolsMax) × (g .brought + m .millions ≤ millionsMost * (poolsMax + 1)) ⌝ }
     ensures { λ r. ⌜ r ≡ withReplacement g m ⌝ }
 {
     Run {
@@ -86,7 +87,7 @@ fn with_replacement(g: Run, m: Mark) -> Run
 
 // The groups after one more pool.
 fn run_on(g: Run, m: Mark) -> Run
-    requires { ⌜ Small 250 g × (m .millions ≤ 99) ⌝ }
+    requires { ⌜ Small poolsMax g × (m .millions ≤ millionsMost) ⌝ }
     ensures { λ r. ⌜ r ≡ runOn g m ⌝ }
 {
     if !m.end {
@@ -105,7 +106,7 @@ fn run_on(g: Run, m: Mark) -> Run
 
 // The groups after one more pool, by its detail.
 fn run_next(g: Run, d: Detail) -> Run
-    requires { ⌜ Small 250 g ⌝ }
+    requires { ⌜ Small poolsMax g ⌝ }
     ensures { λ r. ⌜ r ≡ runStep g d ⌝ }
 {
     let m = terminator::mark_of(d);

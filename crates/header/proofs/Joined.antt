@@ -13,8 +13,7 @@ use Rattle.layout.specs.Columns.{bytesIn}
 use Rattle.book.specs.declared.Values.{Values}
 use Rattle.book.specs.Messages.{ftba, isStipulated}
 use Rattle.book.specs.Trades.{tradesOf}
-use Rattle.book.specs.Checks.{blankIn, fillersFine, partiesFine}
-use Rattle.header.specs.Sides.{isSide}
+use Rattle.book.specs.Checks.{blankIn, fillersFine, partiesFine, isSide}
 
 -- as many as asked for, or all there are
 pub take-lesser : {A : Type 0} (xs : List A) (n k : ℕ) → length xs ≡ k → (m : ℕ) → m ≡ min n k → take m xs ≡ take n xs

@@ -7,22 +7,15 @@ use sequence::Inbound;
 use tally::MessageType;
 use trade_id::TradeId;
 ghost use mathlib.Core.Path.{_≡_};
-ghost use mathlib.Core.List.{[], _∷_};
 ghost use Prim.Native.Nat.{_≤_, min};
 ghost use lib.ListN.{length, take};
-ghost use lib.Dec.{leb};
 ghost use Rattle.lists.specs.Lists.{same, any};
-ghost use Rattle.layout.specs.Columns as columns;
 ghost use Rattle.layout.specs.Columns.{bytesIn};
 ghost use Rattle.layout.specs.Details.{lengthFits};
 ghost use Rattle.terminator.specs.Lots.{valueOf};
 ghost use Rattle.book.specs.Messages.{typeOf, idIn, isStipulated};
 ghost use Rattle.book.specs.Opening.{tradesMax};
-ghost use Rattle.book.specs.Checks.{notNumber, sequenceFails, arrived, blankIn, fillersFine, partiesFine};
-ghost use Rattle.header.specs.Sides.{isSide};
-
-// The highest sequence number that 11 lets through.
-const SEQUENCE_MAX: u64 = 999998;
+ghost use Rattle.book.specs.Checks.{notNumber, atMost, isNoSequence, sequenceFails, arrived, versionWrong, blankIn, fillersFine, isSide, partiesFine};
 
 // The lesser of two numbers.
 pub fn lesser(a: usize, b: usize) -> usize
@@ -79,7 +72,7 @@ pub fn length_fits(body: &[u8]) -> bool
 
 // Whether a field is not digits, or over the most.
 pub fn over(most: u64, f: Field) -> bool
-    ensures { λ r. ⌜ r ≡ notNumber (λ n. leb n most) f ⌝ }
+    ensures { λ r. ⌜ r ≡ notNumber (atMost most) f ⌝ }
 {
     match f {
         Field::Number(n) => !(n <= most),
@@ -96,11 +89,21 @@ fn value_of(f: Field) -> u64
     }
 }
 
+// 11 of a field: not digits, or a number that the line refuses.
+fn is_no_sequence(f: Field) -> bool
+    ensures { λ r. ⌜ r ≡ isNoSequence f ⌝ }
+{
+    match f {
+        Field::Number(n) => (sequence::INBOUND_MAX as u64) < n,
+        Field::NotDigits => true,
+    }
+}
+
 // 11: the sequence number is not digits, or 999999.
 pub fn sequence_fails(body: &[u8]) -> bool
     ensures { λ r. ⌜ r ≡ sequenceFails (now (body .entry)) ⌝ }
 {
-    over(SEQUENCE_MAX, layout::number_in(body, layout::SEQUENCE))
+    is_no_sequence(layout::number_in(body, layout::SEQUENCE))
 }
 
 // The sequence number of a body, 0 where it is not digits.
@@ -111,11 +114,11 @@ pub fn arrived(body: &[u8]) -> Inbound
     Inbound(n as u32)
 }
 
-// 14: version 002.
-pub fn version_fine(body: &[u8]) -> bool
-    ensures { λ r. ⌜ r ≡ same (bytesIn (now (body .entry)) columns.version) (48 ∷ 48 ∷ 50 ∷ []) ⌝ }
+// 14: version not 002.
+pub fn version_wrong(body: &[u8]) -> bool
+    ensures { λ r. ⌜ r ≡ versionWrong (now (body .entry)) ⌝ }
 {
-    column_is(body, layout::VERSION, b"002")
+    !column_is(body, layout::VERSION, b"002")
 }
 
 fn blank_in(body: &[u8], column: Column) -> bool
@@ -150,7 +153,7 @@ fn is_side(t: Trade, body: &[u8]) -> bool
 }
 
 // Whether the submitter is the seller or the buyer of one of the first count trades.
-fn some_side(trades: [Trade; 64], count: usize, body: &[u8]) -> bool
+fn some_side(trades: [Trade; book::TRADES_MAX], count: usize, body: &[u8]) -> bool
     requires { ⌜ count ≤ tradesMax ⌝ }
     ensures { λ r. ⌜ r ≡ any (isSide (now (body .entry))) (take count trades) ⌝ }
 {

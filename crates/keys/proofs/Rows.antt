@@ -1,8 +1,8 @@
--- Matched fields are the same where their rows of bytes are: of two records, of a detail and a record, and of two details.
+-- Matched fields are the same where their rows of bytes are: of two records, and of two details.
 use mathlib.Core.Path.{_≡_, refl, sym, ap, ap₂, _∙_}
 use mathlib.Core.List.{List, [], _∷_, _++_}
 use mathlib.Core.Bool.{Bool, true, false, _&&_}
-use Prim.Native.Nat.{ℕ, _+_}
+use Prim.Native.Nat.{ℕ}
 use native.Mathlib.Omega.{arith}
 use lib.Dec.{eqb}
 use lib.ListN.{length, take, drop, take-append-drop, length-drop}
@@ -56,21 +56,6 @@ module _ (ns ks : List (List ℕ)) where
       (length-part (keyAt ks i) 0 6 (omega arith) ∙ sym (length-part (keyAt ks j) 0 6 (omega arith)))
       (length-part (keyAt ks i) 6 7 (omega arith) ∙ sym (length-part (keyAt ks j) 6 7 (omega arith)))
       ∙ ap₂ same (record-row i a) (record-row j b)
-
-  module _ (d : Detail) (lot : length (d .lot) ≡ 6) (pool : length (d .pool) ≡ 7) where
-    -- a detail and a record
-    pub detail-same : (i : ℕ) → length (keyAt ks i) ≡ 22 → sameFields (fieldsOf d) (liveFields (recordAt ns ks i)) ≡ same (keyOf d) (keyAt ks i)
-    detail-same i a =
-        rows-same (fieldsOf d) (liveFields (recordAt ns ks i))
-        (lot ∙ sym (length-part (keyAt ks i) 0 6 (omega arith))) (pool ∙ sym (length-part (keyAt ks i) 6 7 (omega arith)))
-        ∙ ap (same (keyOf d)) (record-row i a)
-
-    -- a record and a detail
-    pub record-same : (i : ℕ) → length (keyAt ks i) ≡ 22 → sameFields (liveFields (recordAt ns ks i)) (fieldsOf d) ≡ same (keyAt ks i) (keyOf d)
-    record-same i a =
-        rows-same (liveFields (recordAt ns ks i)) (fieldsOf d)
-        (length-part (keyAt ks i) 0 6 (omega arith) ∙ sym lot) (length-part (keyAt ks i) 6 7 (omega arith) ∙ sym pool)
-        ∙ ap (λ (s : List ℕ). same s (keyOf d)) (record-row i a)
 
 -- two details
 pub details-same : (d e : Detail) → length (d .lot) ≡ length (e .lot) → length (d .pool) ≡ length (e .pool) → sameFields (fieldsOf d) (fieldsOf e) ≡ same (keyOf d) (keyOf e)

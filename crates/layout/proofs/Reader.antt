@@ -59,11 +59,6 @@ read-detail body i r e h =
     let k = counted body i h in
     ap (λ (x : Step). x .detail) (e ∙ sym (at-detail body (placeOf i) (detailAt body (placeOf i)) refl (omega arith) (omega arith)))
 
-pub read-next : (body : List ℕ) (i : ℕ) (r : Step) → r ≡ nextDetail body (placeOf i) → i < poolCount body → r .next ≡ placeOf (i + 1)
-read-next body i r e h =
-    let k = counted body i h in
-    ap (λ (x : Step). x .next) (e ∙ sym (at-detail body (placeOf i) (detailAt body (placeOf i)) refl (omega arith) (omega arith))) ∙ omega arith
-
 -- what is left of the details at i
 pub details-left : (body : List ℕ) (i : ℕ) → drop i (details body) ≡ tab (λ (k : ℕ). detailAt body (placeOf k)) (poolCount body - i) i
 unfolding details

@@ -43,7 +43,14 @@ detailAt body place =
 
 -- the detail of an end: zeros
 abbrev pub noDetail : Detail
-noDetail = record { lot = replicate 6 0; pool = replicate 7 0; original = replicate 9 0; terminator = replicate 4 0; current = replicate 11 0 }
+noDetail =
+    record {
+      lot = replicate (lotId .width) 0;
+      pool = replicate (poolNumber .width) 0;
+      original = replicate (originalFace .width) 0;
+      terminator = replicate (terminator .width) 0;
+      current = replicate (currentFace .width) 0;
+    }
 
 -- what the reader gives at a place: the detail and the next place, or the end where no whole detail is left
 unfoldable pub nextDetail : List ℕ → ℕ → Step

@@ -1,7 +1,7 @@
 -- Lists: parts of them, lists made by a function of the index, tests, sums and states over them.
 use Prim.Native.Nat.{ℕ, zero, suc, _+_, _-_}
 use mathlib.Core.List.{List, [], _∷_, _++_}
-use mathlib.Core.Bool.{Bool, true, false, cond, not, _&&_, _||_}
+use mathlib.Core.Bool.{Bool, true, false, cond, _&&_, _||_}
 use lib.ListN.{length, take, drop}
 use lib.Dec.{eqb, leb}
 
@@ -21,6 +21,10 @@ pasted out at xs = cond (within out at (length xs)) (take at out ++ (xs ++ drop 
 abbrev pub tab : {A : Type 0} → (ℕ → A) → ℕ → ℕ → List A
 tab f zero i = []
 tab f (suc n) i = f i ∷ tab f n (i + 1)
+
+-- whether a number lies from low to high
+abbrev pub between : ℕ → ℕ → ℕ → Bool
+between low high n = leb low n && leb n high
 
 -- the elements that pass a test
 abbrev pub keep : {A : Type 0} → (A → Bool) → List A → List A

@@ -9,7 +9,8 @@ use Rattle.layout.specs.declared.Detail.{Detail}
 use Rattle.terminator.specs.declared.Mark.{Mark}
 use Rattle.lots.specs.declared.Walk.{Walk}
 use Rattle.lots.specs.declared.LotWalk.{LotWalk}
-use Rattle.terminator.specs.Terminators.{isEnd, isWrong, isBad, one, term, markOf}
+use Rattle.terminator.specs.Terminators.{isEnd, isWrong, isBad, one, term}
+use Rattle.terminator.specs.Reading.{markOf}
 use Rattle.terminator.specs.Lots.{goesOn, lotsFormed, firstOn, firstCc, formedFor}
 use Rattle.lots.specs.Walks.{firstOf, walkOn, walkNext}
 

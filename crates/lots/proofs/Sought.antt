@@ -15,7 +15,8 @@ use Rattle.layout.proofs.Reader.{details-left}
 use Rattle.terminator.specs.declared.LotRead.{LotRead}
 use Rattle.terminator.specs.declared.LotRead.the-variants.{Found, Nothing}
 use Rattle.terminator.specs.Terminators.{isEnd, term}
-use Rattle.terminator.specs.Lots.{lotsFrom, lots, currentCents, lotEnded, firstLot}
+use Rattle.terminator.specs.Lots.{lotsFrom, lots, currentCents}
+use Rattle.terminator.specs.Reading.{lotEnded, firstLot}
 
 abbrev seek : ℕ → ℕ → ℕ → List Detail → LotRead
 seek first i faces [] = Nothing

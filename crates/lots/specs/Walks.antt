@@ -4,7 +4,7 @@ use mathlib.Core.Bool.{Bool, not, _&&_, _||_, Bool·beq}
 use lib.Dec.{eqb}
 use Rattle.layout.specs.declared.Detail.{Detail}
 use Rattle.terminator.specs.declared.Mark.{Mark}
-use Rattle.terminator.specs.Terminators.{markOf}
+use Rattle.terminator.specs.Reading.{markOf}
 use Rattle.terminator.specs.Lots.{firstOn, firstCc}
 use Rattle.lots.specs.declared.Walk.{Walk}
 use Rattle.lots.specs.declared.LotWalk.{LotWalk}

@@ -7,7 +7,9 @@ ghost use Prim.Native.Nat.{_*_, _≤_};
 ghost use lib.ListN.{drop};
 ghost use Rattle.lists.specs.Lists.{fold};
 ghost use Rattle.layout.specs.Details.{details, poolsMax};
-ghost use Rattle.terminator.specs.Lots.{replacementCount, goodMillions, formedFor, firstLot, lots};
+ghost use Rattle.terminator.specs.Terminators.{millionsMost};
+ghost use Rattle.terminator.specs.Lots.{replacementCount, goodMillions, formedFor, lots};
+ghost use Rattle.terminator.specs.Reading.{firstLot};
 ghost use Rattle.lots.specs.Sums.{countNext, sumNext};
 ghost use Rattle.lots.specs.Walks.{walkOn, walkNext};
 
@@ -70,7 +72,7 @@ struct Summed {
 
 // One pool more.
 fn sum_next(s: Summed, d: Detail) -> Summed
-    requires { ⌜ s .millions ≤ 99 * poolsMax ⌝ }
+    requires { ⌜ s .millions ≤ millionsMost * poolsMax ⌝ }
     ensures { λ r. ⌜ r ≡ sumNext s d ⌝ }
 {
     let m = terminator::mark_of(d);

@@ -13,12 +13,12 @@ use Rattle.layout.proofs.Passes.{poolOf}
 use Rattle.reader.proofs.Turns.{after}
 use Rattle.terminator.specs.declared.Terminator.{Terminator}
 use Rattle.terminator.specs.declared.Terminator.the-variants.{Middle, BadMiddle, GoodEnd, OddEnd, BadEnd, Wrong}
-use Rattle.terminator.specs.Terminators.{isEnd, kindOf, millionsOf, term}
+use Rattle.terminator.specs.Terminators.{isEnd, kindOf, millionsOf, term, millionsMost}
 use Rattle.terminator.specs.Lots.{Lot, currentCents, weightOf, lotWeight, lots}
 use Rattle.terminator.proofs.Marks.{millions-small}
 use Rattle.new_lots.specs.declared.Weighed.{Weighed}
 use Rattle.faces.specs.Faces.{isNew, isNewLot, newWeight}
-use Rattle.new_lots.specs.Runs.{faceLimit, millionsMost, weighPool}
+use Rattle.new_lots.specs.Runs.{faceLimit, weighPool}
 use Rattle.faces.proofs.Kept.{addKept, fold-kept}
 use Rattle.new_lots.proofs.Lotwise.{lotOf, lotwise, cents-snoc}
 use Rattle.terminator.proofs.Found.{cents-small}

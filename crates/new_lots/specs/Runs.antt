@@ -14,10 +14,6 @@ use Rattle.faces.specs.Faces.{isNew, goodLotFails}
 abbrev pub faceLimit : ℕ
 faceLimit = 100000000000
 
--- the most millions that the end of a good lot gives
-abbrev pub millionsMost : ℕ
-millionsMost = 99
-
 -- whether a lot with this end fails 35
 abbrev pub endFails : Terminator → ℕ → ℕ → ℕ → ℕ → Bool
 endFails t sum pools variance poolsAMillion = isGood (kindOf t) && goodLotFails sum pools (millionsOf t) variance poolsAMillion

@@ -5,10 +5,10 @@ ghost use mathlib.Core.Path.{_≡_};
 ghost use Prim.Native.Nat.{_+_, _*_, _≤_};
 ghost use Rattle.lists.specs.Lists.{fold};
 ghost use Rattle.layout.specs.Details.{details, poolsMax};
-ghost use Rattle.terminator.specs.Terminators.{kindOf, millionsOf};
+ghost use Rattle.terminator.specs.Terminators.{kindOf, millionsOf, millionsMost};
 ghost use Rattle.terminator.specs.Lots.{weightOf};
 ghost use Rattle.faces.specs.Faces.{isNew, lotsFail, newWeight};
-ghost use Rattle.new_lots.specs.Runs.{faceLimit, millionsMost, endFails, checkPool, checkNext, weighPool};
+ghost use Rattle.new_lots.specs.Runs.{faceLimit, endFails, checkPool, checkNext, weighPool};
 
 fn is_new(d: Detail) -> bool
     ensures { λ r. ⌜ r ≡ isNew d ⌝ }

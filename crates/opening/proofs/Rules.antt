@@ -5,7 +5,7 @@ use mathlib.Core.Bool.{Bool, true, false, not, _&&_, _||_, and-false}
 use Prim.Native.Nat.{ℕ, _≤_, _<_}
 use lib.Dec.{eqb, leb}
 use borrow.Author.Tests.{le-leb, lt-leb}
-use Rattle.lists.specs.Lists.{any, all, same}
+use Rattle.lists.specs.Lists.{between, any, all, same}
 use Rattle.fields.specs.Fields.{allVisible}
 use Rattle.calendar.specs.Calendar.{isDate, businessDate}
 use Rattle.book.specs.declared.Trade.{Trade}
@@ -17,7 +17,6 @@ use Rattle.book.specs.Opening.{
   holidaysMax,
   elevenDigitsMax,
   priceMax,
-  between,
   holidaysOf,
   limitsFine,
   accountFine,

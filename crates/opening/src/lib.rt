@@ -9,7 +9,7 @@ ghost use mathlib.Core.Bool.{_&&_, _||_};
 ghost use Prim.Native.Nat.{_≤_};
 ghost use lib.ListN.{length, take, drop};
 ghost use lib.Dec.{eqb};
-ghost use Rattle.lists.specs.Lists.{any, all, same};
+ghost use Rattle.lists.specs.Lists.{between, any, all, same};
 ghost use Rattle.calendar.specs.Calendar.{isDate};
 ghost use Rattle.book.specs.Messages.{ftba, fsti};
 ghost use Rattle.book.specs.Trades.{tradeName};
@@ -17,7 +17,6 @@ ghost use Rattle.book.specs.Opening.{
   tradesMax,
   elevenDigitsMax,
   priceMax,
-  between,
   limitsFine,
   accountFine,
   idFine,
@@ -29,14 +28,8 @@ ghost use Rattle.book.specs.Opening.{
 };
 ghost use Rattle.opening.specs.Marks.{markOf};
 
-// Eleven digits: message IDs, and par in cents.
-const ELEVEN_DIGITS_MAX: u64 = 99999999999;
-
 // Twelve digits: a price with nine decimals.
 const PRICE_MAX: u64 = 999999999999;
-
-// Six digits: the last outbound number used.
-const OUTBOUND_MAX: u32 = 999999;
 
 const CEILING_MAX: u64 = 9999;
 
@@ -157,7 +150,7 @@ fn id_fine(t: Trade) -> bool
 fn amounts_fine(price: u64, par: u64) -> bool
     ensures { λ r. ⌜ r ≡ (between 1 priceMax price && between 1 elevenDigitsMax par) ⌝ }
 {
-    ((1 <= price) & (price <= PRICE_MAX)) & ((1 <= par) & (par <= ELEVEN_DIGITS_MAX))
+    ((1 <= price) & (price <= PRICE_MAX)) & ((1 <= par) & (par <= book::ELEVEN_DIGITS_MAX))
 }
 
 // 41: all that is asked of one trade by itself.
@@ -323,8 +316,8 @@ pub fn values_fine(v: Values) -> bool
         & (account_fine(subscriber)
             & (account_fine(connection)
                 & (limits_fine(limits)
-                    & ((v.last <= ELEVEN_DIGITS_MAX)
-                        & ((v.outbound.0 <= OUTBOUND_MAX)
+                    & ((v.last <= book::ELEVEN_DIGITS_MAX)
+                        & ((v.outbound.0 <= sequence::OUTBOUND_MAX)
                             & (trades_fine(trades, count, listed)
                                 & !names_repeat(trades, count)))))))
 }

@@ -4,6 +4,7 @@ use mathlib.Core.List.{List, [], _∷_}
 use mathlib.Core.Bool.{Bool, cond}
 use lib.ListN.{length, getD}
 use lib.Dec.{eqb}
+use Rattle.terminator.specs.Terminators.{millionsMost}
 use Rattle.terminator.specs.Lots.{millionCents}
 use Rattle.book.specs.declared.Pool.{Pool}
 use Rattle.book.specs.Records.{kindGood}
@@ -26,4 +27,4 @@ pub record Weighable (ns : List (List ℕ)) (ms : List ℕ) (live : ℕ) : Type 
   pub marks : live ≤ length ms
   pub few : live ≤ recordsMax
   pub faces : (i : ℕ) → i < live → numberAt ns i 3 ≤ elevenDigitsMax
-  pub millions : (i : ℕ) → i < live → numberAt ns i 5 ≤ 99
+  pub millions : (i : ℕ) → i < live → numberAt ns i 5 ≤ millionsMost

@@ -7,7 +7,6 @@ use borrow.Author.Tests.{ne-eqb}
 use Rattle.book.specs.declared.Book.{Book}
 use Rattle.book.specs.declared.Pool.{Pool}
 use Rattle.book.specs.declared.Reason.{Reason}
-use Rattle.book.specs.Reasons.{numberOf}
 use Rattle.book.specs.Checks.{Call, Check, checks}
 use Rattle.sender.specs.Order.{senderChecks, noCheck, withNumber, numbered, failsIn}
 
@@ -23,11 +22,11 @@ reason-at k j e r h = h ∙ ap (λ (n : ℕ). numbered n .reason) (sym e)
 -- a number is none of the numbers of these checks
 abbrev Apart : ℕ → List Check → Type 0
 Apart n [] = Unit {0}
-Apart n (k ∷ ks) = (n ≡ numberOf (k .reason) → ⊥) × Apart n ks
+Apart n (k ∷ ks) = (n ≡ k .number → ⊥) × Apart n ks
 
 none : (n : ℕ) (ks : List Check) → Apart n ks → withNumber n ks ≡ noCheck
 none n [] h = refl
-none n (k ∷ ks) h = rw (ne-eqb n (numberOf (k .reason)) (h .0)) (none n ks (h .1))
+none n (k ∷ ks) h = rw (ne-eqb n (k .number) (h .0)) (none n ks (h .1))
 
 pub unnumbered : (n : ℕ) → (n ≡ 43 → ⊥) → (n ≡ 44 → ⊥) → (n ≡ 10 → ⊥) → (n ≡ 11 → ⊥) → (n ≡ 12 → ⊥) → (n ≡ 13 → ⊥) → (n ≡ 14 → ⊥) → (n ≡ 15 → ⊥) → (n ≡ 16 → ⊥)
     → (n ≡ 17 → ⊥) → (n ≡ 18 → ⊥) → (n ≡ 19 → ⊥) → (n ≡ 20 → ⊥) → (n ≡ 21 → ⊥) → (n ≡ 22 → ⊥) → (n ≡ 23 → ⊥) → (n ≡ 24 → ⊥) → (n ≡ 25 → ⊥) → numbered n ≡ noCheck

@@ -5,7 +5,6 @@ use mathlib.Core.Bool.{Bool, false, cond, _&&_}
 use lib.ListN.{take, drop}
 use lib.Dec.{eqb}
 use Rattle.book.specs.declared.Reason.the-variants as reason
-use Rattle.book.specs.Reasons.{numberOf}
 use Rattle.book.specs.Messages.{typeOf}
 use Rattle.book.specs.Checks.{Call, Check, check, checks, every}
 
@@ -14,13 +13,16 @@ unfoldable pub senderChecks : List Check
 senderChecks = take 18 (drop 1 checks)
 
 -- what a number names that is none of theirs: a check that no message fails
+abbrev pub never : Call → Bool
+never c = false
+
 abbrev pub noCheck : Check
-noCheck = check reason.Opening every (λ (c : Call). false)
+noCheck = check 41 reason.Opening every never
 
 -- the check with a number
 abbrev pub withNumber : ℕ → List Check → Check
 withNumber n [] = noCheck
-withNumber n (k ∷ ks) = cond (eqb n (numberOf (k .reason))) k (withNumber n ks)
+withNumber n (k ∷ ks) = cond (eqb n (k .number)) k (withNumber n ks)
 
 unfoldable pub numbered : ℕ → Check
 numbered n = withNumber n senderChecks

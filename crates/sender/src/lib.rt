@@ -6,30 +6,28 @@ use sequence::Arrival;
 use tally::MessageType;
 ghost use mathlib.Core.Path.{_≡_};
 ghost use mathlib.Core.List.{List};
-ghost use mathlib.Core.Bool.{not, _&&_, _||_};
-ghost use lib.Dec.{eqb, leb};
-ghost use Rattle.layout.specs.Columns as columns;
-ghost use Rattle.layout.specs.Columns.{numberIn};
-ghost use Rattle.layout.specs.Details.{details};
-ghost use Rattle.terminator.specs.Lots.{formedFor, replacementCount};
-ghost use Rattle.terminator.specs.Groups.{groupsFormed, groupsBalanced};
-ghost use Rattle.calendar.specs.Calendar.{businessDate};
-ghost use Rattle.sequence.specs.Sequence.{arrivalOf, outboundSpent};
+ghost use mathlib.Core.Bool.{_&&_};
 ghost use Rattle.book.specs.declared.Pool.{Pool};
-ghost use Rattle.book.specs.Messages.{typeOf, idIn, isStipulated};
-ghost use Rattle.book.specs.Opening.{holidaysOf, elevenDigitsMax};
+ghost use Rattle.book.specs.Messages.{typeOf};
 ghost use Rattle.book.specs.Checks.{
-  arrived,
   isDuplicate,
   isOther,
   isCc,
   isCx,
   isDk,
   onOrCc,
-  notNumber,
+  numbersSpent,
+  repeatsLast,
+  typeUnknown,
   amountsFail,
-  partiesFine,
-  isWhole,
+  partiesFail,
+  lotFormFails,
+  groupsFail,
+  sumsFail,
+  replacementsFail,
+  settlementFails,
+  reasonFails,
+  tradeIdMissing,
   firstFailing,
 };
 ghost use Rattle.sender.specs.Order.{senderChecks, numbered, failsIn};
@@ -57,12 +55,6 @@ const ORDER: [u8; 18] = [
 ];
 
 const CHECKS: usize = 18;
-
-// Eleven digits hold no higher message ID.
-const LAST_MAX: u64 = 99999999999;
-
-// The bytes of a TX and an AA.
-const ROOM_LEAST: usize = 217;
 
 fn is_duplicate(a: Arrival) -> bool
     ensures { λ r. ⌜ r ≡ isDuplicate a ⌝ }
@@ -137,15 +129,15 @@ fn is_on_or_cc(t: MessageType) -> bool
 
 // 43: the last ID is the highest, or fewer than two outbound numbers are left.
 fn is_spent(book: Book) -> bool
-    ensures { λ r. ⌜ r ≡ (leb elevenDigitsMax (book .values .last) || outboundSpent (book .values .outbound)) ⌝ }
+    ensures { λ r. ⌜ r ≡ numbersSpent (book .values) ⌝ }
 {
     let outbound = book.values.outbound;
-    (LAST_MAX <= book.values.last) | sequence::spent(outbound)
+    (book::ELEVEN_DIGITS_MAX <= book.values.last) | sequence::spent(outbound)
 }
 
 // 12: the sequence number is the last one received.
 fn repeats(book: Book, body: &[u8]) -> bool
-    ensures { λ r. ⌜ r ≡ isDuplicate (arrivalOf (book .line) (arrived (now (body .entry)))) ⌝ }
+    ensures { λ r. ⌜ r ≡ repeatsLast (book .line) (now (body .entry)) ⌝ }
 {
     let line = book.line;
     let number = header::arrived(body);
@@ -154,21 +146,21 @@ fn repeats(book: Book, body: &[u8]) -> bool
 
 // 13: another type.
 fn is_unknown(body: &[u8]) -> bool
-    ensures { λ r. ⌜ r ≡ isOther (typeOf (now (body .entry))) ⌝ }
+    ensures { λ r. ⌜ r ≡ typeUnknown (now (body .entry)) ⌝ }
 {
     is_other(header::message_type(body))
 }
 
 // 16: par, price or GDMM.
 fn amounts_fail(book: Book, body: &[u8]) -> bool
-    ensures { λ r. ⌜ r ≡ amountsFail (book .values .limits .ceiling) (now (body .entry)) ⌝ }
+    ensures { λ r. ⌜ r ≡ amountsFail (book .values) (now (body .entry)) ⌝ }
 {
     sender_rules::amounts_fail(book.values.limits.ceiling, body)
 }
 
 // 17: subscriber, connection, submitter or contra.
 fn parties_fail(book: Book, body: &[u8]) -> bool
-    ensures { λ r. ⌜ r ≡ not (partiesFine (book .values) (now (body .entry))) ⌝ }
+    ensures { λ r. ⌜ r ≡ partiesFail (book .values) (now (body .entry)) ⌝ }
 {
     let values = book.values;
     !header::parties_fine(values, body)
@@ -183,7 +175,7 @@ fn is_cancel(body: &[u8]) -> bool
 
 // 19 of an ON and a CC: terminators that make no whole lots.
 fn lots_fail(body: &[u8]) -> bool
-    ensures { λ r. ⌜ r ≡ (onOrCc (typeOf (now (body .entry))) && not (formedFor (isCc (typeOf (now (body .entry)))) (details (now (body .entry))))) ⌝ }
+    ensures { λ r. ⌜ r ≡ (onOrCc (typeOf (now (body .entry))) && lotFormFails (now (body .entry))) ⌝ }
 {
     let kind = header::message_type(body);
     if !is_on_or_cc(kind) {
@@ -194,7 +186,7 @@ fn lots_fail(body: &[u8]) -> bool
 
 // 20 of a CC: groups that are not formed.
 fn groups_fail(body: &[u8]) -> bool
-    ensures { λ r. ⌜ r ≡ (isCc (typeOf (now (body .entry))) && not (groupsFormed (details (now (body .entry))))) ⌝ }
+    ensures { λ r. ⌜ r ≡ (isCc (typeOf (now (body .entry))) && groupsFail (now (body .entry))) ⌝ }
 {
     if !is_cc(header::message_type(body)) {
         return false;
@@ -205,7 +197,7 @@ fn groups_fail(body: &[u8]) -> bool
 
 // 21 of a CC: a group whose sums are unlike.
 fn sums_fail(body: &[u8]) -> bool
-    ensures { λ r. ⌜ r ≡ (isCc (typeOf (now (body .entry))) && not (groupsBalanced (details (now (body .entry))))) ⌝ }
+    ensures { λ r. ⌜ r ≡ (isCc (typeOf (now (body .entry))) && sumsFail (now (body .entry))) ⌝ }
 {
     if !is_cc(header::message_type(body)) {
         return false;
@@ -216,7 +208,7 @@ fn sums_fail(body: &[u8]) -> bool
 
 // 22 of a CC: the number of replacement pools.
 fn replacements_fail(body: &[u8]) -> bool
-    ensures { λ r. ⌜ r ≡ (isCc (typeOf (now (body .entry))) && notNumber (eqb (replacementCount (details (now (body .entry))))) (numberIn (now (body .entry)) columns.numberOfPools)) ⌝ }
+    ensures { λ r. ⌜ r ≡ (isCc (typeOf (now (body .entry))) && replacementsFail (now (body .entry))) ⌝ }
 {
     if !is_cc(header::message_type(body)) {
         return false;
@@ -226,7 +218,7 @@ fn replacements_fail(body: &[u8]) -> bool
 
 // 23 of a CC: settlement.
 fn settlement_fails(book: Book, body: &[u8]) -> bool
-    ensures { λ r. ⌜ r ≡ (isCc (typeOf (now (body .entry))) && notNumber (λ n. businessDate n (holidaysOf (book .values))) (numberIn (now (body .entry)) columns.settlement)) ⌝ }
+    ensures { λ r. ⌜ r ≡ (isCc (typeOf (now (body .entry))) && settlementFails (book .values) (now (body .entry))) ⌝ }
 {
     if !is_cc(header::message_type(body)) {
         return false;
@@ -237,7 +229,7 @@ fn settlement_fails(book: Book, body: &[u8]) -> bool
 
 // 24 of a DK: its reason.
 fn reason_fails(body: &[u8]) -> bool
-    ensures { λ r. ⌜ r ≡ (isDk (typeOf (now (body .entry))) && notNumber (leb 1) (numberIn (now (body .entry)) columns.reason)) ⌝ }
+    ensures { λ r. ⌜ r ≡ (isDk (typeOf (now (body .entry))) && reasonFails (now (body .entry))) ⌝ }
 {
     if !is_dk(header::message_type(body)) {
         return false;
@@ -247,7 +239,7 @@ fn reason_fails(body: &[u8]) -> bool
 
 // 25 of a DK: its trade ID.
 fn id_fails(body: &[u8]) -> bool
-    ensures { λ r. ⌜ r ≡ (isDk (typeOf (now (body .entry))) && (isStipulated (now (body .entry)) && not (isWhole (idIn (now (body .entry)))))) ⌝ }
+    ensures { λ r. ⌜ r ≡ (isDk (typeOf (now (body .entry))) && tradeIdMissing (now (body .entry))) ⌝ }
 {
     if !is_dk(header::message_type(body)) {
         return false;
@@ -261,12 +253,12 @@ fn fails(book: Book, body: &[u8], room: usize, number: u8) -> bool
 {
     match number {
         43 => is_spent(book),
-        44 => room < ROOM_LEAST,
+        44 => room < book::ROOM_LEAST,
         10 => !header::length_fits(body),
         11 => header::sequence_fails(body),
         12 => repeats(book, body),
         13 => is_unknown(body),
-        14 => !header::version_fine(body),
+        14 => header::version_wrong(body),
         15 => !header::fillers_fine(body),
         16 => amounts_fail(book, body),
         17 => parties_fail(book, body),

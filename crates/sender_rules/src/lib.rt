@@ -3,16 +3,8 @@ use book::Values;
 use fields::Field;
 use trade_id::TradeId;
 ghost use mathlib.Core.Path.{_≡_};
-ghost use mathlib.Core.Bool.{not, _&&_};
 ghost use lib.Dec.{eqb, leb};
-ghost use Rattle.layout.specs.Columns as columns;
-ghost use Rattle.layout.specs.Columns.{numberIn};
-ghost use Rattle.layout.specs.Details.{details};
-ghost use Rattle.terminator.specs.Lots.{replacementCount, goodMillions};
-ghost use Rattle.calendar.specs.Calendar.{businessDate};
-ghost use Rattle.book.specs.Messages.{idIn, isStipulated};
-ghost use Rattle.book.specs.Opening.{holidaysOf};
-ghost use Rattle.book.specs.Checks.{notNumber, amountsFail, isWhole};
+ghost use Rattle.book.specs.Checks.{notNumber, amountsWrong, replacementsFail, isBusinessDate, settlementFails, reasonFails, tradeIdMissing, millionsFail};
 
 fn wide(x: usize) -> u64
     ensures { λ r. ⌜ r ≡ x ⌝ }
@@ -42,7 +34,7 @@ fn is_unlike(k: u64, f: Field) -> bool
 
 // Whether a field is not digits, or no business date.
 fn is_no_business_date(f: Field, holidays: &[u32]) -> bool
-    ensures { λ r. ⌜ r ≡ notNumber (λ n. businessDate n (now (holidays .entry))) f ⌝ }
+    ensures { λ r. ⌜ r ≡ notNumber (isBusinessDate (now (holidays .entry))) f ⌝ }
 {
     match f {
         Field::Number(n) => !calendar::business_date(n, holidays),
@@ -52,7 +44,7 @@ fn is_no_business_date(f: Field, holidays: &[u32]) -> bool
 
 // 16: par or price 0, or GDMM over the ceiling.
 pub fn amounts_fail(ceiling: u64, body: &[u8]) -> bool
-    ensures { λ r. ⌜ r ≡ amountsFail ceiling (now (body .entry)) ⌝ }
+    ensures { λ r. ⌜ r ≡ amountsWrong ceiling (now (body .entry)) ⌝ }
 {
     let par = layout::number_in(body, layout::PAR);
     let price = layout::number_in(body, layout::PRICE);
@@ -62,7 +54,7 @@ pub fn amounts_fail(ceiling: u64, body: &[u8]) -> bool
 
 // 22: the number of pools is not the number of replacement pools.
 pub fn replacements_fail(body: &[u8]) -> bool
-    ensures { λ r. ⌜ r ≡ notNumber (eqb (replacementCount (details (now (body .entry))))) (numberIn (now (body .entry)) columns.numberOfPools) ⌝ }
+    ensures { λ r. ⌜ r ≡ replacementsFail (now (body .entry)) ⌝ }
 {
     let count = wide(lots::replacement_count(body));
     is_unlike(count, layout::number_in(body, layout::NUMBER_OF_POOLS))
@@ -70,7 +62,7 @@ pub fn replacements_fail(body: &[u8]) -> bool
 
 // 23: settlement is no business date.
 pub fn settlement_fails(v: Values, body: &[u8]) -> bool
-    ensures { λ r. ⌜ r ≡ notNumber (λ n. businessDate n (holidaysOf v)) (numberIn (now (body .entry)) columns.settlement) ⌝ }
+    ensures { λ r. ⌜ r ≡ settlementFails v (now (body .entry)) ⌝ }
 {
     let days = header::lesser(v.days, book::HOLIDAYS_MAX);
     let holidays = v.holidays;
@@ -80,14 +72,14 @@ pub fn settlement_fails(v: Values, body: &[u8]) -> bool
 
 // 24: a DK's reason is 0 or not digits.
 pub fn reason_fails(body: &[u8]) -> bool
-    ensures { λ r. ⌜ r ≡ notNumber (leb 1) (numberIn (now (body .entry)) columns.reason) ⌝ }
+    ensures { λ r. ⌜ r ≡ reasonFails (now (body .entry)) ⌝ }
 {
     is_nothing(layout::number_in(body, layout::REASON))
 }
 
 // 25: a stipulated DK without a whole trade ID.
 pub fn no_trade_id(body: &[u8]) -> bool
-    ensures { λ r. ⌜ r ≡ (isStipulated (now (body .entry)) && not (isWhole (idIn (now (body .entry))))) ⌝ }
+    ensures { λ r. ⌜ r ≡ tradeIdMissing (now (body .entry)) ⌝ }
 {
     if !header::is_stipulated(body) {
         return false;
@@ -101,7 +93,7 @@ pub fn no_trade_id(body: &[u8]) -> bool
 
 // 33: GDMM is not the sum of the good millions.
 pub fn millions_fail(body: &[u8]) -> bool
-    ensures { λ r. ⌜ r ≡ notNumber (eqb (goodMillions (details (now (body .entry))))) (numberIn (now (body .entry)) columns.gdmm) ⌝ }
+    ensures { λ r. ⌜ r ≡ millionsFail (now (body .entry)) ⌝ }
 {
     let sum = lots::good_millions(body);
     is_unlike(sum, layout::number_in(body, layout::GDMM))

@@ -15,7 +15,7 @@ use Rattle.sequence.specs.declared.Arrival.the-variants.{Refused, Duplic
 abbrev pub firstNumber : ℕ
 firstNumber = 1
 
--- 11 refuses 999999, and six digits hold no more
+-- the highest number that 11 lets through
 abbrev pub inboundMax : ℕ
 inboundMax = 999998
 
@@ -44,10 +44,14 @@ abbrev pub isLast : Received → Inbound → Bool
 isLast Nothing number = false
 isLast (Last last) number = eqb (number .0) (last .0)
 
+-- 11: the line refuses 999999, and what six digits do not hold
+abbrev pub isRefused : ℕ → Bool
+isRefused n = ltb inboundMax n
+
 -- 11, then 12, then the expected one; any other is a gap
 unfoldable pub arrivalOf : Line → Inbound → Arrival
 arrivalOf line number =
-    cond (ltb inboundMax (number .0)) Refused
+    cond (isRefused (number .0)) Refused
     (cond (isLast (line .received) number) Duplicate
     (cond (eqb (number .0) (line .expected .0)) Expected Gap))
 

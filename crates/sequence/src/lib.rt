@@ -31,9 +31,9 @@ pub enum Arrival {
 // The first number that a line expects.
 const FIRST: u32 = 1;
 // The highest inbound number that check 11 lets through.
-const INBOUND_MAX: u32 = 999998;
+pub const INBOUND_MAX: u32 = 999998;
 // The highest outbound number.
-const OUTBOUND_MAX: u32 = 999999;
+pub const OUTBOUND_MAX: u32 = 999999;
 // The highest last number that leaves a call its two (43).
 const OUTBOUND_LAST_MAX: u32 = 999997;
 

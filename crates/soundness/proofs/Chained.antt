@@ -7,12 +7,12 @@ use native.Mathlib.Omega.{arith}
 use lib.ListN.{length, getD, take, replicate}
 use lib.Dec.{leb, ltb}
 use borrow.Author.Tests.{not-true, not-false, leb-true, lt-ltb}
-use Rattle.lists.specs.Lists.{tab, all}
+use Rattle.lists.specs.Lists.{tab, all, between}
 use Rattle.lists.proofs.Tables.{tab-turn, tab-end, tab-all}
 use Rattle.lists.proofs.Tests.{and-left, and-right}
 use Rattle.book.specs.declared.Pool.{Pool}
 use Rattle.book.specs.declared.Values.{Values}
-use Rattle.book.specs.Opening.{elevenDigitsMax, between}
+use Rattle.book.specs.Opening.{elevenDigitsMax}
 use Rattle.book.specs.Soundness.{kindFine, recordFine, follows, inOrder}
 use Rattle.table.specs.Rows.{keyAt, recordAt, tableOf}
 use Rattle.table.proofs.Rows.{take-table}

@@ -7,7 +7,7 @@ use native.Mathlib.Omega.{arith}
 use lib.ListN.{length, take, drop}
 use lib.Dec.{eqb, leb, ltb}
 use borrow.Author.Tests.{eq-eqb, ne-eqb, eqb-true, le-leb, lt-leb, leb-true, ltb-true, not-true, not-false}
-use Rattle.lists.specs.Lists.{all}
+use Rattle.lists.specs.Lists.{all, between}
 use Rattle.lists.proofs.Tests.{and-left, and-right}
 use Rattle.sequence.specs.Sequence.{soundLine}
 use Rattle.book.specs.declared.Pool.{Pool}
@@ -15,7 +15,7 @@ use Rattle.book.specs.declared.Values.{Values}
 use Rattle.book.specs.declared.Book.{Book}
 use Rattle.book.specs.Records.{kindGood, kindOdd, kindBad}
 use Rattle.book.specs.Trades.{tradesOf}
-use Rattle.book.specs.Opening.{tradesMax, recordsMax, elevenDigitsMax, between, valuesFine}
+use Rattle.book.specs.Opening.{tradesMax, recordsMax, elevenDigitsMax, valuesFine}
 use Rattle.book.specs.Soundness.{kindFine, recordFine, inOrder, fieldsOnce, isNone, parsFrom, isSound}
 use Rattle.table.specs.Rows.{recordAt, tableOf}
 use Rattle.table.proofs.Rows.{length-table, take-table}

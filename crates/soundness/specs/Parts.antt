@@ -3,6 +3,7 @@ use Prim.Native.Nat.{ℕ, _≤_, _<_}
 use mathlib.Core.List.{List, []}
 use lib.ListN.{getD}
 use Rattle.lists.specs.Lists.{part}
+use Rattle.terminator.specs.Terminators.{millionsMost}
 use Rattle.sequence.specs.Sequence.{outbound}
 use Rattle.book.specs.declared.Values.{Values}
 use Rattle.book.specs.declared.Pool.{Pool}
@@ -41,4 +42,4 @@ against count last =
 
 -- each of the first rows has one of 64 trades, a face of eleven digits and at most 99 millions
 abbrev pub Light : List (List ℕ) → ℕ → Type 0
-Light ns live = (i : ℕ) → i < live → (numberAt ns i 2 < tradesMax) × (numberAt ns i 3 ≤ elevenDigitsMax) × (numberAt ns i 5 ≤ 99)
+Light ns live = (i : ℕ) → i < live → (numberAt ns i 2 < tradesMax) × (numberAt ns i 3 ≤ elevenDigitsMax) × (numberAt ns i 5 ≤ millionsMost)

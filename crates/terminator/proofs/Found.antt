@@ -11,7 +11,8 @@ use Rattle.terminator.specs.declared.Kind.{Kind}
 use Rattle.terminator.specs.declared.Terminator.{Terminator}
 use Rattle.terminator.specs.declared.LotHead.{LotHead}
 use Rattle.terminator.specs.Terminators.{kindOf, millionsOf, one, term}
-use Rattle.terminator.specs.Lots.{valueOf, currentCents, weightOf, lotEnded}
+use Rattle.terminator.specs.Lots.{valueOf, currentCents, weightOf}
+use Rattle.terminator.specs.Reading.{lotEnded}
 
 pub cents-of : (d : Detail) (f : Field) → f ≡ readNumber (d .current) 0 11 → valueOf f ≡ currentCents d
 unfolding currentCents

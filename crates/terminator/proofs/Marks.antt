@@ -14,7 +14,8 @@ use Rattle.terminator.specs.declared.Terminator.{Terminator}
 use Rattle.terminator.specs.declared.Terminator.the-variants.{Middle, BadMiddle, GoodEnd, OddEnd, BadEnd, Wrong}
 use Rattle.terminator.specs.declared.Mark.{Mark}
 use Rattle.terminator.specs.declared.Kind.{Kind}
-use Rattle.terminator.specs.Terminators.{positions, positionsOf, terminatorOf, isEnd, isWrong, isBad, kindOf, millionsOf, one, term, isGood, isOdd, markOf}
+use Rattle.terminator.specs.Terminators.{positions, positionsOf, terminatorOf, isEnd, isWrong, isBad, kindOf, millionsOf, one, term, isGood, isOdd}
+use Rattle.terminator.specs.Reading.{markOf}
 
 pub good-end : (n : ℕ) → (n ≡ 0 → ⊥) → n ≤ 99 → GoodEnd n ≡ positions n
 unfolding positions

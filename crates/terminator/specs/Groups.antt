@@ -1,12 +1,10 @@
 -- Groups of a CC (01, "Terminators"): runs of canceled lots and of the lots that replace them, and checks 20 and 21.
-use Prim.Native.Nat.{ℕ, zero, suc, _+_}
 use mathlib.Core.List.{List, [], _∷_, _++_}
-use mathlib.Core.Bool.{Bool, true, false, cond, not, _&&_, _||_}
+use mathlib.Core.Bool.{Bool, cond, not, _&&_, _||_}
 use lib.ListN.{length}
 use lib.Dec.{eqb, leb}
 use Rattle.lists.specs.Lists.{sumOf, all}
 use Rattle.layout.specs.declared.Detail.{Detail}
-use Rattle.terminator.specs.declared.Groups.{Groups}
 use Rattle.terminator.specs.declared.Kind.{Kind}
 use Rattle.terminator.specs.declared.Kind.the-variants.{Good, Odd, Bad}
 use Rattle.terminator.specs.Terminators.{isCanceled, isGood, isOdd}
@@ -59,7 +57,3 @@ groupBalanced g = eqb (sumOf lotMillions (g .canceled)) (sumOf lotMillions (g .r
 
 unfoldable pub groupsBalanced : List Detail → Bool
 groupsBalanced ds = all groupBalanced (groups ds)
-
--- 20 and 21 together
-abbrev pub groupsJudged : List Detail → Groups
-groupsJudged ds = record { formed = groupsFormed ds; balanced = groupsBalanced ds }

@@ -1,3 +1,4 @@
 pub mod Terminators
 pub mod Lots
 pub mod Groups
+pub mod Reading

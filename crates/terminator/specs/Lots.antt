@@ -1,7 +1,7 @@
 -- Lots (01, "Terminators"): the pools of a message put together by their terminators, their weight, and check 19.
-use Prim.Native.Nat.{ℕ, zero, suc, _+_, _*_}
+use Prim.Native.Nat.{ℕ, _*_}
 use mathlib.Core.List.{List, [], _∷_, _++_}
-use mathlib.Core.Bool.{Bool, true, false, cond, not, _&&_, _||_, Bool·beq}
+use mathlib.Core.Bool.{Bool, true, cond, not, _&&_, _||_, Bool·beq}
 use lib.ListN.{length}
 use lib.Dec.{eqb}
 use Rattle.lists.specs.Lists.{sumOf, keep}
@@ -9,12 +9,10 @@ use Rattle.fields.specs.declared.Field.{Field}
 use Rattle.fields.specs.declared.Field.the-variants.{Number, NotDigits}
 use Rattle.fields.specs.Fields.{readNumber}
 use Rattle.layout.specs.declared.Detail.{Detail}
+use Rattle.layout.specs.Columns.{currentFace}
 use Rattle.terminator.specs.declared.Kind.{Kind}
 use Rattle.terminator.specs.declared.Kind.the-variants.{Good, Odd, Bad}
-use Rattle.terminator.specs.declared.LotHead.{LotHead}
-use Rattle.terminator.specs.declared.LotRead.{LotRead}
-use Rattle.terminator.specs.declared.LotRead.the-variants.{Found, Nothing}
-use Rattle.terminator.specs.Terminators.{digitNew, digitCanceled, digitReplacement, isEnd, isWrong, isBad, kindOf, millionsOf, one, term, isCanceled}
+use Rattle.terminator.specs.Terminators.{digitNew, digitCanceled, digitReplacement, isEnd, isWrong, isBad, kindOf, millionsOf, one, term, isReplacement}
 
 -- a lot: zero or more middles and one end
 pub record Lot : Type 0 where
@@ -46,7 +44,7 @@ valueOf NotDigits = 0
 
 -- a pool's current face in cents, 0 where it is not digits (34 refuses that)
 unfoldable pub currentCents : Detail → ℕ
-currentCents d = valueOf (readNumber (d .current) 0 11)
+currentCents d = valueOf (readNumber (d .current) 0 (currentFace .width))
 
 -- the cents of a million dollars
 abbrev pub millionCents : ℕ
@@ -61,23 +59,6 @@ weightOf Bad millions faces = faces
 -- an odd or bad lot weighs the sum of its current faces
 unfoldable pub lotWeight : Lot → ℕ
 lotWeight l = weightOf (lotKind l) (lotMillions l) (sumOf currentCents (poolsOf l))
-
--- a lot as the code hands it over, by the pool that ends it, the places of its first and last pool and the sum of its faces
-unfoldable pub lotEnded : Detail → ℕ → ℕ → ℕ → LotHead
-lotEnded d first last faces =
-    record {
-      one = one d;
-      kind = kindOf (term d);
-      millions = millionsOf (term d);
-      first = first;
-      last = last;
-      weight = weightOf (kindOf (term d)) (millionsOf (term d)) faces;
-    }
-
--- the first of a list of lots, which begins at the pool first
-abbrev pub firstLot : ℕ → List Lot → LotRead
-firstLot first [] = Nothing
-firstLot first (l ∷ ls) = Found (lotEnded (l .last) first (first + length (l .middles)) (sumOf currentCents (poolsOf l)))
 
 -- the good millions that a message's lots sum to
 unfoldable pub goodMillions : List Detail → ℕ
@@ -105,6 +86,6 @@ firstCc b = eqb b digitCanceled || eqb b digitReplacement
 unfoldable pub formedFor : Bool → List Detail → Bool
 formedFor cc ds = lotsFormed (cond cc firstCc firstOn) ds
 
--- 22: the replacement count is that of the pools that begin with 7
+-- 22: the replacement count is that of the pools that begin with 7, which after 19 are the new pools of a CC
 unfoldable pub replacementCount : List Detail → ℕ
-replacementCount ds = length (keep (λ (d : Detail). eqb (one d) digitReplacement) ds)
+replacementCount ds = length (keep isReplacement ds)

@@ -1,7 +1,7 @@
 -- Terminators (01, "Terminators"; 001, section 3): what the four positions of one pool say.
-use Prim.Native.Nat.{ℕ, zero, suc, _+_}
-use mathlib.Core.List.{List, [], _∷_}
-use mathlib.Core.Bool.{Bool, true, false, cond, _||_}
+use Prim.Native.Nat.{ℕ}
+use mathlib.Core.List.{List}
+use mathlib.Core.Bool.{Bool, true, false, cond}
 use lib.ListN.{getD}
 use lib.Dec.{eqb, leb}
 use Rattle.fields.specs.declared.Field.{Field}
@@ -10,7 +10,6 @@ use Rattle.fields.specs.Fields.{readNumber}
 use Rattle.layout.specs.declared.Detail.{Detail}
 use Rattle.terminator.specs.declared.Terminator.{Terminator}
 use Rattle.terminator.specs.declared.Terminator.the-variants.{Middle, BadMiddle, GoodEnd, OddEnd, BadEnd, Wrong}
-use Rattle.terminator.specs.declared.Mark.{Mark}
 use Rattle.terminator.specs.declared.Kind.{Kind}
 use Rattle.terminator.specs.declared.Kind.the-variants.{Good, Odd, Bad}
 
@@ -24,12 +23,16 @@ digitCanceled = 54
 abbrev pub digitReplacement : ℕ
 digitReplacement = 55
 
+-- the most millions of a good lot
+abbrev pub millionsMost : ℕ
+millionsMost = 99
+
 -- positions two to four: 000 middle of a good or odd lot, 001 to 099 end of a good lot, 999 of an odd one,
 -- 888 middle and 889 end of a bad-delivery lot; all else is wrong
 unfoldable pub positions : ℕ → Terminator
 positions n =
     cond (eqb n 0) Middle
-    (cond (leb n 99) (GoodEnd n)
+    (cond (leb n millionsMost) (GoodEnd n)
     (cond (eqb n 888) BadMiddle
     (cond (eqb n 889) BadEnd
     (cond (eqb n 999) OddEnd Wrong))))
@@ -97,9 +100,12 @@ one d = positionOne (d .terminator)
 abbrev pub term : Detail → Terminator
 term d = terminatorOf (d .terminator)
 
--- a pool that a CC cancels; every other pool is new
+-- a pool that a CC cancels, and one that replaces
 abbrev pub isCanceled : Detail → Bool
 isCanceled d = eqb (one d) digitCanceled
+
+abbrev pub isReplacement : Detail → Bool
+isReplacement d = eqb (one d) digitReplacement
 
 abbrev pub isGood : Kind → Bool
 isGood Good = true
@@ -110,16 +116,3 @@ abbrev pub isOdd : Kind → Bool
 isOdd Good = false
 isOdd Odd = true
 isOdd Bad = false
-
--- all that a pool's terminator says, taken apart
-unfoldable pub markOf : Detail → Mark
-markOf d =
-    record {
-      one = one d;
-      wrong = isWrong (term d);
-      end = isEnd (term d);
-      bad = isBad (term d);
-      good = isGood (kindOf (term d));
-      odd = isOdd (kindOf (term d));
-      millions = millionsOf (term d);
-    }

@@ -3,8 +3,9 @@ use fields::Field;
 use layout::Detail;
 ghost use mathlib.Core.Path.{_≡_};
 ghost use Prim.Native.Nat.{_≤_};
-ghost use Rattle.terminator.specs.Terminators.{positions, terminatorOf, isEnd, isWrong, isBad, kindOf, millionsOf, isGood, isOdd, markOf};
-ghost use Rattle.terminator.specs.Lots.{currentCents, weightOf, lotEnded};
+ghost use Rattle.terminator.specs.Terminators.{millionsMost, positions, terminatorOf, isEnd, isWrong, isBad, kindOf, millionsOf, isGood, isOdd};
+ghost use Rattle.terminator.specs.Reading.{markOf, lotEnded};
+ghost use Rattle.terminator.specs.Lots.{currentCents, weightOf};
 
 // What positions two to four say.
 pub enum Terminator {
@@ -208,7 +209,7 @@ pub fn current_cents(d: Detail) -> u64
 
 // The weight in cents of a lot of a kind, its millions and the sum of its current faces.
 fn weight_of(kind: Kind, millions: u64, faces: u64) -> u64
-    requires { ⌜ millions ≤ 99 ⌝ }
+    requires { ⌜ millions ≤ millionsMost ⌝ }
     ensures { λ r. ⌜ r ≡ weightOf kind millions faces ⌝ }
 {
     match kind {

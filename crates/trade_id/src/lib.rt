@@ -19,7 +19,7 @@ enum Mark {
 
 const MARK_LENGTH: usize = 5;
 
-const ID_LENGTH_MAX: usize = 16;
+pub const ID_LENGTH_MAX: usize = 16;
 
 // A division by this drops the last three decimals of a price.
 const LAST_THREE: u64 = 1000;

@@ -12,6 +12,7 @@ use native.Mathlib.Decide.{decLt}
 use Rattle.lists.specs.Lists.{any, keep}
 use Rattle.layout.specs.Details.{details}
 use Rattle.terminator.specs.Terminators.{isCanceled}
+use Rattle.terminator.specs.Lots.{formedFor}
 use Rattle.faces.specs.Faces.{newPools}
 use Rattle.tally.specs.declared.MessageType.{MessageType}
 use Rattle.tally.specs.declared.MessageType.the-variants.{On, Cc, Dk, Cx, Other}
@@ -27,6 +28,7 @@ use Rattle.book.specs.Opening.{recordsMax}
 use Rattle.book.specs.Soundness.{Sound}
 use Rattle.book.specs.Checks.{Check, live, isOn, isCc, isDk, onOrCc, ccOrDk, targetTrade, tradeAt, concerned, concernedFor, isTaken, taken, listedFine, parFine, tableFine, checks, firstFailing}
 use Rattle.book.proofs.Reached.{is-sound}
+use Rattle.book.proofs.ListLaws.{or-right}
 use Rattle.table.specs.Rows.{recordAt, numberAt, tableOf}
 use Rattle.table.proofs.Rows.{length-table, table-at}
 use Rattle.places.specs.declared.Run.{Run}
@@ -98,8 +100,13 @@ module _ (book : Book) (ns ks : List (List ℕ)) (body : List ℕ) (y : Ready bo
   pub few : length ns ≤ recordsMax
   few = omega (arith, length-table ns ks, leb-true (length (tableOf ns ks)) recordsMax (sure .tableShort))
 
+  formed-cc : isCc (typeOf body) ≡ true → formedFor true (details body) ≡ true
+  formed-cc e =
+      let f : formedFor (isCc (typeOf body)) (details body) ≡ true = y .formed (or-right (isOn (typeOf body)) (isCc (typeOf body)) e) in
+      rw e at f
+
   pub findable : Findable body ns ks (book .live)
-  findable = record { rows = y .paired; within = within; few = few; ordered = sure .ordered; once = sure .once; formed = y .formed }
+  findable = record { rows = y .paired; within = within; few = few; ordered = sure .ordered; once = sure .once; formed = formed-cc }
 
   pub weighable : (ms : List ℕ) → length ms ≡ recordsMax → Weighable ns ms (book .live)
   weighable ms e =
@@ -190,10 +197,10 @@ module _ (book : Book) (ns ks : List (List ℕ)) (body : List ℕ) (y : Ready bo
           par-fails h = rw (tests, rw (both-is, par-is) at h)
 
           module _ (h38 : (b && not p) ≡ false) (q : Bool)
-              (eq : q ≡ leb (book .live + length (newPools (details body))) (length ns + cond cc (length (keep isCanceled (details body))) 0)) where
+              (eq : formedFor cc (details body) ≡ true → q ≡ leb (book .live + length (newPools (details body))) (length ns + cond cc (length (keep isCanceled (details body))) 0)) where
             fits-is : onOrCc (typeOf body) ≡ true → q ≡ tableFine (callOn book ns ks body room)
             unfolding listed
-            fits-is o = eq ∙ rw (size, length-table ns ks, ec, ek) (ap (λ (n : ℕ). leb (book .live + length (newPools (details body))) (length ns + n)) (go (typeOf body) o))
+            fits-is o = eq (rw (ec, ek) (y .formed o)) ∙ rw (size, length-table ns ks, ec, ek) (ap (λ (n : ℕ). leb (book .live + length (newPools (details body))) (length ns + n)) (go (typeOf body) o))
               where
                 go : (j : MessageType) → onOrCc j ≡ true → cond (isCc j) (length (keep isCanceled (details body))) 0 ≡ length (map fieldsOf (listedOf j (details body)))
                 go On o = refl

@@ -1,82 +1,47 @@
 -- Numbers 38 and 40: what a trade's open par holds, and what a table holds.
-use Prim.Native.Nat.{ℕ, zero, suc, _+_, _-_, _≤_, _<_}
+use Prim.Native.Nat.{ℕ, _+_, _-_, _≤_, _<_}
 use native.Mathlib.Omega.{arith}
-use mathlib.Core.Path.{_≡_, refl, sym}
-use mathlib.Core.List.{List, [], _∷_}
+use mathlib.Core.Path.{_≡_, sym, ap, _∙_}
+use mathlib.Core.List.{List}
 use mathlib.Core.Bool.{Bool, true, false, cond, _&&_}
 use lib.ListN.{length, take, getD, length-take}
 use lib.Dec.{leb, ltb}
 use native.Mathlib.Decide.{decLt}
 use lib.Seq.{getD-take}
-use borrow.Author.Tests.{eq-eqb, ne-eqb, le-leb, lt-leb, lt-ltb, le-ltb}
-use Rattle.lists.specs.Lists.{keep, fold}
-use Rattle.lists.proofs.Folds.{fold-count}
-use Rattle.lists.proofs.Tables.{length-tab}
-use Rattle.layout.specs.declared.Detail.{Detail}
-use Rattle.layout.specs.Details.{poolsMax, details, poolCount, detailAt, placeOf}
+use borrow.Author.Tests.{le-leb, lt-leb, lt-ltb, le-ltb}
+use Rattle.lists.specs.Lists.{keep}
+use Rattle.layout.specs.Details.{poolsMax, details, poolCount}
 use Rattle.layout.proofs.Lengths.{count-max}
-use Rattle.layout.proofs.Passes.{poolOf}
-use Rattle.reader.proofs.Turns.{after}
-use Rattle.terminator.specs.Terminators.{one, isCanceled, digitCanceled}
-use Rattle.faces.specs.Faces.{isNew, newPools}
+use Rattle.layout.proofs.Reader.{length-details}
+use Rattle.terminator.specs.Terminators.{isCanceled, isReplacement}
+use Rattle.terminator.specs.Lots.{formedFor, replacementCount}
+use Rattle.faces.specs.Faces.{newPools}
+use Rattle.faces.proofs.NewPools.{on-new, cc-new}
 use Rattle.book.specs.declared.Trade.{Trade}
 use Rattle.book.specs.Checks.{noTrade, tradeAt}
 use Rattle.book.proofs.ListLaws.{length-keep}
-use Rattle.trader.specs.declared.NewCount.{NewCount}
-use Rattle.trader.specs.Counting.{countPool}
-
--- ---- new pools are counted one after another
-pub count-more : (s : NewCount) (d : Detail) → (one d ≡ digitCanceled → ⊥) → _≡_ {A = NewCount} (record { pools = s .pools + 1 }) (countPool s d)
-unfolding countPool
-count-more s d h = rw (ne-eqb (one d) digitCanceled h)
-
-pub count-same : (s : NewCount) (d : Detail) → one d ≡ digitCanceled → s ≡ countPool s d
-unfolding countPool
-count-same s d e = rw (eq-eqb (one d) digitCanceled e)
-
-abbrev addNew : ℕ → Detail → ℕ
-addNew n d = cond (isNew d) (n + 1) n
-
-count-fold : (n : ℕ) (ds : List Detail) → fold countPool (record { pools = n }) ds .pools ≡ fold addNew n ds
-unfolding countPool
-count-fold n [] = refl
-count-fold n (d ∷ ds) = count-fold (addNew n d) ds
-
-pub count-pass : (ds : List Detail) → fold countPool (record { pools = 0 }) ds .pools ≡ length (newPools ds)
-count-pass ds = omega (arith, count-fold 0 ds, fold-count isNew 0 ds)
-
-count-next : (s : NewCount) (d : Detail) → countPool s d .pools ≤ s .pools + 1
-unfolding countPool
-count-next s d = go (isNew d)
-  where
-    go : (b : Bool) → cond b (s .pools + 1) (s .pools) ≤ s .pools + 1
-    go true = omega arith
-    go false = omega arith
-
--- after i turns at most i pools are counted
-module _ (s : NewCount) (h : s .pools ≡ 0) (body : List ℕ) where
-  count-most : (i : ℕ) → after countPool body s i .pools ≤ i
-  count-most zero = omega (arith, h)
-  count-most (suc i) = omega (arith, count-most i, count-next (after countPool body s i) (poolOf body i))
-
-  pub count-fits : (i : ℕ) → i < poolCount body → after countPool body s i .pools ≤ poolsMax
-  count-fits i l = omega (arith, l, count-max body, count-most i)
 
 -- ---- 40
 pub pools-few : (body : List ℕ) (n : ℕ) → n ≡ poolCount body → n ≤ poolsMax
 pools-few body n e = omega (arith, count-max body)
 
-pub canceled-rest : (body : List ℕ) (n new : ℕ) → n ≡ poolCount body → new ≡ length (newPools (details body))
-    → (new ≤ n) × (n - new ≡ length (keep isCanceled (details body)))
-unfolding details
-canceled-rest body n new en ew =
-    let e : length (newPools (details body)) + length (keep isCanceled (details body)) ≡ length (details body) = length-keep isCanceled (details body) in
-    let f : length (details body) ≡ poolCount body = length-tab (λ (i : ℕ). detailAt body (placeOf i)) (poolCount body) 0 in
-    (omega arith, omega arith)
+-- no more replacements than pools
+pub replacements-few : (body : List ℕ) (r : ℕ) → r ≡ replacementCount (details body) → r ≤ poolCount body
+unfolding replacementCount
+replacements-few body r e = omega (arith, length-keep isReplacement (details body), length-details body)
+
+pub new-cc : (body : List ℕ) (cc : Bool) (r : ℕ) → r ≡ replacementCount (details body) → cc ≡ true → formedFor cc (details body) ≡ true → r ≡ length (newPools (details body))
+new-cc body cc r er e f = er ∙ cc-new (details body) (rw e at f)
+
+pub new-on : (body : List ℕ) (cc : Bool) (r : ℕ) → r ≡ poolCount body → cc ≡ false → formedFor cc (details body) ≡ true → r ≡ length (newPools (details body))
+new-on body cc r er e f = er ∙ sym (length-details body) ∙ ap length (sym (on-new (details body) (rw e at f)))
+
+pub canceled-rest : (body : List ℕ) (n new : ℕ) → n ≡ poolCount body → new ≡ length (newPools (details body)) → n - new ≡ length (keep isCanceled (details body))
+canceled-rest body n new en ew = omega (arith, length-keep isCanceled (details body), length-details body)
 
 pub fits-cc : (body : List ℕ) (cc : Bool) (live rows n new : ℕ) → n ≡ poolCount body → new ≡ length (newPools (details body)) → cc ≡ true
     → leb (live + new) (rows + (n - new)) ≡ leb (live + length (newPools (details body))) (rows + cond cc (length (keep isCanceled (details body))) 0)
-fits-cc body cc live rows n new en ew e = rw (e, sym (canceled-rest body n new en ew .1), ew)
+fits-cc body cc live rows n new en ew e = rw (e, sym (canceled-rest body n new en ew), ew)
 
 pub fits-on : (body : List ℕ) (cc : Bool) (live rows new : ℕ) → new ≡ length (newPools (details body)) → cc ≡ false
     → leb (live + new) rows ≡ leb (live + length (newPools (details body))) (rows + cond cc (length (keep isCanceled (details body))) 0)

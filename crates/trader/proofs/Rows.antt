@@ -1,17 +1,11 @@
 -- The first seven of the trader's checks, 30 to 36, as seven tests in a row, each with the type that it is for.
 use Prim.Native.Nat.{ℕ}
 use mathlib.Core.Path.{_≡_, sym, _∙_}
-use mathlib.Core.List.{List, map}
+use mathlib.Core.List.{List}
 use mathlib.Core.Bool.{Bool, true, false, cond, not, _&&_, _||_}
 use lib.ListN.{take}
-use lib.Dec.{eqb}
 use borrow.Author.Tests.{not-false, not-true}
 use Rattle.lists.specs.Lists.{any}
-use Rattle.layout.specs.Columns as columns
-use Rattle.layout.specs.Columns.{numberIn}
-use Rattle.layout.specs.Details.{details}
-use Rattle.terminator.specs.Lots.{goodMillions}
-use Rattle.faces.specs.Faces.{newPools, facesFail, lotsFail}
 use Rattle.tally.specs.declared.MessageType.{MessageType}
 use Rattle.book.specs.declared.Book.{Book}
 use Rattle.book.specs.declared.Values.{Values}
@@ -19,11 +13,10 @@ use Rattle.book.specs.declared.Pool.{Pool}
 use Rattle.book.specs.declared.Reason.the-variants as reason
 use Rattle.book.specs.declared.Verdict.{Verdict}
 use Rattle.book.specs.declared.Verdict.the-variants.{Passes, Fails}
-use Rattle.book.specs.Records.{fieldsOf, distinct}
 use Rattle.book.specs.Messages.{typeOf, idIn, targetOf, under}
 use Rattle.book.specs.Trades.{tradesOf}
 use Rattle.book.specs.Soundness.{liveOf}
-use Rattle.book.specs.Checks.{notNumber, isOn, isCc, isDk, onOrCc, ccOrDk, idFails, termsFail, targetTrade, checks, firstFailing}
+use Rattle.book.specs.Checks.{isOn, isCc, isDk, onOrCc, ccOrDk, idFails, termsFail, millionsFail, newFacesFail, newLotsFail, newPoolsRepeat, targetTrade, checks, firstFailing}
 use Rattle.book.proofs.ListLaws.{neither-left}
 use Rattle.trader.specs.Decisions.{traderChecks}
 
@@ -35,20 +28,14 @@ row a b c d e f g =
     (cond d (Fails reason.Millions) (cond e (Fails reason.Faces) (cond f (Fails reason.Variance) (cond g (Fails reason.Repeated) Passes))))))
 
 module _ (v : Values) (body : List ℕ) (there : Bool) (target : ℕ) where
-  abbrev millionsOff : Bool
-  millionsOff = notNumber (eqb (goodMillions (details body))) (numberIn body columns.gdmm)
-
-  abbrev poolsRepeat : Bool
-  poolsRepeat = not (distinct (map fieldsOf (newPools (details body))))
-
   -- the row for a body, where it is known whether the target has live pools, and of which trade
   abbrev rowFor : Verdict
   rowFor =
       row (ccOrDk (typeOf body) && not there) (idFails body (tradesOf v) target (idIn body)) (termsFail body (tradesOf v) target (idIn body))
-      (isOn (typeOf body) && millionsOff)
-      (onOrCc (typeOf body) && facesFail (v .limits .least) (details body))
-      (onOrCc (typeOf body) && lotsFail (v .limits .variance) (v .limits .pools) (details body))
-      (onOrCc (typeOf body) && poolsRepeat)
+      (isOn (typeOf body) && millionsFail body)
+      (onOrCc (typeOf body) && newFacesFail v body)
+      (onOrCc (typeOf body) && newLotsFail v body)
+      (onOrCc (typeOf body) && newPoolsRepeat body)
 
   -- what the function promises of a verdict
   abbrev pub First : Verdict → Type 0
@@ -82,28 +69,28 @@ module _ (v : Values) (body : List ℕ) (there : Bool) (target : ℕ) where
               let o : isOn (typeOf body) ≡ false = neither-left (isOn (typeOf body)) (isCc (typeOf body)) n in
               by-row Passes (rw (rw (ec, ed, ek) at a, sym ei ∙ b, sym et ∙ c, n, o))
 
-          module _ (d : not (on || cc) ≡ false) (m : Bool) (em : m ≡ millionsOff) where
+          module _ (d : not (on || cc) ≡ false) (m : Bool) (em : m ≡ millionsFail body) where
             more : onOrCc (typeOf body) ≡ true
             more =
                 let q : (on || cc) ≡ true = not-false (on || cc) d in
                 rw (eo, ec, ek) at q
 
-            millions : (x : Bool) → (on && m) ≡ x → (isOn (typeOf body) && millionsOff) ≡ x
+            millions : (x : Bool) → (on && m) ≡ x → (isOn (typeOf body) && millionsFail body) ≡ x
             millions x e = rw (eo, ek, em) at e
 
             pub millions-fail : (on && m) ≡ true → First (Fails reason.Millions)
             millions-fail e = by-row (Fails reason.Millions) (rw (rw (ec, ed, ek) at a, sym ei ∙ b, sym et ∙ c, millions true e))
 
-            module _ (f : Bool) (ef : f ≡ facesFail (v .limits .least) (details body)) (e : (on && m) ≡ false) where
+            module _ (f : Bool) (ef : f ≡ newFacesFail v body) (e : (on && m) ≡ false) where
               pub faces-fail : f ≡ true → First (Fails reason.Faces)
               faces-fail g = by-row (Fails reason.Faces) (rw (rw (ec, ed, ek) at a, sym ei ∙ b, sym et ∙ c, millions false e, more, sym ef ∙ g))
 
-              module _ (l : Bool) (el : l ≡ lotsFail (v .limits .variance) (v .limits .pools) (details body)) (g : f ≡ false) where
+              module _ (l : Bool) (el : l ≡ newLotsFail v body) (g : f ≡ false) where
                 pub lots-fail : l ≡ true → First (Fails reason.Variance)
                 lots-fail h =
                     by-row (Fails reason.Variance) (rw (rw (ec, ed, ek) at a, sym ei ∙ b, sym et ∙ c, millions false e, more, sym ef ∙ g, sym el ∙ h))
 
-                module _ (p : Bool) (ep : p ≡ poolsRepeat) (h : l ≡ false) where
+                module _ (p : Bool) (ep : p ≡ newPoolsRepeat body) (h : l ≡ false) where
                   pub pools-repeat : p ≡ true → First (Fails reason.Repeated)
                   pools-repeat i =
                       by-row (Fails reason.Repeated)

@@ -15,7 +15,7 @@ use Rattle.book.specs.Messages.{typeOf, targetOf, listed}
 use Rattle.book.specs.Trades.{broughtWeight}
 use Rattle.book.specs.Opening.{recordsMax}
 use Rattle.book.specs.Soundness.{isSound}
-use Rattle.book.specs.Checks.{Call, Check, live, checks, firstFailing, isCc, ccOrDk, listedFine, concerned, isTaken, taken}
+use Rattle.book.specs.Checks.{Call, Check, live, checks, firstFailing, isCc, onOrCc, ccOrDk, listedFine, concerned, isTaken, taken}
 use Rattle.table.specs.Rows.{tableOf}
 use Rattle.listed.specs.declared.Listed.{Listed}
 use Rattle.trader.specs.declared.Decision.{Decision}
@@ -28,11 +28,11 @@ traderChecks = drop 19 checks
 abbrev pub callOn : Book → List (List ℕ) → List (List ℕ) → List ℕ → ℕ → Call
 callOn book numbers keys body room = record { book = book; table = tableOf numbers keys; body = body; room = room }
 
--- what is known when the trader's turn comes: 42 has passed, and 19 of a CC
+-- what is known when the trader's turn comes: 42 has passed, and 19 of an ON and a CC
 pub record Ready (book : Book) (numbers keys : List (List ℕ)) (body : List ℕ) : Type 0 where
   pub paired : length keys ≡ length numbers
   pub sound : isSound book (tableOf numbers keys) ≡ true
-  pub formed : isCc (typeOf body) ≡ true → formedFor true (details body) ≡ true
+  pub formed : onOrCc (typeOf body) ≡ true → formedFor (isCc (typeOf body)) (details body) ≡ true
 
 -- a decision by some checks: the first of them that fails; where none does, the trade concerned, the weights and the marks of what is taken off
 pub record DecidedBy (ks : List Check) (c : Call) (d : Decision) : Type 0 where

@@ -4,20 +4,20 @@ use book::Reason;
 use book::Trade;
 use book::Values;
 use book::Verdict;
-use layout::Detail;
 use listed::Listed;
 use places::Run;
 use tally::MessageType;
 ghost use mathlib.Core.Path.{_≡_};
-ghost use mathlib.Core.Bool.{cond, not, _&&_, _||_};
+ghost use mathlib.Core.Bool.{true, cond, _&&_};
 ghost use Prim.Native.Nat.{ℕ, _+_, _≤_, _<_};
 ghost use lib.ListN.{length, take, drop};
 ghost use lib.Dec.{leb, ltb};
-ghost use Rattle.lists.specs.Lists.{any, keep, fold};
+ghost use Rattle.lists.specs.Lists.{any, keep};
 ghost use Rattle.terminator.specs.Terminators.{isCanceled};
-ghost use Rattle.layout.specs.Details.{details, poolsMax};
+ghost use Rattle.layout.specs.Details.{details, poolCount};
+ghost use Rattle.terminator.specs.Lots.{formedFor};
 ghost use Rattle.faces.specs.Faces.{newPools};
-ghost use Rattle.book.specs.Messages.{typeOf, targetOf, under, listedOf};
+ghost use Rattle.book.specs.Messages.{targetOf, under};
 ghost use Rattle.book.specs.Trades.{tradesOf, tradeOfOn, openPars};
 ghost use Rattle.book.specs.declared.Verdict.the-variants.{Fails};
 ghost use Rattle.book.specs.Opening.{recordsMax};
@@ -28,7 +28,6 @@ ghost use Rattle.book.specs.declared.Book.{Book};
 ghost use mathlib.Core.List.{List};
 ghost use Rattle.table.specs.Rows.{tableOf, numberAt};
 ghost use Rattle.listed.specs.Listing.{Findable};
-ghost use Rattle.trader.specs.Counting.{countPool};
 ghost use Rattle.trader.specs.Decisions.{traderChecks, callOn, Ready, DecidedBy, Takes};
 
 // What the trader's checks decide, and what an accepted message moves: its trade, the weight that it takes off, the weight that it brings,
@@ -113,57 +112,23 @@ fn first_of_terms(v: Values, body: &[u8], there: bool, target: usize) -> Verdict
     Verdict::Passes
 }
 
-// How many of the pools passed are new.
-struct NewCount {
-    pools: usize,
-}
-
-// One pool more.
-fn count_pool(s: NewCount, d: Detail) -> NewCount
-    requires { ⌜ s .pools ≤ poolsMax ⌝ }
-    ensures { λ r. ⌜ r ≡ countPool s d ⌝ }
+// How many new pools a message has that 19 lets pass: a CC's replacements, and every pool of an ON.
+fn new_count(body: &[u8], cc: bool) -> usize
+    ensures { λ r. ⌜ (r ≤ poolCount (now (body .entry))) × (formedFor cc (details (now (body .entry))) ≡ true → r ≡ length (newPools (details (now (body .entry))))) ⌝ }
 {
-    let pools = s.pools;
-    let code = d.terminator;
-    if code[0] != terminator::CANCELED {
-        return NewCount { pools: pools + 1 };
+    if cc {
+        return lots::replacement_count(body);
     }
-    s
+    layout::pool_count(body)
 }
 
-// Every pool of a message, by the detail reader.
-fn count_pools(body: &[u8], s: NewCount) -> NewCount
-    requires { ⌜ s .pools ≡ 0 ⌝ }
-    ensures { λ r. ⌜ r ≡ fold countPool s (details (now (body .entry))) ⌝ }
-{
-    let n = layout::pool_count(body);
-    let mut d = reader::new(body);
-    let mut s = s;
-    let mut i: usize = 0;
-    while i < n {
-        let step = reader::next(d);
-        s = count_pool(s, step.detail);
-        d = reader::moved(d, step.next);
-        i += 1;
-    }
-    s
-}
-
-// How many new pools a message has.
-fn new_count(body: &[u8]) -> usize
-    ensures { λ r. ⌜ r ≡ length (newPools (details (now (body .entry)))) ⌝ }
-{
-    let s = count_pools(body, NewCount { pools: 0 });
-    s.pools
-}
-
-// 40: whether the live pools less those that a CC takes off, and the new ones, fit the table.
+// 40: whether the live pools less those that a CC takes off, and the new ones, fit the table, where 19 has passed.
 fn table_fits(body: &[u8], cc: bool, live: usize, rows: usize) -> bool
     requires { ⌜ (live ≤ recordsMax) × (rows ≤ recordsMax) ⌝ }
-    ensures { λ r. ⌜ r ≡ leb (live + length (newPools (details (now (body .entry))))) (rows + cond cc (length (keep isCanceled (details (now (body .entry))))) 0) ⌝ }
+    ensures { λ r. ⌜ (formedFor cc (details (now (body .entry))) ≡ true → r ≡ leb (live + length (newPools (details (now (body .entry))))) (rows + cond cc (length (keep isCanceled (details (now (body .entry))))) 0)) ⌝ }
 {
     let n = layout::pool_count(body);
-    let new = new_count(body);
+    let new = new_count(body, cc);
     if cc {
         return live + new <= rows + (n - new);
     }

@@ -8,11 +8,8 @@ ghost use Prim.Native.Nat.{ℕ};
 ghost use Rattle.trade_id.specs.declared.TradeId.the-variants.{Whole};
 ghost use Rattle.book.specs.Messages.{idIn};
 ghost use Rattle.book.specs.Trades.{tradesOf, isNamedBy, firstTrade, tradeOfOn, openPars};
-ghost use Rattle.book.specs.Checks.{isOn, namedTrade, idFails, termsFail};
+ghost use Rattle.book.specs.Checks.{isOn, idFails, termsFail};
 ghost use Rattle.trades.specs.Broken.{isBroken};
-
-// The most characters of a trade's ID.
-const ID_MAX: usize = 16;
 
 fn is_on(message: MessageType) -> bool
     ensures { λ r. ⌜ r ≡ isOn message ⌝ }
@@ -45,7 +42,7 @@ fn is_named_by(body: &[u8], place: usize, length: usize, t: Trade) -> bool
     ensures { λ r. ⌜ r ≡ isNamedBy (now (body .entry)) (Whole place length) t ⌝ }
 {
     let id = t.id;
-    let n = header::lesser(t.length, ID_MAX);
+    let n = header::lesser(t.length, trade_id::ID_LENGTH_MAX);
     if n != length {
         return false;
     }
@@ -67,17 +64,6 @@ fn find_named(body: &[u8], v: Values, place: usize, length: usize) -> usize
         i += 1;
     }
     n
-}
-
-// The trade that a whole ID names, by index, or the number of trades.
-pub fn named_trade(body: &[u8], v: Values) -> usize
-    ensures { λ r. ⌜ r ≡ namedTrade (now (body .entry)) (tradesOf v) ⌝ }
-{
-    let id = header::trade_id_in(body);
-    let TradeId::Whole { place, length } = id else {
-        return header::lesser(v.count, book::TRADES_MAX);
-    };
-    find_named(body, v, place, length)
 }
 
 // The trade that an ON goes to, by index, or the number of trades.

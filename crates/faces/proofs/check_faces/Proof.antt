@@ -23,7 +23,7 @@ use Rattle.reader.proofs.next.Symbol as next-def
 use Rattle.reader.proofs.next.Met as next-thm
 use Rattle.reader.proofs.moved.Symbol as moved-def
 use Rattle.reader.proofs.moved.Met as moved-thm
-use Rattle.faces.specs.Faces.{checkFace}
+use Rattle.faces.specs.Passes.{checkFace}
 use Rattle.faces.specs.declared.FaceCheck.{FaceCheck}
 use Rattle.faces.proofs.FaceCheck as S
 use Rattle.faces.proofs.FaceCheck.Laws as S′

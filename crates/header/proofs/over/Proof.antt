@@ -1,8 +1,6 @@
 -- Digits are over the most, or there are none.
 use mathlib.Core.Path.{sym, ap}
-use Prim.Native.Nat.{ℕ}
-use lib.Dec.{leb}
-use Rattle.book.specs.Checks.{notNumber}
+use Rattle.book.specs.Checks.{notNumber, atMost}
 use borrow.Author.Needs.{needs}
 use Rattle.header.proofs.over.Statement.{statement}
 use Rattle.header.proofs.over.Tie as tie
@@ -14,7 +12,7 @@ enum-told : tie.Need-enum-told
 enum-told c = search needs
 
 returns : tie.Need-returns
-returns c = ap (notNumber (λ (n : ℕ). leb n (c .before .before .before .args .most))) (sym (c .before .f .given .1))
+returns c = ap (notNumber (atMost (c .before .before .before .args .most))) (sym (c .before .f .given .1))
 
 returns-2 : tie.Need-returns-2
 returns-2 c = search needs

@@ -3,7 +3,7 @@ use mathlib.Core.Path.{_≡_, sym, ap, _∙_}
 use lib.ListN.{length, length-map}
 use Rattle.lists.specs.Lists.{any}
 use Rattle.book.specs.declared.Trade.{Trade}
-use Rattle.header.specs.Sides.{isSide}
+use Rattle.book.specs.Checks.{isSide}
 use Rattle.header.proofs.Joined.{take-lesser, parties-are}
 use borrow.Author.Needs.{needs}
 use Rattle.header.proofs.parties_fine.Statement.{statement}

@@ -1,8 +1,6 @@
--- Six digits that are not over 999998.
+-- The field is that of the sequence.
 use mathlib.Core.Path.{ap, _∙_}
-use Prim.Native.Nat.{ℕ}
-use lib.Dec.{leb}
-use Rattle.book.specs.Checks.{notNumber}
+use Rattle.book.specs.Checks.{isNoSequence}
 use borrow.Author.Needs.{needs}
 use Rattle.header.proofs.sequence_fails.Statement.{statement}
 use Rattle.header.proofs.sequence_fails.Tie as tie
@@ -10,11 +8,11 @@ use Rattle.header.proofs.sequence_fails.Tie as tie
 number-in-requires : tie.Need-number-in-requires
 number-in-requires c κs = search needs
 
-over-requires : tie.Need-over-requires
-over-requires c κs = search needs
+is-no-sequence-requires : tie.Need-is-no-sequence-requires
+is-no-sequence-requires c κs = search needs
 
 returns : tie.Need-returns
-returns c = c .over .ensures ∙ ap (notNumber (λ (n : ℕ). leb n 999998)) (c .before .number-in .ensures)
+returns c = c .is-no-sequence .ensures ∙ ap isNoSequence (c .before .number-in .ensures)
 
 pub sequence-fails-spec : {M : Type 1} → statement M
-sequence-fails-spec = tie.close (tie.spec number-in-requires over-requires returns)
+sequence-fails-spec = tie.close (tie.spec number-in-requires is-no-sequence-requires returns)

@@ -4,9 +4,8 @@ use Prim.Native.Nat.{_≤_, _-_}
 use native.Mathlib.Omega.{arith}
 use lib.ListN.{take, drop}
 use Rattle.lists.specs.Lists.{any}
-use Rattle.book.specs.Checks.{noTrade}
+use Rattle.book.specs.Checks.{noTrade, isSide}
 use Rattle.lists.proofs.Looking.{first-turn, first-done, any-stop, any-more}
-use Rattle.header.specs.Sides.{isSide}
 use borrow.Author.Needs.{needs}
 use Rattle.header.proofs.some_side.Statement.{statement}
 use Rattle.header.proofs.some_side.Tie as tie

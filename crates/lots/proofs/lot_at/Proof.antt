@@ -6,8 +6,8 @@ use Rattle.layout.proofs.Lengths.{count-max}
 use Rattle.layout.proofs.Passes.{poolOf}
 use Rattle.layout.specs.declared.Detail.{Detail}
 use Rattle.terminator.specs.declared.LotRead.the-variants.{Found}
-use Rattle.terminator.specs.Lots.{currentCents, lotEnded}
-use Rattle.terminator.specs.Terminators.{markOf}
+use Rattle.terminator.specs.Lots.{currentCents}
+use Rattle.terminator.specs.Reading.{markOf, lotEnded}
 use Rattle.terminator.proofs.Marks.{mark-end}
 use Rattle.terminator.proofs.Found.{cents-small}
 use Rattle.lots.proofs.Sought.{Sought, sought-none, sought-more, sought-found, sought-done}

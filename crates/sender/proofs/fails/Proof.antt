@@ -26,8 +26,8 @@ repeats-requires c κs = search needs
 is-unknown-requires : tie.Need-is-unknown-requires
 is-unknown-requires c κs = search needs
 
-version-fine-requires : tie.Need-version-fine-requires
-version-fine-requires c κs = search needs
+version-wrong-requires : tie.Need-version-wrong-requires
+version-wrong-requires c κs = search needs
 
 fillers-fine-requires : tie.Need-fillers-fine-requires
 fillers-fine-requires c κs = search needs
@@ -88,7 +88,7 @@ returns-6 c = λ (table : List Pool). fails-at (c .before .before .before .args 
 
 returns-7 : tie.Need-returns-7
 unfolding numbered senderChecks checks
-returns-7 c = λ (table : List Pool). fails-at (c .before .before .before .args .number) 14 (c .before .match .keys7) (call (c .before .before .before .args .book) table (c .before .before .before .args .body .now) (c .before .before .before .args .room)) _ (ap not (c .version-fine .ensures))
+returns-7 c = λ (table : List Pool). fails-at (c .before .before .before .args .number) 14 (c .before .match .keys7) (call (c .before .before .before .args .book) table (c .before .before .before .args .body .now) (c .before .before .before .args .room)) _ (c .version-wrong .ensures)
 
 returns-8 : tie.Need-returns-8
 unfolding numbered senderChecks checks
@@ -146,7 +146,7 @@ fails-spec =
     sequence-fails-requires
     repeats-requires
     is-unknown-requires
-    version-fine-requires
+    version-wrong-requires
     fillers-fine-requires
     amounts-fail-requires
     parties-fail-requires

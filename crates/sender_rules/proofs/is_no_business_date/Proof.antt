@@ -1,9 +1,7 @@
 -- Digits are no business date, or there are none.
 use mathlib.Core.Path.{sym, ap, _∙_}
 use mathlib.Core.Bool.{not}
-use Prim.Native.Nat.{ℕ}
-use Rattle.calendar.specs.Calendar.{businessDate}
-use Rattle.book.specs.Checks.{notNumber}
+use Rattle.book.specs.Checks.{notNumber, isBusinessDate}
 use borrow.Author.Needs.{needs}
 use Rattle.sender_rules.proofs.is_no_business_date.Statement.{statement}
 use Rattle.sender_rules.proofs.is_no_business_date.Tie as tie
@@ -18,7 +16,7 @@ enum-told : tie.Need-enum-told
 enum-told c = search needs
 
 returns : tie.Need-returns
-returns c = ap not (c .business-date .ensures) ∙ ap (notNumber (λ (n : ℕ). businessDate n (c .before .before .before .before .before .args .holidays .now))) (sym (c .before .before .f .given .1))
+returns c = ap not (c .business-date .ensures) ∙ ap (notNumber (isBusinessDate (c .before .before .before .before .before .args .holidays .now))) (sym (c .before .before .f .given .1))
 
 returns-2 : tie.Need-returns-2
 returns-2 c = search needs

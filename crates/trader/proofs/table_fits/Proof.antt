@@ -1,5 +1,5 @@
 use native.Mathlib.Omega.{arith}
-use Rattle.trader.proofs.Fits.{canceled-rest, pools-few, fits-cc, fits-on}
+use Rattle.trader.proofs.Fits.{pools-few, fits-cc, fits-on}
 use borrow.Author.Needs.{needs}
 use Rattle.trader.proofs.table_fits.Statement.{statement}
 use Rattle.trader.proofs.table_fits.Tie as tie
@@ -11,22 +11,22 @@ new-count-requires : tie.Need-new-count-requires
 new-count-requires c κs = search needs
 
 add-result : tie.Need-add-result
-add-result c = omega (arith, (canceled-rest (c .before .before .before .before .args .body .now) _ _ (c .before .before .pool-count .ensures) (c .before .new-count .ensures) .0), (pools-few (c .before .before .before .before .args .body .now) _ (c .before .before .pool-count .ensures)))
+add-result c = omega (arith, c .before .new-count .ensures .0, c .before .before .pool-count .ensures, pools-few (c .before .before .before .before .args .body .now) _ (c .before .before .pool-count .ensures))
 
 sub-result : tie.Need-sub-result
-sub-result c = omega (arith, (canceled-rest (c .before .before .before .before .args .body .now) _ _ (c .before .before .pool-count .ensures) (c .before .new-count .ensures) .0))
+sub-result c = omega (arith, c .before .new-count .ensures .0, c .before .before .pool-count .ensures)
 
 add-result-2 : tie.Need-add-result-2
-add-result-2 c = omega (arith, (canceled-rest (c .before .before .before .before .args .body .now) _ _ (c .before .before .pool-count .ensures) (c .before .new-count .ensures) .0), (pools-few (c .before .before .before .before .args .body .now) _ (c .before .before .pool-count .ensures)))
+add-result-2 c = omega (arith, c .before .new-count .ensures .0, c .before .before .pool-count .ensures, pools-few (c .before .before .before .before .args .body .now) _ (c .before .before .pool-count .ensures))
 
 returns : tie.Need-returns
-returns c = fits-cc (c .before .before .before .before .args .body .now) _ _ _ _ _ (c .before .before .pool-count .ensures) (c .before .new-count .ensures) (c .if1 .taken)
+returns c = λ f. fits-cc (c .before .before .before .before .args .body .now) _ _ _ _ _ (c .before .before .pool-count .ensures) (c .before .new-count .ensures .1 f) (c .if1 .taken)
 
 add-result-3 : tie.Need-add-result-3
-add-result-3 c = omega (arith, (canceled-rest (c .before .before .before .before .args .body .now) _ _ (c .before .before .pool-count .ensures) (c .before .new-count .ensures) .0), (pools-few (c .before .before .before .before .args .body .now) _ (c .before .before .pool-count .ensures)))
+add-result-3 c = omega (arith, c .before .new-count .ensures .0, c .before .before .pool-count .ensures, pools-few (c .before .before .before .before .args .body .now) _ (c .before .before .pool-count .ensures))
 
 returns-2 : tie.Need-returns-2
-returns-2 c = fits-on (c .before .before .before .before .args .body .now) _ _ _ _ (c .before .new-count .ensures) (c .if1 .left)
+returns-2 c = λ f. fits-on (c .before .before .before .before .args .body .now) _ _ _ _ (c .before .new-count .ensures .1 f) (c .if1 .left)
 
 pub table-fits-spec : {M : Type 1} → statement M
 table-fits-spec =
