@@ -6,7 +6,7 @@ use sequence::Arrival;
 use tally::MessageType;
 ghost use mathlib.Core.Path.{_≡_};
 ghost use mathlib.Core.List.{List};
-ghost use mathlib.Core.Bool.{not, _&&_, _||_};
+ghost use mathlib.Core.Bool.{cond, not, _&&_, _||_};
 ghost use lib.Dec.{eqb, leb};
 ghost use Rattle.layout.specs.Columns as columns;
 ghost use Rattle.layout.specs.Columns.{numberIn};
@@ -16,6 +16,8 @@ ghost use Rattle.terminator.specs.Groups.{groupsFormed, groupsBalanced};
 ghost use Rattle.calendar.specs.Calendar.{businessDate};
 ghost use Rattle.sequence.specs.Sequence.{arrivalOf, outboundSpent};
 ghost use Rattle.book.specs.declared.Pool.{Pool};
+ghost use Rattle.book.specs.declared.Reason.the-variants.{NoTradeId};
+ghost use Rattle.book.specs.declared.Verdict.the-variants.{Passes, Fails};
 ghost use Rattle.book.specs.Messages.{typeOf, idIn, isStipulated};
 ghost use Rattle.book.specs.Opening.{holidaysOf, elevenDigitsMax};
 ghost use Rattle.book.specs.Checks.{
@@ -34,8 +36,8 @@ ghost use Rattle.book.specs.Checks.{
 };
 ghost use Rattle.sender.specs.Order.{senderChecks, numbered, failsIn};
 
-// The checks by their numbers, in the order in which they are tried.
-const ORDER: [u8; 18] = [
+// The checks before the last one, 25, by their numbers, in the order in which they are tried.
+const ORDER: [u8; 17] = [
     43,
     44,
     10,
@@ -53,10 +55,9 @@ const ORDER: [u8; 18] = [
     22,
     23,
     24,
-    25,
 ];
 
-const CHECKS: usize = 18;
+const CHECKS: usize = 17;
 
 // Eleven digits hold no higher message ID.
 const LAST_MAX: u64 = 99999999999;
@@ -246,13 +247,13 @@ fn reason_fails(body: &[u8]) -> bool
 }
 
 // 25 of a DK: its trade ID.
-fn id_fails(body: &[u8]) -> bool
-    ensures { λ r. ⌜ r ≡ (isDk (typeOf (now (body .entry))) && (isStipulated (now (body .entry)) && not (isWhole (idIn (now (body .entry)))))) ⌝ }
+fn id_verdict(body: &[u8]) -> Verdict
+    ensures { λ r. ⌜ r ≡ cond (isDk (typeOf (now (body .entry))) && (isStipulated (now (body .entry)) && not (isWhole (idIn (now (body .entry)))))) (Fails NoTradeId) Passes ⌝ }
 {
     if !is_dk(header::message_type(body)) {
-        return false;
+        return Verdict::Passes;
     }
-    sender_rules::no_trade_id(body)
+    sender_rules::id_verdict(body)
 }
 
 // Whether a message fails the check with a number.
@@ -277,7 +278,6 @@ fn fails(book: Book, body: &[u8], room: usize, number: u8) -> bool
         22 => replacements_fail(body),
         23 => settlement_fails(book, body),
         24 => reason_fails(body),
-        25 => id_fails(body),
         _ => false,
     }
 }
@@ -304,7 +304,6 @@ fn reason_of(number: u8) -> Reason
         22 => Reason::Replacements,
         23 => Reason::Settlement,
         24 => Reason::ReasonCode,
-        25 => Reason::NoTradeId,
         _ => Reason::Opening,
     }
 }
@@ -321,5 +320,5 @@ pub fn first_of_sender(book: Book, body: &[u8], room: usize) -> Verdict
             return Verdict::Fails(reason_of(number));
         }
     }
-    Verdict::Passes
+    id_verdict(body)
 }

@@ -1,8 +1,8 @@
 -- Nothing is fine where a pool has no row; else the judgment of the rows decides.
 use Rattle.listed.proofs.Fine.{run-fits, search-none, search-judged, search-decided}
 use borrow.Author.Needs.{needs}
-use Rattle.listed.proofs.find_listed.Statement.{statement}
-use Rattle.listed.proofs.find_listed.Tie as tie
+use Rattle.listed.proofs.decide_listed.Statement.{statement}
+use Rattle.listed.proofs.decide_listed.Tie as tie
 
 message-type-requires : tie.Need-message-type-requires
 message-type-requires c κs = search needs
@@ -29,8 +29,8 @@ returns-2 c =
     let a = c .before .before .before .before .before .before .before .before .before .before .args in
     search-decided (a .body .now) (a .numbers .now) (a .keys .now) (a .live) (c .before .before .before .before .before .before .before .before .before .before .pre) _ (c .before .before .before .before .before .before .target-run .ensures (a .keys .now)) _ (c .before .before .before .before .before .find-places .ensures) (c .before .before .before .if1 .left) _ (c .before .before .before .before .before .before .before .before .message-type .ensures) _ (c .before .before .before .before .before .before .before .is-cc .ensures) _ (c .judge .ensures)
 
-pub find-listed-spec : {M : Type 1} → statement M
-find-listed-spec =
+pub decide-listed-spec : {M : Type 1} → statement M
+decide-listed-spec =
     tie.close
     (tie.spec
     message-type-requires
