@@ -2,18 +2,20 @@
 use Prim.Native.Nat.{ℕ, _<_, _≤_}
 use mathlib.Core.Path.{_≡_, refl, sym, ap, _∙_}
 use mathlib.Core.List.{List, [], _∷_, _++_}
-use mathlib.Core.Bool.{true, false, false≢true, _&&_, and-true}
+use mathlib.Core.Bool.{true, false, cond, _&&_, and-true}
+use native.Mathlib.Decide.{decLt}
 use native.Mathlib.Omega.{arith}
 use lib.ListN.{length, take, drop, getD, length-take, take-append-drop}
-use lib.Dec.{eqb}
-use borrow.Author.Tests.{ne-eqb}
+use lib.Dec.{eqb, ltb}
+use borrow.Author.Tests.{ne-eqb, lt-ltb, le-ltb}
 use Rattle.lists.specs.Lists.{same}
-use Rattle.lists.proofs.Tests.{same-refl, same-equal, same-unlike}
+use Rattle.lists.proofs.Tests.{clash, same-refl, same-equal, same-unlike}
 use Rattle.book.specs.declared.Answer.{Answer}
 use Rattle.book.specs.declared.Answer.the-variants.{Rejected, Accepted, Dked}
 use Rattle.book.specs.declared.Reason.{Reason}
 use Rattle.book.specs.Reasons.{numberOf}
-use Rattle.answer_numbers.specs.Said.{saidOf, reasonOf, answerSaid, answerIn, isSaid}
+use Rattle.answer_numbers.specs.declared.Heard.{Heard}
+use Rattle.answer_numbers.specs.Said.{saidOf, reasonOf, answerSaid, answerIn, isSaid, heardIn}
 use Rattle.answer_numbers.proofs.Numbers.{reason-of-number}
 
 pub said-accepted : (a : Answer) (id : ℕ) → a ≡ Accepted id → 0 ∷ id ∷ [] ≡ saidOf a
@@ -55,17 +57,36 @@ first-two (x ∷ y ∷ rest) h = refl
 
 module _ (said : List ℕ) where
   -- fewer than two numbers say nothing
-  pub too-short : (a : Answer) → length said < 2 → (false ≡ isSaid said) × (false ≡ true → a ≡ answerIn said)
+  none-said : length said < 2 → false ≡ isSaid said
   unfolding isSaid
-  too-short a h =
-      (same-unlike (take 2 said) (saidOf (answerIn said)) (λ e. omega (arith, said-length (answerIn said), simp length-take at e)), λ f. absurd (false≢true f))
+  none-said h = same-unlike (take 2 said) (saidOf (answerIn said)) (λ e. omega (arith, said-length (answerIn said), simp length-take at e))
+
+  pub too-short : length said < 2 → _≡_ {A = Heard} (record { fine = false; answer = Accepted 0 }) (heardIn said)
+  unfolding heardIn
+  too-short h = rw (lt-ltb (length said) 2 h, none-said h)
 
   -- two numbers that are those of the one answer that they could say
   pub heard : (two : List ℕ) (a : Answer) → 2 ≤ length said → a ≡ answerSaid (getD said 0 0) (getD said 1 0) → two ≡ saidOf a
-      → ((eqb (getD said 0 0) (getD two 0 0) && eqb (getD said 1 0) (getD two 1 0)) ≡ isSaid said)
-      × ((eqb (getD said 0 0) (getD two 0 0) && eqb (getD said 1 0) (getD two 1 0)) ≡ true → a ≡ answerIn said)
-  unfolding isSaid answerIn
-  heard two a h ea et = (rw (et, first-two said h, ← ea) (same-two (getD said 0 0) (getD said 1 0) a), λ f. ea)
+      → _≡_ {A = Heard} (record { fine = eqb (getD said 0 0) (getD two 0 0) && eqb (getD said 1 0) (getD two 1 0); answer = a }) (heardIn said)
+  unfolding heardIn isSaid answerIn
+  heard two a h ea et =
+      let f : (eqb (getD said 0 0) (getD two 0 0) && eqb (getD said 1 0) (getD two 1 0)) ≡ same (take 2 said) (saidOf (answerSaid (getD said 0 0) (getD said 1 0))) =
+      rw (et, first-two said h, ← ea) (same-two (getD said 0 0) (getD said 1 0) a) in
+      rw (le-ltb (length said) 2 h, f, ea)
+
+  -- what a caller is told by it
+  module _ (r : Heard) (e : r ≡ heardIn said) where
+    pub heard-fine : r .fine ≡ isSaid said
+    unfolding heardIn
+    heard-fine = ap (λ (x : Heard). x .fine) e
+
+    pub heard-answer : r .fine ≡ true → r .answer ≡ answerIn said
+    unfolding heardIn
+    heard-answer f = ap (λ (x : Heard). x .answer) e ∙ go (decLt (length said) 2)
+      where
+        go : Dec (length said < 2) → cond (ltb (length said) 2) (Accepted 0) (answerIn said) ≡ answerIn said
+        go (yes h) = clash (sym heard-fine ∙ f) (sym (none-said h))
+        go (no h) = rw (le-ltb (length said) 2 (omega (arith, h)))
 
 -- what an answer says is heard as that answer
 pub heard-again : (a : Answer) (rest : List ℕ) → answerIn (saidOf a ++ rest) ≡ a

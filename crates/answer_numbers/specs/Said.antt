@@ -2,14 +2,15 @@
 use Prim.Native.Nat.{ℕ}
 use mathlib.Core.List.{List, [], _∷_}
 use mathlib.Core.Bool.{Bool, cond}
-use lib.ListN.{take, getD}
-use lib.Dec.{eqb}
+use lib.ListN.{length, take, getD}
+use lib.Dec.{eqb, ltb}
 use Rattle.lists.specs.Lists.{same}
 use Rattle.book.specs.declared.Reason.{Reason}
 use Rattle.book.specs.declared.Reason.the-variants.{Opening, Unsound, Spent, ShortOutput, Length, Sequence, Duplicate, MessageType, Version, Filler, Amounts, Parties, Cancel, LotForm, Groups, Sums, Replacements, Settlement, ReasonCode, NoTradeId, Target, TradeId, Terms, Millions, Faces, Variance, Repeated, Listed, Par, TableFull}
 use Rattle.book.specs.declared.Answer.{Answer}
 use Rattle.book.specs.declared.Answer.the-variants.{Accepted, Rejected, Dked}
 use Rattle.book.specs.Reasons.{numberOf}
+use Rattle.answer_numbers.specs.declared.Heard.{Heard}
 
 -- the two numbers of an answer
 abbrev pub saidOf : Answer → List ℕ
@@ -62,3 +63,7 @@ answerIn said = answerSaid (getD said 0 0) (getD said 1 0)
 -- whether a list begins with the two numbers of an answer
 unfoldable pub isSaid : List ℕ → Bool
 isSaid said = same (take 2 said) (saidOf (answerIn said))
+
+-- what is heard: whether two numbers are those of an answer, and the one answer that they could say; where fewer stand there, accepted with no ID
+unfoldable pub heardIn : List ℕ → Heard
+heardIn said = record { fine = isSaid said; answer = cond (ltb (length said) 2) (Accepted 0) (answerIn said) }

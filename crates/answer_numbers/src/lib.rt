@@ -2,8 +2,7 @@
 use book::Answer;
 use book::Reason;
 ghost use mathlib.Core.Path.{_≡_};
-ghost use mathlib.Core.Bool.{true};
-ghost use Rattle.answer_numbers.specs.Said.{saidOf, reasonOf, answerSaid, isSaid, answerIn};
+ghost use Rattle.answer_numbers.specs.Said.{saidOf, reasonOf, answerSaid, heardIn};
 
 const ACCEPTED: u64 = 0;
 
@@ -80,7 +79,7 @@ fn answer_of(first: u64, second: u64) -> Answer
 
 // Reads an answer from the first two numbers of a slice. Numbers that no answer says are told.
 pub fn hear(said: &[u64]) -> Heard
-    ensures { λ r. ⌜ (r .fine ≡ isSaid (now (said .entry))) × (r .fine ≡ true → r .answer ≡ answerIn (now (said .entry))) ⌝ }
+    ensures { λ r. ⌜ r ≡ heardIn (now (said .entry)) ⌝ }
 {
     if said.len() < 2 {
         return Heard {

@@ -14,3 +14,4 @@ pub mod Passes
 pub mod Judged
 pub mod Placed
 pub mod Fine
+pub mod Taking

@@ -2,13 +2,14 @@
 use Prim.Native.Nat.{ℕ, _≤_, _<_}
 use mathlib.Core.Path.{_≡_}
 use mathlib.Core.List.{List}
-use mathlib.Core.Bool.{Bool, true, not, _&&_, _||_}
-use lib.ListN.{length, getD, take}
+use mathlib.Core.Bool.{Bool, true, false, not, _&&_, _||_}
+use lib.ListN.{length, getD, take, replicate}
 use lib.Dec.{eqb}
 use Rattle.layout.specs.declared.Detail.{Detail}
 use Rattle.layout.specs.Details.{details, poolCount, detailAt, placeOf}
 use Rattle.terminator.specs.Terminators.{isCanceled}
 use Rattle.terminator.specs.Lots.{formedFor}
+use Rattle.book.specs.declared.Pool.{Pool}
 use Rattle.book.specs.Records.{noPool}
 use Rattle.book.specs.Messages.{typeOf, targetOf, listed}
 use Rattle.book.specs.Opening.{recordsMax}
@@ -52,3 +53,14 @@ judgedBy cc row ns start stop ds =
           && (not cc || alikeAll (λ (d : Detail). numbersOf ns (row d) d) noneAlike ds .fine));
       marks = markAll unmarked (entriesFrom cc row 1 ds) .marks;
     }
+
+-- no marks: what is given where a message takes nothing off
+unfoldable pub withoutMarks : Bool → Listed
+withoutMarks fine = record { fine = fine; marks = replicate recordsMax 0 }
+
+-- what a message takes off: whether it passes 37, if that is for its type, and the marks of the records; none where it does not pass
+pub record Takes (body : List ℕ) (rs : List Pool) (r : Listed) : Type 0 where
+  pub size : length (r .marks) ≡ recordsMax
+  pub fine : r .fine ≡ (not (ccOrDk (typeOf body)) || listedFine body rs)
+  pub marked : r .fine ≡ true → (i : ℕ) → i < length rs → eqb (getD (r .marks) i 0) 0 ≡ not (isTaken (targetOf body) (listed body) (getD rs i noPool))
+  pub none : r .fine ≡ false → r ≡ withoutMarks false

@@ -5,13 +5,14 @@ use terminator::Terminator;
 ghost use mathlib.Core.Path.{_≡_};
 ghost use mathlib.Core.Bool.{true};
 ghost use Prim.Native.Nat.{ℕ, _+_, _≤_, _<_};
-ghost use lib.ListN.{length, getD};
+ghost use lib.ListN.{length, getD, take};
 ghost use Rattle.layout.specs.Details.{details, poolCount, poolsMax, detailAt, placeOf};
 ghost use Rattle.terminator.specs.Terminators.{kindOf, isCanceled};
 ghost use Rattle.book.specs.Records.{kindNumber};
 ghost use Rattle.book.specs.Opening.{recordsMax};
-ghost use Rattle.book.specs.Checks.{isCc};
-ghost use Rattle.listed.specs.Listing.{Findable, Decides, Judgeable, judgedBy};
+ghost use Rattle.book.specs.Checks.{isCc, isDk};
+ghost use Rattle.table.specs.Rows.{tableOf};
+ghost use Rattle.listed.specs.Listing.{Findable, Decides, Judgeable, judgedBy, withoutMarks, Takes};
 ghost use Rattle.listed.specs.Marks.{Rows, isListed, numberAfter, entriesFrom, markAll, unmarked, evenAt, marksEven};
 ghost use Rattle.listed.specs.Lots.{numbersOf, lastFits, alikePool, alikeAll, noneAlike};
 
@@ -234,7 +235,7 @@ fn judge(
 }
 
 // 37: whether the pools that a CC or DK lists are whole live lots of its target, and the records that it takes off.
-pub fn find_listed(body: &[u8], numbers: &[[u64; 6]], keys: &[[u8; 22]], live: usize) -> Listed
+fn decide_listed(body: &[u8], numbers: &[[u64; 6]], keys: &[[u8; 22]], live: usize) -> Listed
     requires { ⌜ Findable (now body) (now numbers) (now keys) live ⌝ }
     ensures { λ r. ⌜ Decides (now (body .entry)) (now (numbers .entry)) (now (keys .entry)) live r ⌝ }
 {
@@ -250,4 +251,41 @@ pub fn find_listed(body: &[u8], numbers: &[[u64; 6]], keys: &[[u8; 22]], live: u
     }
     let at = p.at;
     judge(body, numbers, &at, cc, run.start, run.stop)
+}
+
+fn is_dk(t: MessageType) -> bool
+    ensures { λ r. ⌜ r ≡ isDk t ⌝ }
+{
+    match t {
+        MessageType::On => false,
+        MessageType::Cc => false,
+        MessageType::Dk => true,
+        MessageType::Cx => false,
+        MessageType::Other => false,
+    }
+}
+
+fn without_marks(fine: bool) -> Listed
+    ensures { λ r. ⌜ r ≡ withoutMarks fine ⌝ }
+{
+    Listed {
+        fine,
+        marks: [0u8; book::RECORDS_MAX],
+    }
+}
+
+// What a message of any type takes off: a CC or DK what it lists, where that passes 37; another nothing.
+pub fn find_listed(body: &[u8], numbers: &[[u64; 6]], keys: &[[u8; 22]], live: usize) -> Listed
+    requires { ⌜ Findable (now body) (now numbers) (now keys) live ⌝ }
+    ensures { λ r. ⌜ Takes (now (body .entry)) (take live (tableOf (now (numbers .entry)) (now (keys .entry)))) r ⌝ }
+{
+    let t = header::message_type(body);
+    if !(is_cc(t) | is_dk(t)) {
+        return without_marks(true);
+    }
+    let found = decide_listed(body, numbers, keys, live);
+    if !found.fine {
+        return without_marks(false);
+    }
+    found
 }

@@ -3,7 +3,7 @@ use Prim.Native.Nat.{ℕ, zero, suc, _+_, _-_, _≤_}
 use native.Mathlib.Omega.{arith}
 use native.Mathlib.Nat.{sub-zero, suc-sub-suc}
 use mathlib.Core.Path.{_≡_, refl, sym, ap, _∙_}
-use mathlib.Core.List.{List, [], _++_, map, append-assoc, append-nil}
+use mathlib.Core.List.{List, [], _++_, append-assoc, append-nil}
 use mathlib.Core.Bool.{Bool, true, false, not, true≢false, and-false}
 use lib.ListN.{length, take, drop, replicate, length-append, length-replicate, replicate-append-replicate, take-append-drop}
 use lib.Seq.{length-take-le, take-append-seam, drop-append-add}
@@ -15,14 +15,15 @@ use Rattle.layout.specs.Details.{details}
 use Rattle.tally.specs.declared.MessageType.{MessageType}
 use Rattle.tally.specs.declared.MessageType.the-variants.{On, Cc, Dk, Cx, Other}
 use Rattle.book.specs.declared.Pool.{Pool}
-use Rattle.book.specs.Records.{fieldsOf, noPool, recordsOf}
+use Rattle.book.specs.Records.{noPool, recordsOf}
 use Rattle.faces.specs.Faces.{newLots}
-use Rattle.book.specs.Messages.{typeOf, targetOf, listed, listedOf, brought, broughtBy}
+use Rattle.book.specs.Messages.{typeOf, targetOf, listed, brought, broughtBy}
 use Rattle.book.specs.Checks.{isTaken, onOrCc, ccOrDk}
 use Rattle.book.proofs.ListLaws.{length-keep}
 use Rattle.table.specs.Rows.{tableOf}
 use Rattle.table.specs.Closed.{unmarked}
 use Rattle.table.proofs.Rows.{length-table}
+use Rattle.places.proofs.Seeking.{lists-nothing}
 use Rattle.places.proofs.Weighing.{unmarked-keep}
 use Rattle.moves.specs.Moves.{remaining, bringing, filled, Movable}
 
@@ -42,18 +43,6 @@ closed-filled rs t live n h l z =
 -- a message that lists nothing leaves every record
 nothing-taken : (body : List ℕ) (rs : List Pool) → listed body ≡ [] → remaining body rs ≡ rs
 nothing-taken body rs e = keep-all (λ (r : Pool). not (isTaken (targetOf body) (listed body) r)) rs (λ r m. rw (e, and-false))
-
--- a type that is no CC or DK lists nothing
-pub lists-nothing : (k : MessageType) (body : List ℕ) → k ≡ typeOf body → ccOrDk k ≡ false → listed body ≡ []
-unfolding listed
-lists-nothing k body e f = rw (sym e) (go k f)
-  where
-    go : (t : MessageType) → ccOrDk t ≡ false → map fieldsOf (listedOf t (details body)) ≡ []
-    go On g = refl
-    go Cc g = absurd (true≢false g)
-    go Dk g = absurd (true≢false g)
-    go Cx g = refl
-    go Other g = refl
 
 module _ (body : List ℕ) (ns ks : List (List ℕ)) (live : ℕ) (ms : List ℕ) (m : Movable body ns ks live ms) where
   size : length (take live (tableOf ns ks)) ≡ live

@@ -1,16 +1,15 @@
 -- The search for the rows of the listed pools: what is filled when it has passed over all pools, and what a pool without a row says.
 use mathlib.Core.Path.{_≡_, refl, sym, ap, _∙_}
-use mathlib.Core.List.{List, [], _∷_}
+use mathlib.Core.List.{List, [], _∷_, map}
 use mathlib.Core.Bool.{Bool, true, false, cond, not, _&&_, _||_, false≢true, true≢false}
-use Prim.Native.Nat.{ℕ, zero, suc, _+_, _-_, _≤_, _<_}
-use native.Mathlib.Nat.{add-zero}
+use Prim.Native.Nat.{ℕ, _+_, _-_, _≤_, _<_}
 use native.Mathlib.Decide.{decLt, ℕ-discrete}
 use native.Mathlib.Omega.{arith}
 use lib.ListN.{length, getD, take, set, replicate}
 use borrow.Author.Tests.{not-true, not-false}
 use Rattle.lists.specs.Lists.{part, tab, keep, any, all}
-use Rattle.lists.proofs.Tables.{length-tab, getD-tab, take-tab, drop-tab}
-use Rattle.lists.proofs.Tests.{keep-all, keep-none}
+use Rattle.lists.proofs.Tables.{length-tab, take-tab, drop-tab}
+use Rattle.lists.proofs.Tests.{clash, keep-all, keep-none}
 use Rattle.layout.specs.declared.Detail.{Detail}
 use Rattle.layout.specs.Details.{poolsMax, poolCount, details}
 use Rattle.layout.proofs.Passes.{poolOf}
@@ -20,16 +19,16 @@ use Rattle.book.specs.declared.Pool.{Pool}
 use Rattle.book.specs.Records.{Fields, fieldsOf, liveFields, sameFields}
 use Rattle.book.specs.Messages.{typeOf, targetOf, under, listedOf, listed}
 use Rattle.book.specs.Soundness.{inOrder}
-use Rattle.book.specs.Checks.{allLive}
+use Rattle.book.specs.Checks.{ccOrDk, allLive}
 use Rattle.book.proofs.ListLaws.{all-of-map}
 use Rattle.table.specs.Rows.{keyAt, recordAt, tableOf}
 use Rattle.table.proofs.Rows.{take-table}
 use Rattle.keys.specs.Keys.{keyOf}
 use Rattle.places.specs.declared.Run.{Run}
 use Rattle.places.specs.declared.Places.{Places}
-use Rattle.places.specs.Runs.{ahead, runOf}
+use Rattle.places.specs.Runs.{runOf}
 use Rattle.places.specs.Finding.{rowFields, lists, runRecords, standsIn, Finds}
-use Rattle.places.proofs.Ascending.{ahead-fail, run-rises, run-within, run-keep}
+use Rattle.places.proofs.Ascending.{run-rises, run-within, run-keep}
 use Rattle.places.proofs.Comparing.{pool-fields}
 use Rattle.places.proofs.Cells.{Filled, filled-none, filled-skip, filled-more, getD-zeros, any-tab-in, any-tab-out, all-kept-in, all-kept-out}
 
@@ -48,6 +47,18 @@ unfolding listed details
 all-listed p body =
     all-of-map p fieldsOf (listedOf (typeOf body) (tab (poolOf body) (poolCount body) 0))
     ∙ ap (all (λ (d : Detail). p (fieldsOf d))) (lists-keep (typeOf body) (tab (poolOf body) (poolCount body) 0))
+
+-- a type that is no CC or DK lists nothing
+pub lists-nothing : (k : MessageType) (body : List ℕ) → k ≡ typeOf body → ccOrDk k ≡ false → listed body ≡ []
+unfolding listed
+lists-nothing k body e f = rw (sym e) (go k f)
+  where
+    go : (t : MessageType) → ccOrDk t ≡ false → map fieldsOf (listedOf t (details body)) ≡ []
+    go On g = refl
+    go Cc g = absurd (true≢false g)
+    go Dk g = absurd (true≢false g)
+    go Cx g = refl
+    go Other g = refl
 
 -- ---- rows that do not hold some fields
 -- whether the k-th row holds them
@@ -75,30 +86,27 @@ module _ (ks : List (List ℕ)) (f : Fields) where
       go (yes p) = v k h p
       go (no p) = w k (omega (arith, p)) l
 
--- ---- the first row that holds some fields
-ahead-hit : {A : Type 0} (p : A → Bool) (f : ℕ → A) (n i : ℕ) → ahead p (tab f n i) < n → p (f (i + ahead p (tab f n i))) ≡ true
-ahead-hit p f zero i h = absurd (omega arith)
-ahead-hit p f (suc n) i h = go (p (f i)) refl h (ahead-hit p f n (i + 1))
-  where
-    go : (b : Bool) → p (f i) ≡ b → cond b 0 (suc (ahead p (tab f n (i + 1)))) < suc n → (ahead p (tab f n (i + 1)) < n → p (f (i + 1 + ahead p (tab f n (i + 1)))) ≡ true)
-        → p (f (i + cond b 0 (suc (ahead p (tab f n (i + 1)))))) ≡ true
-    go true e l below = ap (λ (k : ℕ). p (f k)) (add-zero i) ∙ e
-    go false e l below =
-        let q : i + suc (ahead p (tab f n (i + 1))) ≡ i + 1 + ahead p (tab f n (i + 1)) = omega arith in
-        ap (λ (k : ℕ). p (f k)) q ∙ below (omega (arith, l))
+-- ---- a walk over a run from a row on, and again from its start
+module _ (ks : List (List ℕ)) (f : Fields) (start stop next : ℕ) where
+  -- the walk stands at j and ends at end: no row that it has passed holds the fields
+  abbrev pub Round : Bool → ℕ → ℕ → Type 0
+  Round false end j = (end ≡ stop) × (next ≤ j) × Without ks f next j
+  Round true end j = (end ≡ next) × Without ks f next stop × Without ks f start j
 
-module _ (ks : List (List ℕ)) (f : Fields) (start stop r : ℕ)
-    (is : r ≡ start + ahead (λ (row : List ℕ). sameFields (rowFields row) f) (tab (keyAt ks) (stop - start) start)) (h : start ≤ stop) where
-  pub first-none : stop ≤ r → Without ks f start stop
-  first-none l k a b =
-      let e : start + (k - start) ≡ k = omega (arith, a) in
-      ap (rowHas ks f) (sym e)
-      ∙ ap (λ (row : List ℕ). sameFields (rowFields row) f) (sym (getD-tab (keyAt ks) (stop - start) start (k - start) [] (omega (arith, a, b))))
-      ∙ ahead-fail (λ (row : List ℕ). sameFields (rowFields row) f) [] (tab (keyAt ks) (stop - start) start) (k - start) (omega (arith, is, l, a, b))
+  pub round-none : Round false stop next
+  round-none = (refl, omega arith, without-none ks f next)
 
-  pub first-found : r < stop → (start ≤ r) × (rowHas ks f r ≡ true)
-  first-found l =
-      (omega (arith, is), ap (rowHas ks f) is ∙ ahead-hit (λ (row : List ℕ). sameFields (rowFields row) f) (keyAt ks) (stop - start) start (omega (arith, is, l, h)))
+  pub round-more : (again : Bool) (end j : ℕ) → Round again end j → rowHas ks f j ≡ false → Round again end (j + 1)
+  round-more false end j r e = (r .0, omega (arith, r .1), without-more ks f next j (r .2) e)
+  round-more true end j r e = (r .0, r .1, without-more ks f start j (r .2) e)
+
+  pub round-again : (again : Bool) (end j : ℕ) → again ≡ false → Round again end j → end ≤ j → Round true next start
+  round-again false end j b r h = (refl, λ k g l. r .2 k g (omega (arith, l, r .0, h)), without-none ks f start)
+  round-again true end j b r h = clash refl b
+
+  pub round-done : (again : Bool) (end j : ℕ) → again ≡ true → Round again end j → end ≤ j → Without ks f start stop
+  round-done false end j b r h = clash b refl
+  round-done true end j b r h = without-both ks f start next stop (λ k g l. r .2 k g (omega (arith, l, r .0, h))) (r .1)
 
 -- ---- the search over the pools of a body
 -- the cells of the first d pools are filled
@@ -170,11 +178,10 @@ module _ (body : List ℕ) (ks : List (List ℕ)) (d : ℕ) (t : MessageType) (p
         filled-more (λ (e : ℕ). lists (typeOf body) (poolOf body e)) (λ (e : ℕ). rowHas ks (fieldsOf (poolOf body e))) start stop at d inv w (sym asked ∙ not-false b n) j a l
         (ap (λ (f : Fields). rowHas ks f j) (sym (key-is h key ek)) ∙ e)
 
-  pub sought-not : (run : Run) → not b ≡ false → d < poolCount body → run .start ≤ run .stop → (key : List ℕ) → key ≡ keyOf p → (next : ℕ)
-      → Without ks (rowFields key) (run .start) next → Without ks (rowFields key) next (run .stop) → Finds body ks run (record { found = false; at = replicate poolsMax 0 })
-  sought-not run n h l key ek next v w =
-      finds-not body ks run d h (sym asked ∙ not-false b n) l
-      (λ (k : ℕ) a e. ap (λ (f : Fields). rowHas ks f k) (sym (key-is h key ek)) ∙ without-both ks (rowFields key) (run .start) next (run .stop) v w k a e)
+  pub sought-not : (run : Run) → not b ≡ false → d < poolCount body → run .start ≤ run .stop → (key : List ℕ) → key ≡ keyOf p
+      → Without ks (rowFields key) (run .start) (run .stop) → Finds body ks run (record { found = false; at = replicate poolsMax 0 })
+  sought-not run n h l key ek w =
+      finds-not body ks run d h (sym asked ∙ not-false b n) l (λ (k : ℕ) a e. ap (λ (f : Fields). rowHas ks f k) (sym (key-is h key ek)) ∙ w k a e)
 
 all-same : {A : Type 0} (p q : A → Bool) → ((x : A) → p x ≡ q x) → (xs : List A) → all p xs ≡ all q xs
 all-same p q h [] = refl

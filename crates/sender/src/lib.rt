@@ -6,8 +6,10 @@ use sequence::Arrival;
 use tally::MessageType;
 ghost use mathlib.Core.Path.{_≡_};
 ghost use mathlib.Core.List.{List};
-ghost use mathlib.Core.Bool.{_&&_};
+ghost use mathlib.Core.Bool.{cond, _&&_};
 ghost use Rattle.book.specs.declared.Pool.{Pool};
+ghost use Rattle.book.specs.declared.Reason.the-variants.{NoTradeId};
+ghost use Rattle.book.specs.declared.Verdict.the-variants.{Passes, Fails};
 ghost use Rattle.book.specs.Messages.{typeOf};
 ghost use Rattle.book.specs.Checks.{
   isDuplicate,
@@ -32,8 +34,8 @@ ghost use Rattle.book.specs.Checks.{
 };
 ghost use Rattle.sender.specs.Order.{senderChecks, numbered, failsIn};
 
-// The checks by their numbers, in the order in which they are tried.
-const ORDER: [u8; 18] = [
+// The checks before the last one, 25, by their numbers, in the order in which they are tried.
+const ORDER: [u8; 17] = [
     43,
     44,
     10,
@@ -51,10 +53,9 @@ const ORDER: [u8; 18] = [
     22,
     23,
     24,
-    25,
 ];
 
-const CHECKS: usize = 18;
+const CHECKS: usize = 17;
 
 fn is_duplicate(a: Arrival) -> bool
     ensures { λ r. ⌜ r ≡ isDuplicate a ⌝ }
@@ -238,13 +239,13 @@ fn reason_fails(body: &[u8]) -> bool
 }
 
 // 25 of a DK: its trade ID.
-fn id_fails(body: &[u8]) -> bool
-    ensures { λ r. ⌜ r ≡ (isDk (typeOf (now (body .entry))) && tradeIdMissing (now (body .entry))) ⌝ }
+fn id_verdict(body: &[u8]) -> Verdict
+    ensures { λ r. ⌜ r ≡ cond (isDk (typeOf (now (body .entry))) && tradeIdMissing (now (body .entry))) (Fails NoTradeId) Passes ⌝ }
 {
     if !is_dk(header::message_type(body)) {
-        return false;
+        return Verdict::Passes;
     }
-    sender_rules::no_trade_id(body)
+    sender_rules::id_verdict(body)
 }
 
 // Whether a message fails the check with a number.
@@ -269,7 +270,6 @@ fn fails(book: Book, body: &[u8], room: usize, number: u8) -> bool
         22 => replacements_fail(body),
         23 => settlement_fails(book, body),
         24 => reason_fails(body),
-        25 => id_fails(body),
         _ => false,
     }
 }
@@ -296,7 +296,6 @@ fn reason_of(number: u8) -> Reason
         22 => Reason::Replacements,
         23 => Reason::Settlement,
         24 => Reason::ReasonCode,
-        25 => Reason::NoTradeId,
         _ => Reason::Opening,
     }
 }
@@ -313,5 +312,5 @@ pub fn first_of_sender(book: Book, body: &[u8], room: usize) -> Verdict
             return Verdict::Fails(reason_of(number));
         }
     }
-    Verdict::Passes
+    id_verdict(body)
 }

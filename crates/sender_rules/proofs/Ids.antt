@@ -1,12 +1,15 @@
 -- A trade ID that is not whole, by the numbers that the code has for the cases of the answer: 1 broken, 2 absent.
 use mathlib.Core.Path.{_≡_, refl}
 use mathlib.Core.Logic.{_⊎_, inl, inr}
-use mathlib.Core.Bool.{Bool, true, false, not, _&&_}
+use mathlib.Core.Bool.{Bool, true, false, cond, not, _&&_}
 use native.Mathlib.Omega.{arith}
 use denote.Enum.Declared.{tagOf}
 use Rattle.trade_id.proofs.TradeId as code
 use Rattle.trade_id.specs.declared.TradeId.{TradeId}
 use Rattle.trade_id.specs.declared.TradeId.the-variants.{Whole, Broken, Absent}
+use Rattle.book.specs.declared.Reason.the-variants.{NoTradeId}
+use Rattle.book.specs.declared.Verdict.{Verdict}
+use Rattle.book.specs.declared.Verdict.the-variants.{Passes, Fails}
 use Rattle.book.specs.Checks.{isWhole}
 
 pub not-whole : (t : TradeId) → (tagOf code.the-type t ≡ 1) ⊎ (tagOf code.the-type t ≡ 2) → isWhole t ≡ false
@@ -16,11 +19,14 @@ not-whole Broken k = refl
 not-whole Absent k = refl
 
 -- 25 by its two tests
-pub not-stipulated : (s w : Bool) → s ≡ false → false ≡ (s && not w)
+abbrev verdict : Bool → Bool → Verdict
+verdict s w = cond (s && not w) (Fails NoTradeId) Passes
+
+pub not-stipulated : (s w : Bool) → s ≡ false → Passes ≡ verdict s w
 not-stipulated s w e = rw e
 
-pub without : (s w : Bool) → s ≡ true → w ≡ false → true ≡ (s && not w)
+pub without : (s w : Bool) → s ≡ true → w ≡ false → Fails NoTradeId ≡ verdict s w
 without s w e f = rw (e, f)
 
-pub with-one : (s w : Bool) → s ≡ true → w ≡ true → false ≡ (s && not w)
+pub with-one : (s w : Bool) → s ≡ true → w ≡ true → Passes ≡ verdict s w
 with-one s w e f = rw (e, f)

@@ -1,9 +1,14 @@
 // Rules on the numbers and the trade ID of a header: amounts (16), a CC's replacements and settlement (22, 23), a DK's reason and trade ID (24, 25), an ON's millions (33).
+use book::Reason;
 use book::Values;
+use book::Verdict;
 use fields::Field;
 use trade_id::TradeId;
 ghost use mathlib.Core.Path.{_≡_};
+ghost use mathlib.Core.Bool.{cond};
 ghost use lib.Dec.{eqb, leb};
+ghost use Rattle.book.specs.declared.Reason.the-variants.{NoTradeId};
+ghost use Rattle.book.specs.declared.Verdict.the-variants.{Passes, Fails};
 ghost use Rattle.book.specs.Checks.{notNumber, amountsWrong, replacementsFail, isBusinessDate, settlementFails, reasonFails, tradeIdMissing, millionsFail};
 
 fn wide(x: usize) -> u64
@@ -78,17 +83,17 @@ pub fn reason_fails(body: &[u8]) -> bool
 }
 
 // 25: a stipulated DK without a whole trade ID.
-pub fn no_trade_id(body: &[u8]) -> bool
-    ensures { λ r. ⌜ r ≡ tradeIdMissing (now (body .entry)) ⌝ }
+pub fn id_verdict(body: &[u8]) -> Verdict
+    ensures { λ r. ⌜ r ≡ cond (tradeIdMissing (now (body .entry))) (Fails NoTradeId) Passes ⌝ }
 {
     if !header::is_stipulated(body) {
-        return false;
+        return Verdict::Passes;
     }
     let id = header::trade_id_in(body);
     let TradeId::Whole { .. } = id else {
-        return true;
+        return Verdict::Fails(Reason::NoTradeId);
     };
-    false
+    Verdict::Passes
 }
 
 // 33: GDMM is not the sum of the good millions.

@@ -2,9 +2,9 @@
 use Prim.Native.Nat.{ℕ, _+_, _≤_, _<_}
 use native.Mathlib.Omega.{arith}
 use mathlib.Core.Path.{_≡_, refl, sym, ap, _∙_}
-use mathlib.Core.List.{List, [], map}
-use mathlib.Core.Bool.{Bool, true, false, cond, not, _&&_, _||_, true≢false, and-false}
-use lib.ListN.{length, take, drop, getD, replicate, length-map, length-replicate}
+use mathlib.Core.List.{List, map}
+use mathlib.Core.Bool.{Bool, true, false, cond, not, _&&_, _||_, true≢false}
+use lib.ListN.{length, take, drop, getD, length-map, length-replicate}
 use lib.Dec.{leb, ltb}
 use lib.Seq.{length-take-le, getD-take}
 use borrow.Author.Tests.{leb-true, lt-ltb, le-ltb, not-true, not-false}
@@ -26,7 +26,7 @@ use Rattle.book.specs.Messages.{typeOf, targetOf, under, listed, listedOf}
 use Rattle.book.specs.Trades.{tradesOf, openPars, broughtWeight, tradeOfOn}
 use Rattle.book.specs.Opening.{recordsMax}
 use Rattle.book.specs.Soundness.{Sound}
-use Rattle.book.specs.Checks.{Check, live, isOn, isCc, isDk, onOrCc, ccOrDk, targetTrade, tradeAt, concerned, concernedFor, isTaken, taken, listedFine, parFine, tableFine, checks, firstFailing}
+use Rattle.book.specs.Checks.{Check, live, isOn, isCc, onOrCc, ccOrDk, targetTrade, tradeAt, concerned, concernedFor, isTaken, taken, listedFine, parFine, tableFine, checks, firstFailing}
 use Rattle.book.proofs.Reached.{is-sound}
 use Rattle.book.proofs.ListLaws.{or-right}
 use Rattle.table.specs.Rows.{recordAt, numberAt, tableOf}
@@ -37,23 +37,28 @@ use Rattle.places.specs.Marks.{marked, Weighable}
 use Rattle.places.proofs.Ascending.{run-some, run-trade, run-trade-none, run-rises, run-within}
 use Rattle.places.proofs.Weighing.{marked-keep}
 use Rattle.listed.specs.declared.Listed.{Listed}
-use Rattle.listed.specs.Listing.{Findable, Decides}
-use Rattle.places.proofs.Cells.{getD-zeros}
+use Rattle.listed.specs.Listing.{Findable, Takes}
 use Rattle.soundness.proofs.Whole.{few-trades, light}
-use Rattle.moves.proofs.Taking.{lists-nothing}
 use Rattle.trader.specs.declared.Decision.{Decision}
-use Rattle.trader.specs.Decisions.{traderChecks, callOn, Ready, DecidedBy, Takes}
+use Rattle.trader.specs.Decisions.{traderChecks, callOn, Ready, refusedWith, DecidedBy}
 use Rattle.trader.proofs.Firsts.{fails-not, first-late}
 
+same-reason : (r q : Reason) → Fails r ≡ Fails q → r ≡ q
+same-reason r q e = cc
+
 -- a refused decision holds nothing else
-pub refused-by : (ks : List Check) (book : Book) (ns ks′ : List (List ℕ)) (body : List ℕ) (room : ℕ) (d : Decision) (r : Reason) → d .verdict ≡ Fails r
+pub refused-by : (ks : List Check) (book : Book) (ns ks′ : List (List ℕ)) (body : List ℕ) (room : ℕ) (d : Decision) (r : Reason) → d ≡ refusedWith r
     → Fails r ≡ firstFailing ks (callOn book ns ks′ body room) → DecidedBy ks (callOn book ns ks′ body room) d
-refused-by ks book ns ks′ body room d r e f =
+unfolding refusedWith
+refused-by ks book ns ks′ body room d r ed f =
+    let e : d .verdict ≡ Fails r = ap (λ (x : Decision). x .verdict) ed in
     record {
       verdict = e ∙ f;
+      refused = λ q p. ed ∙ ap refusedWith (same-reason r q (sym e ∙ p));
       trade = λ p. fails-not (sym e ∙ p);
       off = λ p. fails-not (sym e ∙ p);
       brought = λ p. fails-not (sym e ∙ p);
+      size = rw ed (length-replicate {A = ℕ} recordsMax 0);
       marked = λ p. fails-not (sym e ∙ p);
     }
 
@@ -67,27 +72,6 @@ takes-all : (a b f : Bool) → f ≡ (not a || b) → f ≡ true → (a && not b
 takes-all true true f e h = refl
 takes-all true false f e h = absurd (true≢false (sym h ∙ e))
 takes-all false b f e h = refl
-
--- two types by two tests
-pub either : (k : MessageType) (cc dk : Bool) → cc ≡ isCc k → dk ≡ isDk k → (cc || dk) ≡ ccOrDk k
-either k cc dk ec ed = rw (ec, ed)
-
-module _ (k : MessageType) (body : List ℕ) (cc dk : Bool) (ek : k ≡ typeOf body) (ec : (cc || dk) ≡ ccOrDk k) where
-  pub takes-some : (ns ks : List (List ℕ)) (n : ℕ) (r : Listed) → length (r .marks) ≡ recordsMax → n ≤ length ns → (cc || dk) ≡ true → Decides body ns ks n r → Takes body (take n (tableOf ns ks)) r
-  takes-some ns ks n r lm h e d =
-      let y : ccOrDk (typeOf body) ≡ true = rw (sym ek, sym ec) e in
-      let size : length (take n (tableOf ns ks)) ≡ n = length-take-le n (tableOf ns ks) (rw (length-table ns ks) h) in
-      record { size = lm; fine = rw y (d .fine y); marked = λ f i g. d .marks y f i (omega (arith, size, g)) }
-
-  pub takes-none : (rs : List Pool) (r : Listed) (n : ℕ) → n ≡ recordsMax → (cc || dk) ≡ false → r .fine ≡ true → r .marks ≡ replicate n 0 → Takes body rs r
-  takes-none rs r n en e ef em =
-      let y : ccOrDk (typeOf body) ≡ false = rw (sym ek, sym ec) e in
-      let l : listed body ≡ [] = lists-nothing k body ek (rw (sym ec) e) in
-      record {
-        size = rw em (length-replicate {A = ℕ} n 0 ∙ en);
-        fine = rw (ef, y);
-        marked = λ f i g. rw (em, l, and-false, getD-zeros n i);
-      }
 
 -- ---- what soundness gives
 module _ (book : Book) (ns ks : List (List ℕ)) (body : List ℕ) (y : Ready book ns ks body) where
@@ -226,9 +210,11 @@ module _ (book : Book) (ns ks : List (List ℕ)) (body : List ℕ) (y : Ready bo
             all-pass h =
                 record {
                   verdict = rw (tests, rw (both-is, par-is) at h38, both-fits false h);
+                  refused = λ r p. fails-not (sym p);
                   trade = λ z. concerned-is;
                   off = λ z. off-is;
                   brought = λ z. eb;
+                  size = tk .size;
                   marked = λ z. tk .marked (not-false (t .fine) h37);
                 }
 
@@ -238,8 +224,10 @@ pub decided-late : (book : Book) (ns ks : List (List ℕ)) (body : List ℕ) (ro
 decided-late book ns ks body room d e m =
     record {
       verdict = m .verdict ∙ sym (first-late (callOn book ns ks body room) 7 traderChecks (sym e));
+      refused = m .refused;
       trade = m .trade;
       off = m .off;
       brought = m .brought;
+      size = m .size;
       marked = m .marked;
     }

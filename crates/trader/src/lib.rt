@@ -4,7 +4,6 @@ use book::Reason;
 use book::Trade;
 use book::Values;
 use book::Verdict;
-use listed::Listed;
 use places::Run;
 use tally::MessageType;
 ghost use mathlib.Core.Path.{_≡_};
@@ -19,7 +18,6 @@ ghost use Rattle.terminator.specs.Lots.{formedFor};
 ghost use Rattle.faces.specs.Faces.{newPools};
 ghost use Rattle.book.specs.Messages.{targetOf, under};
 ghost use Rattle.book.specs.Trades.{tradesOf, tradeOfOn, openPars};
-ghost use Rattle.book.specs.declared.Verdict.the-variants.{Fails};
 ghost use Rattle.book.specs.Opening.{recordsMax};
 ghost use Rattle.book.specs.Soundness.{liveOf};
 ghost use Rattle.book.specs.Checks.{isOn, isCc, isDk, targetTrade, tradeAt, firstFailing};
@@ -27,8 +25,7 @@ ghost use Rattle.book.specs.declared.Pool.{Pool};
 ghost use Rattle.book.specs.declared.Book.{Book};
 ghost use mathlib.Core.List.{List};
 ghost use Rattle.table.specs.Rows.{tableOf, numberAt};
-ghost use Rattle.listed.specs.Listing.{Findable};
-ghost use Rattle.trader.specs.Decisions.{traderChecks, callOn, Ready, DecidedBy, Takes};
+ghost use Rattle.trader.specs.Decisions.{traderChecks, callOn, Ready, refusedWith, DecidedBy};
 
 // What the trader's checks decide, and what an accepted message moves: its trade, the weight that it takes off, the weight that it brings,
 // and a mark on each record that it takes off.
@@ -88,9 +85,10 @@ fn first_of_terms(v: Values, body: &[u8], there: bool, target: usize) -> Verdict
     if (cc | dk) & !there {
         return Verdict::Fails(Reason::Target);
     }
-    if trades::id_fails(body, v, target) {
-        return Verdict::Fails(Reason::TradeId);
-    }
+    let id = trades::id_verdict(body, v, target);
+    let Verdict::Passes = id else {
+        return id;
+    };
     if trades::terms_fail(body, v, target) {
         return Verdict::Fails(Reason::Terms);
     }
@@ -172,23 +170,6 @@ fn target_trade(numbers: &[[u64; 6]], run: Run) -> usize
     0
 }
 
-// What a message takes off. One that is no CC or DK takes off nothing.
-fn taken_by(body: &[u8], numbers: &[[u64; 6]], keys: &[[u8; 22]], live: usize) -> Listed
-    requires { ⌜ Findable (now body) (now numbers) (now keys) live ⌝ }
-    ensures { λ r. ⌜ Takes (now (body .entry)) (take live (tableOf (now (numbers .entry)) (now (keys .entry)))) r ⌝ }
-{
-    let kind = header::message_type(body);
-    let cc = is_cc(kind);
-    let dk = is_dk(kind);
-    if cc | dk {
-        return listed::find_listed(body, numbers, keys, live);
-    }
-    Listed {
-        fine: true,
-        marks: [0u8; book::RECORDS_MAX],
-    }
-}
-
 // The trade that a message concerns, where the target's is known.
 fn concerned_by(body: &[u8], v: Values, on: bool, target: usize) -> usize
     ensures { λ r. ⌜ r ≡ cond on (tradeOfOn (now (body .entry)) (tradesOf v) (openPars (tradesOf v))) target ⌝ }
@@ -200,7 +181,7 @@ fn concerned_by(body: &[u8], v: Values, on: bool, target: usize) -> usize
 }
 
 fn refused(reason: Reason) -> Decision
-    ensures { λ r. ⌜ r .verdict ≡ Fails reason ⌝ }
+    ensures { λ r. ⌜ r ≡ refusedWith reason ⌝ }
 {
     Decision {
         verdict: Verdict::Fails(reason),
@@ -229,7 +210,7 @@ fn decide_moves(
     let kind = header::message_type(body);
     let on = is_on(kind);
     let cc = is_cc(kind);
-    let found = taken_by(body, numbers, keys, live);
+    let found = listed::find_listed(body, numbers, keys, live);
     if !found.fine {
         return refused(Reason::Listed);
     }

@@ -2,25 +2,29 @@
 use mathlib.Core.Path.{_≡_, refl, sym, ap, _∙_}
 use mathlib.Core.List.{List, [], _∷_}
 use mathlib.Core.Logic.{inl, inr}
-use mathlib.Core.Bool.{Bool, true, false, not, _&&_, _||_}
+use mathlib.Core.Bool.{Bool, true, false, cond, not, _&&_, _||_}
 use Prim.Native.Nat.{ℕ, _≤_, _<_}
 use native.Mathlib.Omega.{arith}
 use lib.ListN.{length, List·getD-eq-default}
 use lib.Dec.{eqb, leb}
 use types.Run.{OneOf}
 use denote.Enum.Declared.{tagOf}
-use borrow.Author.Tests.{lt-ltb, le-ltb}
+use borrow.Author.Tests.{lt-ltb, le-ltb, not-true, not-false}
 use Rattle.lists.specs.Lists.{any}
+use Rattle.lists.proofs.Tests.{clash}
 use Rattle.trade_id.specs.declared.TradeId.{TradeId}
 use Rattle.trade_id.specs.declared.TradeId.the-variants.{Whole, Broken, Absent}
 use Rattle.trade_id.proofs.TradeId.{the-type}
 use Rattle.book.specs.declared.Trade.{Trade}
+use Rattle.book.specs.declared.Reason.the-variants as reason
+use Rattle.book.specs.declared.Verdict.{Verdict}
+use Rattle.book.specs.declared.Verdict.the-variants.{Passes, Fails}
 use Rattle.book.specs.Messages.{typeOf, isStipulated, idIn}
 use Rattle.book.specs.Trades.{agrees, isNamedBy, firstTrade, mayTake, broughtWeight, tradeOfOn, openPars}
 use Rattle.book.specs.Checks.{noTrade, tradeAt, isOn, isWhole, namedTrade, namedFine, idFails, termsFail}
 use Rattle.terms.proofs.Agreeing.{agrees-none}
 use Rattle.terms.proofs.Searching.{none-passes}
-use Rattle.trades.specs.Broken.{isBroken}
+use Rattle.trades.specs.Absent.{isAbsent}
 
 -- ---- an ID that is not whole, by its variant
 pub not-whole : (id : TradeId) → OneOf (1 ∷ 2 ∷ []) (tagOf the-type id) → isWhole id ≡ false
@@ -61,25 +65,43 @@ module _ (body : List ℕ) (ts : List Trade) where
 
   -- ---- 31
   module _ (target : ℕ) where
-    pub id-open : (id : TradeId) → isWhole id ≡ false → (b s : Bool) → b ≡ isBroken id → s ≡ isStipulated body → (b || s) ≡ idFails body ts target id
-    id-open (Whole place n) w b s e f = absurd (let z : true ≡ false = w in let y : _≡_ {A = ℕ} 0 1 = cc in omega arith)
-    id-open Broken w b s e f = rw e
-    id-open Absent w b s e f = rw (e, f)
+    abbrev pub verdict : TradeId → Verdict
+    verdict id = cond (idFails body ts target id) (Fails reason.TradeId) Passes
+
+    -- without an ID, on FTBA
+    pub id-none : (id : TradeId) (b s : Bool) → b ≡ isAbsent id → s ≡ isStipulated body → (b && not s) ≡ true → Passes ≡ verdict id
+    id-none (Whole place n) b s eb es h = clash (rw eb at h) refl
+    id-none Broken b s eb es h = clash (rw eb at h) refl
+    id-none Absent b s eb es h =
+        let f : isStipulated body ≡ false = sym es ∙ not-true s (rw eb at h) in
+        rw f
+
+    -- an ID that is not whole else
+    pub id-open : (id : TradeId) → isWhole id ≡ false → (b s : Bool) → b ≡ isAbsent id → s ≡ isStipulated body → (b && not s) ≡ false → Fails reason.TradeId ≡ verdict id
+    id-open (Whole place n) w b s eb es h = clash refl w
+    id-open Broken w b s eb es h = refl
+    id-open Absent w b s eb es h =
+        let f : isStipulated body ≡ true = sym es ∙ not-false s (rw eb at h) in
+        rw f
 
     module _ (place n : ℕ) (id : idIn body ≡ Whole place n) (i : ℕ) (is : i ≡ firstTrade (λ (t : Trade) (left : ℕ). isNamedBy body (Whole place n) t) 0 ts (openPars ts)) where
-      decided : not (namedFine body ts target i) ≡ idFails body ts target (idIn body)
-      decided = ap (λ (k : ℕ). not (namedFine body ts target k)) (is ∙ named-whole place n id) ∙ ap (idFails body ts target) (sym id)
+      decided : (b : Bool) → namedFine body ts target i ≡ b → cond (not b) (Fails reason.TradeId) Passes ≡ verdict (idIn body)
+      decided b e =
+          ap (λ (x : Bool). cond (not x) (Fails reason.TradeId) Passes) (sym e ∙ ap (namedFine body ts target) (is ∙ named-whole place n id))
+          ∙ ap verdict (sym id)
 
-      pub id-past : length ts ≤ i → true ≡ idFails body ts target (idIn body)
-      id-past h =
-          let l : not (namedFine body ts target i) ≡ true = rw (le-ltb i (length ts) h) in
-          sym l ∙ decided
+      pub id-past : length ts ≤ i → Fails reason.TradeId ≡ verdict (idIn body)
+      id-past h = decided false (rw (le-ltb i (length ts) h))
 
-      pub id-at : i < length ts → (t : Trade) → tradeAt ts i ≡ t → (a o : Bool) → a ≡ agrees body t → o ≡ isOn (typeOf body)
-          → not (a && (o || eqb i target)) ≡ idFails body ts target (idIn body)
-      id-at h t d a o e f =
-          let l : not (namedFine body ts target i) ≡ not (a && (o || eqb i target)) = rw (lt-ltb i (length ts) h, d, e, f) in
-          sym l ∙ decided
+      module _ (h : i < length ts) (t : Trade) (d : tradeAt ts i ≡ t) (a o : Bool) (e : a ≡ agrees body t) (f : o ≡ isOn (typeOf body)) where
+        fine : namedFine body ts target i ≡ (a && (o || eqb i target))
+        fine = rw (lt-ltb i (length ts) h, d, e, f)
+
+        pub id-fine : (a && (o || eqb i target)) ≡ true → Passes ≡ verdict (idIn body)
+        id-fine g = decided true (fine ∙ g)
+
+        pub id-unlike : (a && (o || eqb i target)) ≡ false → Fails reason.TradeId ≡ verdict (idIn body)
+        id-unlike g = decided false (fine ∙ g)
 
   -- ---- 32
   module _ (target : ℕ) where

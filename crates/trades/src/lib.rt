@@ -1,15 +1,20 @@
 // Trades by the trade ID of a message: which one the ID names, where an ON goes, and checks 31 and 32.
+use book::Reason;
 use book::Trade;
 use book::Values;
+use book::Verdict;
 use tally::MessageType;
 use trade_id::TradeId;
 ghost use mathlib.Core.Path.{_≡_};
+ghost use mathlib.Core.Bool.{cond};
 ghost use Prim.Native.Nat.{ℕ};
 ghost use Rattle.trade_id.specs.declared.TradeId.the-variants.{Whole};
+ghost use Rattle.book.specs.declared.Reason.the-variants as reason;
+ghost use Rattle.book.specs.declared.Verdict.the-variants.{Passes, Fails};
 ghost use Rattle.book.specs.Messages.{idIn};
 ghost use Rattle.book.specs.Trades.{tradesOf, isNamedBy, firstTrade, tradeOfOn, openPars};
 ghost use Rattle.book.specs.Checks.{isOn, idFails, termsFail};
-ghost use Rattle.trades.specs.Broken.{isBroken};
+ghost use Rattle.trades.specs.Absent.{isAbsent};
 
 fn is_on(message: MessageType) -> bool
     ensures { λ r. ⌜ r ≡ isOn message ⌝ }
@@ -23,16 +28,16 @@ fn is_on(message: MessageType) -> bool
     }
 }
 
-fn is_broken(id: TradeId) -> bool
-    ensures { λ r. ⌜ r ≡ isBroken id ⌝ }
+fn is_absent(id: TradeId) -> bool
+    ensures { λ r. ⌜ r ≡ isAbsent id ⌝ }
 {
     match id {
         TradeId::Whole {
             place: _,
             length: _,
         } => false,
-        TradeId::Broken => true,
-        TradeId::Absent => false,
+        TradeId::Broken => false,
+        TradeId::Absent => true,
     }
 }
 
@@ -79,22 +84,28 @@ pub fn trade_of_on(body: &[u8], v: Values) -> usize
 }
 
 // 31: a trade ID that is begun but not whole, or names no trade with agreeing terms, or another than a CC's or DK's target; on FSTI, none.
-pub fn id_fails(body: &[u8], v: Values, target: usize) -> bool
-    ensures { λ r. ⌜ r ≡ idFails (now (body .entry)) (tradesOf v) target (idIn (now (body .entry))) ⌝ }
+pub fn id_verdict(body: &[u8], v: Values, target: usize) -> Verdict
+    ensures { λ r. ⌜ r ≡ cond (idFails (now (body .entry)) (tradesOf v) target (idIn (now (body .entry)))) (Fails reason.TradeId) Passes ⌝ }
 {
     let id = header::trade_id_in(body);
+    if is_absent(id) & !header::is_stipulated(body) {
+        return Verdict::Passes;
+    }
     let TradeId::Whole { place, length } = id else {
-        return is_broken(id) | header::is_stipulated(body);
+        return Verdict::Fails(Reason::TradeId);
     };
     let i = find_named(body, v, place, length);
     let n = header::lesser(v.count, book::TRADES_MAX);
     if n <= i {
-        return true;
+        return Verdict::Fails(Reason::TradeId);
     }
     let message = header::message_type(body);
     let t = v.trades[i];
     let concerned = is_on(message) | (i == target);
-    !(terms::agrees(body, t) & concerned)
+    if terms::agrees(body, t) & concerned {
+        return Verdict::Passes;
+    }
+    Verdict::Fails(Reason::TradeId)
 }
 
 // 32: without a trade ID, no trade's terms agree with an ON's, or the target's with a CC's or DK's.

@@ -5,7 +5,7 @@ use Rattle.answer_numbers.proofs.hear.Statement.{statement}
 use Rattle.answer_numbers.proofs.hear.Tie as tie
 
 returns : tie.Need-returns
-returns c = too-short (c .before .before .args .said .now) _ (c .if1 .taken)
+returns c = too-short (c .before .before .args .said .now) (c .if1 .taken)
 
 shared-slice-read-first : tie.Need-shared-slice-read-first
 shared-slice-read-first c = search needs

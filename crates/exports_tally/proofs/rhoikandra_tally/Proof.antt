@@ -1,4 +1,5 @@
 -- Four rows are read as a tally, raised by the answer that was heard, and written back; else they stay.
+use Rattle.answer_numbers.proofs.Saying.{heard-fine, heard-answer}
 use Rattle.exports_tally.proofs.Counting.{not-four-stay, not-heard, was-heard}
 use borrow.Author.Needs.{needs}
 use Rattle.exports_tally.proofs.rhoikandra_tally.Statement.{statement}
@@ -11,7 +12,7 @@ hear-requires : tie.Need-hear-requires
 hear-requires c κs = search needs
 
 returns-2 : tie.Need-returns-2
-returns-2 c = not-heard (c .before .before .before .before .before .before .args .body .now) _ (c .before .before .before .before .before .before .args .said .now) _ (c .before .before .hear .ensures .0) (c .if2 .taken)
+returns-2 c = not-heard (c .before .before .before .before .before .before .args .body .now) _ (c .before .before .before .before .before .before .args .said .now) _ (heard-fine (c .before .before .before .before .before .before .args .said .now) _ (c .before .before .hear .ensures)) (c .if2 .taken)
 
 tally-of-requires : tie.Need-tally-of-requires
 tally-of-requires c κs = search needs
@@ -27,7 +28,7 @@ same-length c = search needs
 
 returns-3 : tie.Need-returns-3
 returns-3 c = let a = c .before .before .before .before .before .before .before .before .before .before .before .before .args in
-    was-heard (a .body .now) (a .rows .now) (a .said .now) _ (c .before .before .before .before .before .before .before .before .hear .ensures .0) _ _ _ _ (c .before .before .before .before .before .before .before .before .before .if1 .left) (c .before .before .before .before .before .before .before .before .hear .ensures .1) (c .before .before .before .before .before .before .if2 .left) (c .before .before .before .before .tally-of .ensures) (c .before .before .before .tally-after .ensures) (c .before .put-rows .ensures)
+    was-heard (a .body .now) (a .rows .now) (a .said .now) _ (heard-fine (a .said .now) _ (c .before .before .before .before .before .before .before .before .hear .ensures)) _ _ _ _ (c .before .before .before .before .before .before .before .before .before .if1 .left) (heard-answer (a .said .now) _ (c .before .before .before .before .before .before .before .before .hear .ensures)) (c .before .before .before .before .before .before .if2 .left) (c .before .before .before .before .tally-of .ensures) (c .before .before .before .tally-after .ensures) (c .before .put-rows .ensures)
 
 pub rhoikandra-tally-spec : {M : Type 1} → statement M
 rhoikandra-tally-spec =

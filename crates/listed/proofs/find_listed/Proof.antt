@@ -1,5 +1,5 @@
--- Nothing is fine where a pool has no row; else the judgment of the rows decides.
-use Rattle.listed.proofs.Fine.{run-fits, search-none, search-judged, search-decided}
+-- A CC or DK takes off what it lists, where that is decided to pass; another type nothing.
+use Rattle.listed.proofs.Taking.{takes-none, takes-not, takes-some}
 use borrow.Author.Needs.{needs}
 use Rattle.listed.proofs.find_listed.Statement.{statement}
 use Rattle.listed.proofs.find_listed.Tie as tie
@@ -10,24 +10,32 @@ message-type-requires c κs = search needs
 is-cc-requires : tie.Need-is-cc-requires
 is-cc-requires c κs = search needs
 
-target-run-requires : tie.Need-target-run-requires
-target-run-requires c κs = c .before .before .before .pre .within
+is-dk-requires : tie.Need-is-dk-requires
+is-dk-requires c κs = search needs
 
-find-places-requires : tie.Need-find-places-requires
-find-places-requires c κs = let a = c .before .before .before .before .args in run-fits (a .body .now) (a .numbers .now) (a .keys .now) (a .live) (c .before .before .before .before .pre) _ (c .target-run .ensures (a .keys .now))
+without-marks-requires : tie.Need-without-marks-requires
+without-marks-requires c κs = search needs
 
 returns : tie.Need-returns
-returns c = let a = c .before .before .before .before .before .before .before .args in search-none (a .body .now) (a .numbers .now) (a .keys .now) (a .live) (c .before .before .before .before .before .before .before .pre) _ (c .before .before .before .target-run .ensures (a .keys .now)) _ (c .before .before .find-places .ensures) (c .if1 .taken) _
+returns c =
+    let a = c .before .before .before .before .before .before .args in
+    takes-none (c .before .before .before .before .message-type .result) (a .body .now) (c .before .before .before .is-cc .result) (c .before .before .is-dk .result) (c .before .before .before .before .message-type .ensures) (c .before .before .before .is-cc .ensures) (c .before .before .is-dk .ensures) (c .before .if1 .taken) _ _ (c .without-marks .ensures)
 
-judge-requires : tie.Need-judge-requires
-judge-requires c κs =
-    let a = c .before .before .before .before .before .before .before .before .before .args in
-    search-judged (a .body .now) (a .numbers .now) (a .keys .now) (a .live) (c .before .before .before .before .before .before .before .before .before .pre) _ (c .before .before .before .before .before .target-run .ensures (a .keys .now)) _ (c .before .before .before .before .find-places .ensures) (c .before .before .if1 .left) _ (c .before .before .before .before .before .before .before .message-type .ensures) _ (c .before .before .before .before .before .before .is-cc .ensures)
+decide-listed-requires : tie.Need-decide-listed-requires
+decide-listed-requires c κs = search needs
+
+without-marks-requires-2 : tie.Need-without-marks-requires-2
+without-marks-requires-2 c κs = search needs
 
 returns-2 : tie.Need-returns-2
 returns-2 c =
-    let a = c .before .before .before .before .before .before .before .before .before .before .args in
-    search-decided (a .body .now) (a .numbers .now) (a .keys .now) (a .live) (c .before .before .before .before .before .before .before .before .before .before .pre) _ (c .before .before .before .before .before .before .target-run .ensures (a .keys .now)) _ (c .before .before .before .before .before .find-places .ensures) (c .before .before .before .if1 .left) _ (c .before .before .before .before .before .before .before .before .message-type .ensures) _ (c .before .before .before .before .before .before .before .is-cc .ensures) _ (c .judge .ensures)
+    let a = c .before .before .before .before .before .before .before .before .before .args in
+    takes-not (c .before .before .before .before .before .before .before .message-type .result) (a .body .now) (c .before .before .before .before .before .before .is-cc .result) (c .before .before .before .before .before .is-dk .result) (c .before .before .before .before .before .before .before .message-type .ensures) (c .before .before .before .before .before .before .is-cc .ensures) (c .before .before .before .before .before .is-dk .ensures) (c .before .before .before .before .if1 .left) (a .numbers .now) (a .keys .now) (a .live) (c .before .before .before .before .before .before .before .before .before .pre) _ (c .before .before .before .decide-listed .ensures) (c .before .if2 .taken) _ (c .without-marks2 .ensures)
+
+returns-3 : tie.Need-returns-3
+returns-3 c =
+    let a = c .before .before .before .before .before .before .before .before .args in
+    takes-some (c .before .before .before .before .before .before .message-type .result) (a .body .now) (c .before .before .before .before .before .is-cc .result) (c .before .before .before .before .is-dk .result) (c .before .before .before .before .before .before .message-type .ensures) (c .before .before .before .before .before .is-cc .ensures) (c .before .before .before .before .is-dk .ensures) (c .before .before .before .if1 .left) (a .numbers .now) (a .keys .now) (a .live) (c .before .before .before .before .before .before .before .before .pre) _ (c .before .before .decide-listed .ensures) (c .if2 .left) (search needs)
 
 pub find-listed-spec : {M : Type 1} → statement M
 find-listed-spec =
@@ -35,8 +43,10 @@ find-listed-spec =
     (tie.spec
     message-type-requires
     is-cc-requires
-    target-run-requires
-    find-places-requires
+    is-dk-requires
+    without-marks-requires
     returns
-    judge-requires
-    returns-2)
+    decide-listed-requires
+    without-marks-requires-2
+    returns-2
+    returns-3)

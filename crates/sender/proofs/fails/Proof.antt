@@ -59,9 +59,6 @@ settlement-fails-requires c κs = search needs
 reason-fails-requires : tie.Need-reason-fails-requires
 reason-fails-requires c κs = search needs
 
-id-fails-requires : tie.Need-id-fails-requires
-id-fails-requires c κs = search needs
-
 returns : tie.Need-returns
 unfolding numbered senderChecks checks
 returns c = λ (table : List Pool). fails-at (c .before .before .before .args .number) 43 (c .before .match .keys1) (call (c .before .before .before .args .book) table (c .before .before .before .args .body .now) (c .before .before .before .args .room)) _ (c .is-spent .ensures)
@@ -131,11 +128,7 @@ unfolding numbered senderChecks checks
 returns-17 c = λ (table : List Pool). fails-at (c .before .before .before .args .number) 24 (c .before .match .keys17) (call (c .before .before .before .args .book) table (c .before .before .before .args .body .now) (c .before .before .before .args .room)) _ (c .reason-fails .ensures)
 
 returns-18 : tie.Need-returns-18
-unfolding numbered senderChecks checks
-returns-18 c = λ (table : List Pool). fails-at (c .before .before .before .args .number) 25 (c .before .match .keys18) (call (c .before .before .before .args .book) table (c .before .before .before .args .body .now) (c .before .before .before .args .room)) _ (c .id-fails .ensures)
-
-returns-19 : tie.Need-returns-19
-returns-19 c = λ (table : List Pool). sym (ap (λ (k : Check). failsIn k (call (c .before .before .args .book) table (c .before .before .args .body .now) (c .before .before .args .room))) (unnumbered (c .before .before .args .number) (c .match .rest .0 .0 .0 .0 .0 .0 .0 .0 .0 .0 .0 .0 .0 .0 .0 .0 .0 .1) (c .match .rest .0 .0 .0 .0 .0 .0 .0 .0 .0 .0 .0 .0 .0 .0 .0 .0 .1) (c .match .rest .0 .0 .0 .0 .0 .0 .0 .0 .0 .0 .0 .0 .0 .0 .0 .1) (c .match .rest .0 .0 .0 .0 .0 .0 .0 .0 .0 .0 .0 .0 .0 .0 .1) (c .match .rest .0 .0 .0 .0 .0 .0 .0 .0 .0 .0 .0 .0 .0 .1) (c .match .rest .0 .0 .0 .0 .0 .0 .0 .0 .0 .0 .0 .0 .1) (c .match .rest .0 .0 .0 .0 .0 .0 .0 .0 .0 .0 .0 .1) (c .match .rest .0 .0 .0 .0 .0 .0 .0 .0 .0 .0 .1) (c .match .rest .0 .0 .0 .0 .0 .0 .0 .0 .0 .1) (c .match .rest .0 .0 .0 .0 .0 .0 .0 .0 .1) (c .match .rest .0 .0 .0 .0 .0 .0 .0 .1) (c .match .rest .0 .0 .0 .0 .0 .0 .1) (c .match .rest .0 .0 .0 .0 .0 .1) (c .match .rest .0 .0 .0 .0 .1) (c .match .rest .0 .0 .0 .1) (c .match .rest .0 .0 .1) (c .match .rest .0 .1) (c .match .rest .1)))
+returns-18 c = λ (table : List Pool). sym (ap (λ (k : Check). failsIn k (call (c .before .before .args .book) table (c .before .before .args .body .now) (c .before .before .args .room))) (unnumbered (c .before .before .args .number) (c .match .rest .0 .0 .0 .0 .0 .0 .0 .0 .0 .0 .0 .0 .0 .0 .0 .0 .1) (c .match .rest .0 .0 .0 .0 .0 .0 .0 .0 .0 .0 .0 .0 .0 .0 .0 .1) (c .match .rest .0 .0 .0 .0 .0 .0 .0 .0 .0 .0 .0 .0 .0 .0 .1) (c .match .rest .0 .0 .0 .0 .0 .0 .0 .0 .0 .0 .0 .0 .0 .1) (c .match .rest .0 .0 .0 .0 .0 .0 .0 .0 .0 .0 .0 .0 .1) (c .match .rest .0 .0 .0 .0 .0 .0 .0 .0 .0 .0 .0 .1) (c .match .rest .0 .0 .0 .0 .0 .0 .0 .0 .0 .0 .1) (c .match .rest .0 .0 .0 .0 .0 .0 .0 .0 .0 .1) (c .match .rest .0 .0 .0 .0 .0 .0 .0 .0 .1) (c .match .rest .0 .0 .0 .0 .0 .0 .0 .1) (c .match .rest .0 .0 .0 .0 .0 .0 .1) (c .match .rest .0 .0 .0 .0 .0 .1) (c .match .rest .0 .0 .0 .0 .1) (c .match .rest .0 .0 .0 .1) (c .match .rest .0 .0 .1) (c .match .rest .0 .1) (c .match .rest .1)))
 
 pub fails-spec : {M : Type 1} → statement M
 fails-spec =
@@ -157,7 +150,6 @@ fails-spec =
     replacements-fail-requires
     settlement-fails-requires
     reason-fails-requires
-    id-fails-requires
     returns
     returns-2
     returns-3
@@ -175,5 +167,4 @@ fails-spec =
     returns-15
     returns-16
     returns-17
-    returns-18
-    returns-19)
+    returns-18)

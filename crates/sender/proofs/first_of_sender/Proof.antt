@@ -13,10 +13,10 @@ use Rattle.sender.proofs.first_of_sender.Statement.{statement}
 use Rattle.sender.proofs.first_of_sender.Tie as tie
 
 abbrev Inv-loop : tie.InvT-loop
-Inv-loop book body room i₀ i = (i ≤ 18) × ((table : List Pool) → Left (call book table body room) i)
+Inv-loop book body room i₀ i = (i ≤ 17) × ((table : List Pool) → Left (call book table body room) i)
 
 abbrev μ-loop : tie.MeasureT-loop
-μ-loop book body room i₀ i = 18 - i
+μ-loop book body room i₀ i = 17 - i
 
 loop-holds : tie.Need-loop-holds Inv-loop μ-loop
 loop-holds c = (search needs, λ (table : List Pool). left-none (call (c .before .args .book) table (c .before .args .body .now) (c .before .args .room)))
@@ -45,8 +45,11 @@ loop-again : tie.Need-loop-again Inv-loop μ-loop
 loop-again c =
     (omega arith, λ (table : List Pool). left-more (call (c .before .before .before .before .before .args .book) table (c .before .before .before .before .before .args .body .now) (c .before .before .before .before .before .args .room)) (c .before .before .before .loop .i) (c .before .before .before .loop .inv .1 table) (omega (arith, c .before .before .loop-test .taken)) (sym (c .before .fails .ensures table) ∙ c .if1 .left))
 
+id-verdict-requires : tie.Need-id-verdict-requires Inv-loop μ-loop
+id-verdict-requires c κs = search needs
+
 returns-2 : tie.Need-returns-2 Inv-loop μ-loop
-returns-2 c = λ (table : List Pool). left-done (call (c .before .before .before .args .book) table (c .before .before .before .args .body .now) (c .before .before .before .args .room)) (c .before .loop .i) (c .before .loop .inv .1 table) (omega (arith, c .loop-test .left))
+returns-2 c = λ (table : List Pool). left-done (call (c .before .before .before .before .args .book) table (c .before .before .before .before .args .body .now) (c .before .before .before .before .args .room)) (c .before .before .loop .i) (c .before .before .loop .inv .1 table) (omega (arith, c .before .loop-test .left)) _ (c .id-verdict .ensures)
 
 pub first-of-sender-spec : {M : Type 1} → statement M
 first-of-sender-spec =
@@ -62,4 +65,5 @@ first-of-sender-spec =
     returns
     loop-less
     loop-again
+    id-verdict-requires
     returns-2)

@@ -75,11 +75,7 @@ unfolding numbered senderChecks checks
 returns-17 c = reason-at (c .before .args .number) 24 (c .match .keys17) _ refl
 
 returns-18 : tie.Need-returns-18
-unfolding numbered senderChecks checks
-returns-18 c = reason-at (c .before .args .number) 25 (c .match .keys18) _ refl
-
-returns-19 : tie.Need-returns-19
-returns-19 c = sym (ap (λ (k : Check). k .reason) (unnumbered (c .before .args .number) (c .match .rest .0 .0 .0 .0 .0 .0 .0 .0 .0 .0 .0 .0 .0 .0 .0 .0 .0 .1) (c .match .rest .0 .0 .0 .0 .0 .0 .0 .0 .0 .0 .0 .0 .0 .0 .0 .0 .1) (c .match .rest .0 .0 .0 .0 .0 .0 .0 .0 .0 .0 .0 .0 .0 .0 .0 .1) (c .match .rest .0 .0 .0 .0 .0 .0 .0 .0 .0 .0 .0 .0 .0 .0 .1) (c .match .rest .0 .0 .0 .0 .0 .0 .0 .0 .0 .0 .0 .0 .0 .1) (c .match .rest .0 .0 .0 .0 .0 .0 .0 .0 .0 .0 .0 .0 .1) (c .match .rest .0 .0 .0 .0 .0 .0 .0 .0 .0 .0 .0 .1) (c .match .rest .0 .0 .0 .0 .0 .0 .0 .0 .0 .0 .1) (c .match .rest .0 .0 .0 .0 .0 .0 .0 .0 .0 .1) (c .match .rest .0 .0 .0 .0 .0 .0 .0 .0 .1) (c .match .rest .0 .0 .0 .0 .0 .0 .0 .1) (c .match .rest .0 .0 .0 .0 .0 .0 .1) (c .match .rest .0 .0 .0 .0 .0 .1) (c .match .rest .0 .0 .0 .0 .1) (c .match .rest .0 .0 .0 .1) (c .match .rest .0 .0 .1) (c .match .rest .0 .1) (c .match .rest .1)))
+returns-18 c = sym (ap (λ (k : Check). k .reason) (unnumbered (c .before .args .number) (c .match .rest .0 .0 .0 .0 .0 .0 .0 .0 .0 .0 .0 .0 .0 .0 .0 .0 .1) (c .match .rest .0 .0 .0 .0 .0 .0 .0 .0 .0 .0 .0 .0 .0 .0 .0 .1) (c .match .rest .0 .0 .0 .0 .0 .0 .0 .0 .0 .0 .0 .0 .0 .0 .1) (c .match .rest .0 .0 .0 .0 .0 .0 .0 .0 .0 .0 .0 .0 .0 .1) (c .match .rest .0 .0 .0 .0 .0 .0 .0 .0 .0 .0 .0 .0 .1) (c .match .rest .0 .0 .0 .0 .0 .0 .0 .0 .0 .0 .0 .1) (c .match .rest .0 .0 .0 .0 .0 .0 .0 .0 .0 .0 .1) (c .match .rest .0 .0 .0 .0 .0 .0 .0 .0 .0 .1) (c .match .rest .0 .0 .0 .0 .0 .0 .0 .0 .1) (c .match .rest .0 .0 .0 .0 .0 .0 .0 .1) (c .match .rest .0 .0 .0 .0 .0 .0 .1) (c .match .rest .0 .0 .0 .0 .0 .1) (c .match .rest .0 .0 .0 .0 .1) (c .match .rest .0 .0 .0 .1) (c .match .rest .0 .0 .1) (c .match .rest .0 .1) (c .match .rest .1)))
 
 pub reason-of-spec : {M : Type 1} → statement M
 reason-of-spec =
@@ -102,5 +98,4 @@ reason-of-spec =
     returns-15
     returns-16
     returns-17
-    returns-18
-    returns-19)
+    returns-18)

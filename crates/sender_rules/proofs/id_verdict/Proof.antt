@@ -5,8 +5,8 @@ use Rattle.book.specs.Messages.{idIn}
 use Rattle.book.specs.Checks.{isWhole}
 use Rattle.sender_rules.proofs.Ids.{not-whole, not-stipulated, without, with-one}
 use borrow.Author.Needs.{needs}
-use Rattle.sender_rules.proofs.no_trade_id.Statement.{statement}
-use Rattle.sender_rules.proofs.no_trade_id.Tie as tie
+use Rattle.sender_rules.proofs.id_verdict.Statement.{statement}
+use Rattle.sender_rules.proofs.id_verdict.Tie as tie
 
 is-stipulated-requires : tie.Need-is-stipulated-requires
 is-stipulated-requires c κs = search needs
@@ -30,7 +30,7 @@ returns-3 c =
     with-one _ (isWhole (idIn (c .before .before .before .before .before .before .args .body .now))) (sym (c .before .before .before .before .is-stipulated .ensures) ∙ not-false _ (c .before .before .before .if1 .left))
     (ap isWhole (sym (c .before .before .trade-id-in .ensures) ∙ c .enum-told .given .1))
 
-pub no-trade-id-spec : {M : Type 1} → statement M
-no-trade-id-spec =
+pub id-verdict-spec : {M : Type 1} → statement M
+id-verdict-spec =
     tie.close
     (tie.spec is-stipulated-requires returns trade-id-in-requires enum-told returns-2 returns-3)
