@@ -10,11 +10,14 @@ use borrow.Author.Tests.{eqb-true, not-true}
 use Rattle.lists.specs.Lists.{keep}
 use Rattle.lists.proofs.Tests.{and-left, and-right, keep-append}
 use Rattle.layout.specs.declared.Detail.{Detail}
+use Rattle.layout.specs.Details.{details}
 use Rattle.terminator.specs.Terminators.{digitCanceled, isEnd, isWrong, isBad, one, term, isCanceled}
 use Rattle.terminator.specs.Lots.{Lot, poolsOf, lotsFrom, lots, goesOn, lotsFormed, firstOn, firstCc, formedFor}
 use Rattle.terminator.specs.Groups.{Group, groupsFrom, groups, lotCanceled}
 use Rattle.faces.specs.Faces.{newLots, newPools, isNewLot}
+use Rattle.tally.specs.declared.MessageType.{MessageType}
 use Rattle.book.specs.Records.{fieldsOf, poolOf, recordsOf}
+use Rattle.book.specs.Messages.{typeOf, listedOf, listed}
 use Rattle.book.specs.Checks.{canceledLots}
 use Rattle.book.specs.History.{fieldsOfLots}
 
@@ -115,31 +118,10 @@ length-records id t o (l ∷ ls) =
 pub records-new : (id t o : ℕ) (cc : Bool) (ds : List Detail) → formedFor cc ds ≡ true → length (recordsOf id t o (newLots ds)) ≡ length (newPools ds)
 records-new id t o cc ds f = length-records id t o (newLots ds) ∙ ap length (flat-new cc ds f)
 
--- ---- an ON cancels nothing
-new-is-not-canceled : (n : ℕ) → firstOn n ≡ true → eqb n digitCanceled ≡ false
-new-is-not-canceled n e = rw (eqb-true n 48 e)
-
-none-canceled : (ms ds : List Detail) → lotsFormed firstOn ds ≡ true → keep lotCanceled (lotsFrom ms ds) ≡ []
-none-canceled ms [] f = refl
-none-canceled ms (d ∷ ds) f = go (isEnd (term d)) (none-canceled [] ds below) (none-canceled (ms ++ (d ∷ [])) ds below)
-  where
-    below : lotsFormed firstOn ds ≡ true
-    below = and-right ((firstOn (one d) && not (isWrong (term d))) && goesOn d ds) (lotsFormed firstOn ds) f
-
-    new : isCanceled d ≡ false
-    new = new-is-not-canceled (one d)
-        (and-left (firstOn (one d)) (not (isWrong (term d)))
-        (and-left (firstOn (one d) && not (isWrong (term d))) (goesOn d ds)
-        (and-left ((firstOn (one d) && not (isWrong (term d))) && goesOn d ds) (lotsFormed firstOn ds) f)))
-
-    go : (b : Bool) → keep lotCanceled (lotsFrom [] ds) ≡ [] → keep lotCanceled (lotsFrom (ms ++ (d ∷ [])) ds) ≡ []
-        → keep lotCanceled (cond b (record { middles = ms; last = d } ∷ lotsFrom [] ds) (lotsFrom (ms ++ (d ∷ [])) ds)) ≡ []
-    go true p q = rw new p
-    go false p q = q
-
-pub on-none-canceled : (ds : List Detail) → formedFor false ds ≡ true → canceledLots ds ≡ []
-unfolding formedFor lots
-on-none-canceled ds f = none-canceled [] ds f
+-- ---- the pools that a body of a type lists
+pub listed-as : (body : List ℕ) (k : MessageType) → typeOf body ≡ k → listed body ≡ map fieldsOf (listedOf k (details body))
+unfolding listed
+listed-as body k e = ap (λ (x : MessageType). map fieldsOf (listedOf x (details body))) e
 
 -- ---- groups
 -- the canceled and the replacement lots of some groups, in order
