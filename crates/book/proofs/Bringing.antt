@@ -107,10 +107,10 @@ lots-bring n last hs lots t lt byOn ls di =
     ns = bring (last + 1) byOn 1 (map (due t) ls)
 
     fine : (g : Brought) → (g ∈ hs) ⊎ (g ∈ ns) → Fine (last + 1) n g
-    fine g (inl m) = let w = lots .fine g m in record { id = omega arith; begins = w .begins; trade = w .trade; once = w .once }
+    fine g (inl m) = let w = lots .fine g m in record { id = omega arith; trade = w .trade; once = w .once }
     fine g (inr m) =
         let w = new (last + 1) byOn t 1 ls g m in
-        record { id = omega arith; begins = rw (ne-eqb (g .ordinal) 0 (λ e. omega arith)) (and-false (eqb (g .id) 0)); trade = omega arith; once = omega arith }
+        record { id = omega arith; trade = omega arith; once = omega arith }
 
     far : (g h : Brought) → g ∈ hs → h ∈ ns → Other (g .id) (g .ordinal) h
     far g h m m′ = rw (ne-eqb (h .id) (g .id) (λ e. omega (arith, lots .fine g m .id, new (last + 1) byOn t 1 ls h m′ .id)))

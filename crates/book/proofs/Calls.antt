@@ -9,8 +9,8 @@ use lib.Dec.{eqb, leb, ltb}
 use lib.ListN.{length, getD, set, take, replicate, length-take, List·getD-map}
 use lib.Seq.{take-append-seam, take-set-lt}
 use borrow.Author.Tests.{eq-eqb, eqb-true, leb-true, ltb-true}
-use Rattle.lists.specs.Lists.{any, all, sumOf}
-use Rattle.lists.proofs.Tests.{_∈_, and-left, and-right, both, clash, any-in, sum-same, take-map}
+use Rattle.lists.specs.Lists.{keep, any, all, sumOf}
+use Rattle.lists.proofs.Tests.{_∈_, and-left, and-right, both, clash, implied, any-in, sum-same, take-map}
 use Rattle.layout.specs.Details.{details}
 use Rattle.terminator.specs.Lots.{Lot, poolsOf, lotWeight, lotMillions}
 use Rattle.tally.specs.declared.MessageType.{MessageType}
@@ -19,22 +19,24 @@ use Rattle.book.specs.declared.Trade.{Trade}
 use Rattle.book.specs.declared.Values.{Values}
 use Rattle.book.specs.declared.Pool.{Pool}
 use Rattle.book.specs.Reasons.{isAccepted}
-use Rattle.book.specs.Records.{Fields, fieldsOf, noPool, runSum, weightShare, millionsShare, shareOf, tradeWeight, standingMillions, weightOfRecords}
+use Rattle.book.specs.Records.{Fields, fieldsOf, noPool, LiveLot, liveLots, liveWeight, liveMillions, ofTrade, tradeWeight, standingMillions, weightOfRecords}
 use Rattle.book.specs.Messages.{typeOf, targetOf, listed, brought}
 use Rattle.book.specs.Trades.{tradesOf, broughtWeight}
 use Rattle.book.specs.Opening.{atPar, opened}
 use Rattle.book.specs.Soundness.{liveOf, parsFrom}
-use Rattle.book.specs.Checks.{Call, live, trades, isOther, isCc, isCx, onOrCc, ccOrDk, concernedFor, concerned, tradeAt, noTrade, taken, exactLots, oneLot, canceledLots, lotFields, answerOf}
+use Rattle.book.specs.Checks.{Call, live, trades, isOther, isCc, isCx, onOrCc, ccOrDk, concernedFor, concerned, tradeAt, noTrade, taken, canceledLots, lotFields, answerOf}
 use Rattle.book.specs.Step.{withLeft, tradesMoved, liveMoved, tableMoved, bookAfter, tableAfter}
 use Rattle.book.specs.History.{Brought, History, isTarget, touches, stands, tradeShare, standingWeight, millionsByOns, millionsByDks, atOpening, lotsAfter, feed, takesOffFor, takesOff}
 use Rattle.book.specs.Promise.{State, openedState, Demand3}
+use Rattle.book.proofs.ByRecord.{exactByRecord, oneByRecord}
 use Rattle.book.proofs.Passed.{Fine, fine}
-use Rattle.book.proofs.Reached.{at-par-blind, parsHold}
+use Rattle.book.proofs.Pools.{listed-as}
+use Rattle.book.proofs.Reached.{at-par-blind, parsHold, by-record}
 use Rattle.book.proofs.Targets.{has-in}
-use Rattle.book.proofs.Laid.{flat, value, run-flat, value-share, value-weight, value-millions}
+use Rattle.book.proofs.Laid.{flat, laidLot, trade-flat, laid-weight, laid-millions}
 use Rattle.book.proofs.Taking.{Exact, exact, isListed, standing, first-time, listed-lot}
 use Rattle.book.proofs.Moving.{Beside, Move, same-count, movedTrades, movedRecords, movedLots, move}
-use Rattle.book.proofs.Stepping.{listed-as, on-move, on-lots, dk-move, dk-lots, cc-move, cc-lots}
+use Rattle.book.proofs.Stepping.{on-move, on-lots, dk-move, dk-lots, cc-move, cc-lots}
 
 -- a state in step with the history of the same calls
 abbrev pub InStep : Values → State → History → Type 0
@@ -43,21 +45,18 @@ InStep v s h = Beside v (s .book .values .last) (tradesOf (s .book .values)) (li
 -- ---- an accepted call is a move
 
 -- what 37 says of the listed pools alone
-listed-exact : (c : Call) → ccOrDk (typeOf (c .body)) ≡ true → Fine c → exactLots (targetOf (c .body)) (listed (c .body)) (live c) ≡ true
+listed-exact : (c : Call) → ccOrDk (typeOf (c .body)) ≡ true → Fine c → exactByRecord (targetOf (c .body)) (listed (c .body)) (live c) ≡ true
 listed-exact c e f =
-    and-left (exactLots (targetOf (c .body)) (listed (c .body)) (live c)) (not (isCc (typeOf (c .body))) || all (oneLot (targetOf (c .body)) (live c)) (canceledLots (details (c .body))))
-    (f .listedExact e)
+    and-left (exactByRecord (targetOf (c .body)) (listed (c .body)) (live c)) (not (isCc (typeOf (c .body))) || all (oneByRecord (targetOf (c .body)) (live c)) (canceledLots (details (c .body))))
+    (by-record c e f)
 
 -- and of a CC's 6 lots
-canceled-exact : (c : Call) → typeOf (c .body) ≡ Cc → Fine c → all (oneLot (targetOf (c .body)) (live c)) (canceledLots (details (c .body))) ≡ true
-canceled-exact c e f = go (isCc (typeOf (c .body))) (ap isCc e)
-    (and-right (exactLots (targetOf (c .body)) (listed (c .body)) (live c)) (not (isCc (typeOf (c .body))) || all (oneLot (targetOf (c .body)) (live c)) (canceledLots (details (c .body))))
-    (f .listedExact (ap ccOrDk e)))
-  where
-    go : (b : Bool) → b ≡ true → (not b || all (oneLot (targetOf (c .body)) (live c)) (canceledLots (details (c .body)))) ≡ true
-        → all (oneLot (targetOf (c .body)) (live c)) (canceledLots (details (c .body))) ≡ true
-    go true p q = q
-    go false p q = absurd (false≢true p)
+canceled-exact : (c : Call) → typeOf (c .body) ≡ Cc → Fine c → all (oneByRecord (targetOf (c .body)) (live c)) (canceledLots (details (c .body))) ≡ true
+canceled-exact c e f =
+    implied (isCc (typeOf (c .body))) (all (oneByRecord (targetOf (c .body)) (live c)) (canceledLots (details (c .body))))
+    (and-right (exactByRecord (targetOf (c .body)) (listed (c .body)) (live c)) (not (isCc (typeOf (c .body))) || all (oneByRecord (targetOf (c .body)) (live c)) (canceledLots (details (c .body))))
+    (by-record c (ap ccOrDk e) f))
+    (ap isCc e)
 
 module _ (v : Values) (c : Call) (h : History) (w : Beside v (c .book .values .last) (trades c) (live c) h) where
   -- the flags of a message's lots, its move, and that the history makes the same lots of it
@@ -176,13 +175,12 @@ opened-in-step v table =
 -- ---- what can be read off
 
 -- a trade's sum over the live records is its sum over the standing lots
-standing-sum : (v : Values) (s : State) (h : History) → InStep v s h → (share : Bool → Pool → ℕ) (of : Lot → ℕ) → ((g : Brought) → value share g ≡ of (g .lot)) → (t : ℕ)
-    → runSum (shareOf t share) 0 0 (liveOf (s .book) (s .table)) ≡ sumOf (tradeShare t (standing of)) (h .lots)
-standing-sum v s h w share of k t =
+standing-sum : (v : Values) (s : State) (h : History) → InStep v s h → (value : LiveLot → ℕ) (of : Lot → ℕ) → ((g : Brought) → value (laidLot g) ≡ of (g .lot)) → (t : ℕ)
+    → sumOf value (keep (ofTrade t) (liveLots (liveOf (s .book) (s .table)))) ≡ sumOf (tradeShare t (standing of)) (h .lots)
+standing-sum v s h w value of k t =
     rw (w .table)
-    (run-flat (shareOf t share) stands 0 0 (h .lots) (λ g m. w .lots .fine g m .begins) (w .lots .apart)
-    ∙ sum-same (λ g. cond (stands g) (value (shareOf t share) g) 0) (tradeShare t (standing of)) (h .lots)
-    (λ g m. rw (value-share t share g, k g) (swap (stands g) (eqb (g .trade) t) (of (g .lot)))))
+    (trade-flat value (λ g. of (g .lot)) k t stands (h .lots) (w .lots .apart)
+    ∙ sum-same (λ g. cond (stands g) (cond (eqb (g .trade) t) (of (g .lot)) 0) 0) (tradeShare t (standing of)) (h .lots) (λ g m. swap (stands g) (eqb (g .trade) t) (of (g .lot))))
   where
     swap : (s b : Bool) (x : ℕ) → cond s (cond b x 0) 0 ≡ cond b (cond s x 0) 0
     swap true b x = refl
@@ -191,11 +189,11 @@ standing-sum v s h w share of k t =
 
 standing-millions : (v : Values) (s : State) (h : History) → InStep v s h → (t : ℕ) → standingMillions t (liveOf (s .book) (s .table)) ≡ sumOf (tradeShare t (standing lotMillions)) (h .lots)
 unfolding standingMillions
-standing-millions v s h w t = standing-sum v s h w millionsShare lotMillions value-millions t
+standing-millions v s h w t = standing-sum v s h w liveMillions lotMillions laid-millions t
 
 standing-weight : (v : Values) (s : State) (h : History) → InStep v s h → (t : ℕ) → tradeWeight t (liveOf (s .book) (s .table)) ≡ standingWeight t (h .lots)
 unfolding tradeWeight standingWeight
-standing-weight v s h w t = standing-sum v s h w weightShare lotWeight value-weight t
+standing-weight v s h w t = standing-sum v s h w liveWeight lotWeight laid-weight t
 
 pub in-step-demand : (v : Values) (s : State) (h : History) → InStep v s h → Demand3 v s h
 in-step-demand v s h w =

@@ -250,3 +250,34 @@ pub by-trader : answered second (altered columns.target (digitsOf 11 9) ccBody)
     ∷ Dked reason.Listed ∷ Dked reason.Par ∷ Rejected reason.Target ∷ Accepted 2 ∷ []
 unfolding answerOf checks isSound valuesFine opened cleared values table trade put onBody header detail allBetween within part readNumber businessDate isDate weekdayOf dayNumber soundLine lengthFits poolCount detailAt details arrivalOf typeOf markIn beginsWithMark idAt tradeIdOf terminatorOf positions lots formedFor currentCents lotWeight goodMillions faceFails facesFail goodLotFails lotFails lotsFail listed brought agrees broughtWeight tradeOfOn concerned targetTrade weightOfRecords tradeWeight told tells start ccBody dkBody pasted after bookAfter tableAfter tradesMoved liveMoved tableMoved lineAfter nextOutbound standingMillions groups groupsFormed groupsBalanced replacementCount second dkOdd
 by-trader = refl
+
+-- 37 on a DK: a pool listed twice, and a part of a lot
+pub dk-listed : answered second (dkOdd ++ detail 3 200000 0 0)
+    ∷ answered second (alteredPool 0 columns.poolNumber (digitsOf 7 1) (alteredPool 0 columns.originalFace (digitsOf 9 1000000) dkOdd))
+    ∷ []
+    ≡ Rejected reason.Listed ∷ Rejected reason.Listed ∷ []
+unfolding answerOf checks isSound valuesFine opened cleared values table trade put onBody header detail allBetween within part readNumber businessDate isDate weekdayOf dayNumber soundLine lengthFits poolCount detailAt details arrivalOf typeOf markIn beginsWithMark idAt tradeIdOf terminatorOf positions lots formedFor currentCents lotWeight goodMillions faceFails facesFail goodLotFails lotFails lotsFail listed brought agrees broughtWeight tradeOfOn concerned targetTrade weightOfRecords tradeWeight told tells start ccBody dkBody pasted after bookAfter tableAfter tradesMoved liveMoved tableMoved lineAfter nextOutbound standingMillions groups groupsFormed groupsBalanced replacementCount second dkOdd
+dk-listed = refl
+
+-- 37 on a CC: a 6 lot of other millions than the live lot, and two 6 lots that are each a part of one
+unfoldable pub ccOther : List ℕ
+ccOther = alteredPool 1 columns.terminator (digitsOf 4 6003) (alteredPool 3 columns.terminator (digitsOf 4 7002) (alteredPool 3 columns.currentFace (digitsOf 11 200000000) ccBody))
+
+unfoldable pub ccParts : List ℕ
+ccParts =
+    alteredPool 0 columns.terminator (digitsOf 4 6002)
+    (alteredPool 3 columns.terminator (digitsOf 4 7003) (alteredPool 3 columns.currentFace (digitsOf 11 300000000) ccBody))
+
+pub cc-listed : answered second ccOther ∷ answered second ccParts ∷ [] ≡ Dked reason.Listed ∷ Dked reason.Listed ∷ []
+unfolding answerOf checks isSound valuesFine opened cleared values table trade put onBody header detail allBetween within part readNumber businessDate isDate weekdayOf dayNumber soundLine lengthFits poolCount detailAt details arrivalOf typeOf markIn beginsWithMark idAt tradeIdOf terminatorOf positions lots formedFor currentCents lotWeight goodMillions faceFails facesFail goodLotFails lotFails lotsFail listed brought agrees broughtWeight tradeOfOn concerned targetTrade weightOfRecords tradeWeight told tells start ccBody dkBody pasted after bookAfter tableAfter tradesMoved liveMoved tableMoved lineAfter nextOutbound standingMillions groups groupsFormed groupsBalanced replacementCount second dkOdd ccOther ccParts
+cc-listed = refl
+
+-- 38 beside live pools: an ON to the second trade by its ID, of a cent more than its open par, and of just as much, which 40 then refuses
+unfoldable pub onNamed : ℕ → List ℕ
+onNamed odd =
+    altered columns.sequence (digitsOf 6 2)
+    (altered columns.special (mark ++ (84 ∷ 50 ∷ 61 ∷ [])) (alteredPool 2 columns.currentFace (digitsOf 11 odd) (alteredPool 3 columns.currentFace (digitsOf 11 0) onBody)))
+
+pub open-par : answered second (onNamed 37654401) ∷ answered second (onNamed 37654400) ∷ [] ≡ Dked reason.Par ∷ Rejected reason.TableFull ∷ []
+unfolding answerOf checks isSound valuesFine opened cleared values table trade put onBody header detail allBetween within part readNumber businessDate isDate weekdayOf dayNumber soundLine lengthFits poolCount detailAt details arrivalOf typeOf markIn beginsWithMark idAt tradeIdOf terminatorOf positions lots formedFor currentCents lotWeight goodMillions faceFails facesFail goodLotFails lotFails lotsFail listed brought agrees broughtWeight tradeOfOn concerned targetTrade weightOfRecords tradeWeight told tells start ccBody dkBody pasted after bookAfter tableAfter tradesMoved liveMoved tableMoved lineAfter nextOutbound standingMillions groups groupsFormed groupsBalanced replacementCount second dkOdd onNamed
+open-par = refl

@@ -1,22 +1,22 @@
--- The live table is the standing lots of the history laid out one after another: what appending, filtering and the sums of runs do to that.
-use mathlib.Core.Path.{_≡_, refl, sym, ap}
+-- The live table is the standing lots of the history laid out one after another: what appending, filtering and sums over its lots do to that.
+use mathlib.Core.Path.{_≡_, refl, sym, ap, _∙_}
 use mathlib.Core.Logic.{_⊎_, inl, inr}
 use mathlib.Core.Bool.{Bool, true, false, cond, _&&_}
-use mathlib.Core.List.{List, [], _∷_, _++_, map, append-assoc, List·Memᴰ·head, List·Memᴰ·tail, List·Memᴰ·not-nil, List·Memᴰ·append-cases, Memᴰ·append-left, Memᴰ·append-right}
-use Prim.Native.Nat.{ℕ, _+_}
-use native.Mathlib.Omega.{arith}
+use mathlib.Core.List.{List, [], _∷_, _++_, map, append-assoc, List·Memᴰ·head, List·Memᴰ·tail, List·Memᴰ·not-nil, List·Memᴰ·append-cases, Memᴰ·append-left, Memᴰ·append-right, Memᴰ·of-map}
+use Prim.Native.Nat.{ℕ, _+_, _*_}
 use lib.Dec.{eqb}
 use borrow.Author.Tests.{eq-eqb}
 use Rattle.lists.specs.Lists.{keep, sumOf}
-use Rattle.lists.proofs.Tests.{_∈_, keep-append, sum-zero, cond-zero}
+use Rattle.lists.proofs.Tests.{_∈_, keep-append, keep-in, sum-map, sum-same}
 use Rattle.fields.specs.declared.Field.{Field}
 use Rattle.layout.specs.declared.Detail.{Detail}
 use Rattle.terminator.specs.declared.Kind.{Kind}
 use Rattle.terminator.specs.declared.Kind.the-variants.{Good, Odd, Bad}
-use Rattle.terminator.specs.Lots.{Lot, poolsOf, lotKind, lotMillions, lotWeight, weightOf, currentCents}
+use Rattle.terminator.specs.Lots.{Lot, poolsOf, lotKind, lotMillions, lotWeight, weightOf, currentCents, millionCents}
 use Rattle.book.specs.declared.Pool.{Pool}
-use Rattle.book.specs.Records.{Fields, poolOf, recordsOf, runSum, weightShare, millionsShare, shareOf}
+use Rattle.book.specs.Records.{Fields, poolOf, recordsOf, kindGood, kindNumber, sameLot, LiveLot, livePools, joinLot, liveLots, liveWeight, liveMillions, ofTrade}
 use Rattle.book.specs.History.{Brought, due, bring, stands, takeOff}
+use Rattle.book.proofs.ListLaws.{sum-keep}
 
 -- the record of a pool of a brought lot, and all its records
 abbrev pub recordOf : Brought → Detail → Pool
@@ -73,7 +73,7 @@ flat-in s (h ∷ hs) {r} m = go (s h) refl (List·Memᴰ·append-cases (cond (s 
     go false e (inl n) below = absurd (List·Memᴰ·not-nil n)
     go b e (inr n) below = let w = below n in (w .0, List·Memᴰ·tail (w .1), w .2, w .3)
 
--- ---- sums of runs: a lot counts once as a whole, since no two lots have the same message ID and ordinal
+-- ---- the live lots: a lot's records make up one, since no two lots have the same message ID and ordinal
 
 -- a lot that is not the one of that message ID and ordinal
 abbrev pub Other : ℕ → ℕ → Brought → Type 0
@@ -83,64 +83,90 @@ abbrev pub Apart : List Brought → Type 0
 Apart [] = Unit
 Apart (h ∷ hs) = ((g : Brought) → g ∈ hs → Other (h .id) (h .ordinal) g) × Apart hs
 
--- what some pools of a lot count for, the first of which begins it
-abbrev pub counted : (Bool → Pool → ℕ) → Brought → List Detail → ℕ
-counted share h [] = 0
-counted share h (d ∷ ds) = share true (recordOf h d) + sumOf (λ e. share false (recordOf h e)) ds
+-- the live lot that a brought lot makes up
+abbrev lotFrom : Brought → List Detail → LiveLot
+lotFrom h [] = record { first = recordOf h (h .lot .last); rest = [] }
+lotFrom h (d ∷ ms) = record { first = recordOf h d; rest = map (recordOf h) (ms ++ (h .lot .last ∷ [])) }
 
-abbrev pub value : (Bool → Pool → ℕ) → Brought → ℕ
-value share h = counted share h (poolsOf (h .lot))
+abbrev pub laidLot : Brought → LiveLot
+laidLot h = lotFrom h (h .lot .middles)
 
-run-lot : (share : Bool → Pool → ℕ) (h : Brought) (ds : List Detail) (rest : List Pool)
-    → runSum share (h .id) (h .ordinal) (map (recordOf h) ds ++ rest) ≡ sumOf (λ e. share false (recordOf h e)) ds + runSum share (h .id) (h .ordinal) rest
-run-lot share h [] rest = omega arith
-run-lot share h (d ∷ ds) rest = rw (eq-eqb (h .id) (h .id) refl, eq-eqb (h .ordinal) (h .ordinal) refl) (omega (arith, run-lot share h ds rest))
+pools-from : (h : Brought) (ms : List Detail) → livePools (lotFrom h ms) ≡ map (recordOf h) (ms ++ (h .lot .last ∷ []))
+pools-from h [] = refl
+pools-from h (d ∷ ms) = refl
 
-pub run-flat : (share : Bool → Pool → ℕ) (s : Brought → Bool) (i o : ℕ) (hs : List Brought) → ((h : Brought) → h ∈ hs → Other i o h) → Apart hs
-    → runSum share i o (flat s hs) ≡ sumOf (λ h. cond (s h) (value share h) 0) hs
-run-flat share s i o [] k a = refl
-run-flat share s i o (h ∷ hs) k a =
-    go (s h) (poolsOf (h .lot)) (run-flat share s i o hs (λ g m. k g (List·Memᴰ·tail m)) (a .1)) (run-flat share s (h .id) (h .ordinal) hs (a .0) (a .1))
+-- what its first record says is what all its records say
+first-from : {A : Type 0} (of : Pool → A) (a : A) (h : Brought) → ((d : Detail) → of (recordOf h d) ≡ a) → (ms : List Detail) → of (lotFrom h ms .first) ≡ a
+first-from of a h k [] = k (h .lot .last)
+first-from of a h k (d ∷ ms) = k d
+
+-- a record joins no lot that is not its own
+join-none : (r : Pool) (ls : List LiveLot) → ((l : LiveLot) → l ∈ ls → sameLot (l .first) r ≡ false) → joinLot r ls ≡ record { first = r; rest = [] } ∷ ls
+join-none r [] k = refl
+join-none r (l ∷ ls) k = rw (k l (List·Memᴰ·head refl))
+
+lots-from : (h : Brought) (ms : List Detail) (rest : List Pool) → ((l : LiveLot) → l ∈ liveLots rest → (eqb (l .first .message) (h .id) && eqb (l .first .ordinal) (h .ordinal)) ≡ false)
+    → liveLots (map (recordOf h) (ms ++ (h .lot .last ∷ [])) ++ rest) ≡ lotFrom h ms ∷ liveLots rest
+lots-from h [] rest k = join-none (recordOf h (h .lot .last)) (liveLots rest) k
+lots-from h (d ∷ ms) rest k =
+    ap (joinLot (recordOf h d)) (lots-from h ms rest k)
+    ∙ rw (
+      first-from (λ (r : Pool). r .message) (h .id) h (λ e. refl) ms,
+      first-from (λ (r : Pool). r .ordinal) (h .ordinal) h (λ e. refl) ms,
+      eq-eqb (h .id) (h .id) refl,
+      eq-eqb (h .ordinal) (h .ordinal) refl,
+    )
+    (ap (λ (rs : List Pool). record { first = recordOf h d; rest = rs } ∷ liveLots rest) (pools-from h ms))
+
+-- the live lots of the records laid out
+pub lots-flat : (s : Brought → Bool) (hs : List Brought) → Apart hs → liveLots (flat s hs) ≡ map laidLot (keep s hs)
+lots-flat s [] a = refl
+lots-flat s (h ∷ hs) a = go (s h) (lots-flat s hs (a .1))
   where
-    S : ℕ
-    S = sumOf (λ g. cond (s g) (value share g) 0) hs
+    other : (l : LiveLot) → l ∈ map laidLot (keep s hs) → (eqb (l .first .message) (h .id) && eqb (l .first .ordinal) (h .ordinal)) ≡ false
+    other l m =
+        let (g, mg, eg) = Memᴰ·of-map laidLot (keep s hs) m in
+        rw (
+          ← eg,
+          first-from (λ (r : Pool). r .message) (g .id) g (λ e. refl) (g .lot .middles),
+          first-from (λ (r : Pool). r .ordinal) (g .ordinal) g (λ e. refl) (g .lot .middles),
+        )
+        (a .0 g (keep-in s hs mg .0))
 
-    go : (b : Bool) (ds : List Detail) → runSum share i o (flat s hs) ≡ S → runSum share (h .id) (h .ordinal) (flat s hs) ≡ S
-        → runSum share i o (cond b (map (recordOf h) ds) [] ++ flat s hs) ≡ cond b (counted share h ds) 0 + S
-    go true [] p q = omega arith
-    go true (d ∷ ds) p q = rw (k h (List·Memᴰ·head refl)) (omega (arith, run-lot share h ds (flat s hs)))
-    go false ds p q = omega arith
+    go : (b : Bool) → liveLots (flat s hs) ≡ map laidLot (keep s hs) → liveLots (cond b (laid h) [] ++ flat s hs) ≡ map laidLot (cond b (h ∷ keep s hs) (keep s hs))
+    go true e = lots-from h (h .lot .middles) (flat s hs) (λ l m. other l (rw e at m)) ∙ ap (λ (ls : List LiveLot). laidLot h ∷ ls) e
+    go false e = e
 
--- ---- what a lot counts for: its weight, its millions, and its trade's share of either
+-- sums over them
+pub sum-flat : (value : LiveLot → ℕ) (of : Brought → ℕ) → ((h : Brought) → value (laidLot h) ≡ of h) → (s : Brought → Bool) (hs : List Brought) → Apart hs
+    → sumOf value (liveLots (flat s hs)) ≡ sumOf (λ h. cond (s h) (of h) 0) hs
+sum-flat value of k s hs a =
+    rw (lots-flat s hs a)
+    (sum-map value laidLot (keep s hs) ∙ sum-same (λ h. value (laidLot h)) of (keep s hs) (λ h m. k h) ∙ sum-keep of s hs)
 
-pub value-weight : (h : Brought) → value weightShare h ≡ lotWeight (h .lot)
+pub trade-flat : (value : LiveLot → ℕ) (of : Brought → ℕ) → ((h : Brought) → value (laidLot h) ≡ of h) → (t : ℕ) (s : Brought → Bool) (hs : List Brought) → Apart hs
+    → sumOf value (keep (ofTrade t) (liveLots (flat s hs))) ≡ sumOf (λ h. cond (s h) (cond (eqb (h .trade) t) (of h) 0) 0) hs
+trade-flat value of k t s hs a =
+    sum-keep value (ofTrade t) (liveLots (flat s hs))
+    ∙ sum-flat (λ l. cond (ofTrade t l) (value l) 0) (λ h. cond (eqb (h .trade) t) (of h) 0)
+    (λ h. rw (k h, first-from (λ (r : Pool). r .trade) (h .trade) h (λ e. refl) (h .lot .middles))) s hs a
+
+-- ---- what a lot counts for: its weight and its millions
+
+weight-from : (h : Brought) (ms : List Detail)
+    → liveWeight (lotFrom h ms) ≡ cond (eqb (kindNumber (lotKind (h .lot))) kindGood) (lotMillions (h .lot) * millionCents) (sumOf currentCents (ms ++ (h .lot .last ∷ [])))
+weight-from h [] = refl
+weight-from h (d ∷ ms) = rw (sum-map (λ (r : Pool). r .current) (recordOf h) (ms ++ (h .lot .last ∷ [])))
+
+pub laid-weight : (h : Brought) → liveWeight (laidLot h) ≡ lotWeight (h .lot)
 unfolding lotWeight
-value-weight h = go (lotKind (h .lot)) (h .lot .middles) refl
+laid-weight h = weight-from h (h .lot .middles) ∙ go (lotKind (h .lot))
   where
-    go : (k : Kind) (ms : List Detail) → lotKind (h .lot) ≡ k → counted weightShare h (ms ++ (h .lot .last ∷ [])) ≡ weightOf k (lotMillions (h .lot)) (sumOf currentCents (ms ++ (h .lot .last ∷ [])))
-    go Good [] e = rw e (omega arith)
-    go Good (d ∷ ms) e = rw e (omega (arith, sum-zero (ms ++ (h .lot .last ∷ []))))
-    go Odd [] e = rw e
-    go Odd (d ∷ ms) e = rw e
-    go Bad [] e = rw e
-    go Bad (d ∷ ms) e = rw e
+    go : (k : Kind) → cond (eqb (kindNumber k) kindGood) (lotMillions (h .lot) * millionCents) (sumOf currentCents (poolsOf (h .lot)))
+        ≡ weightOf k (lotMillions (h .lot)) (sumOf currentCents (poolsOf (h .lot)))
+    go Good = refl
+    go Odd = refl
+    go Bad = refl
 
-pub value-millions : (h : Brought) → value millionsShare h ≡ lotMillions (h .lot)
-value-millions h = go (h .lot .middles)
-  where
-    go : (ms : List Detail) → counted millionsShare h (ms ++ (h .lot .last ∷ [])) ≡ lotMillions (h .lot)
-    go [] = omega arith
-    go (d ∷ ms) = omega (arith, sum-zero (ms ++ (h .lot .last ∷ [])))
-
-pub value-share : (t : ℕ) (share : Bool → Pool → ℕ) (h : Brought) → value (shareOf t share) h ≡ cond (eqb (h .trade) t) (value share h) 0
-value-share t share h = go (poolsOf (h .lot))
-  where
-    by : (b : Bool) (d : Detail) (ds : List Detail)
-        → cond b (share true (recordOf h d)) 0 + sumOf (λ e. cond b (share false (recordOf h e)) 0) ds
-        ≡ cond b (share true (recordOf h d) + sumOf (λ e. share false (recordOf h e)) ds) 0
-    by true d ds = refl
-    by false d ds = omega (arith, sum-zero ds)
-
-    go : (ds : List Detail) → counted (shareOf t share) h ds ≡ cond (eqb (h .trade) t) (counted share h ds) 0
-    go [] = sym (cond-zero (eqb (h .trade) t))
-    go (d ∷ ds) = by (eqb (h .trade) t) d ds
+pub laid-millions : (h : Brought) → liveMillions (laidLot h) ≡ lotMillions (h .lot)
+laid-millions h = first-from (λ (r : Pool). r .millions) (lotMillions (h .lot)) h (λ e. refl) (h .lot .middles)

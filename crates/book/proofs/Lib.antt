@@ -2,12 +2,14 @@ pub mod ListLaws
 pub mod Passed
 pub mod Pools
 pub mod Ordered
+pub mod ByRecord
 pub mod Matched
 pub mod Stored
 pub mod Kept
 pub mod Reached
 pub mod Example
 pub mod Targets
+pub mod LiveLots
 pub mod Laid
 pub mod Taking
 pub mod Bringing

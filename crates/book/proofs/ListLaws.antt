@@ -2,12 +2,12 @@
 use Prim.Native.Nat.{ℕ, zero, suc, _+_, _≤_}
 use mathlib.Core.Path.{_≡_, refl, sym, ap, _∙_}
 use mathlib.Core.Logic.{_⊎_, inl, inr}
-use mathlib.Core.List.{List, [], _∷_, _++_, map}
+use mathlib.Core.List.{List, [], _∷_, _++_, map, List·Memᴰ·head, List·Memᴰ·tail}
 use mathlib.Core.Bool.{Bool, true, false, cond, not, _&&_, _||_, false≢true, true≢false}
 use native.Mathlib.Omega.{arith}
 use lib.ListN.{length, replicate}
-use Rattle.lists.specs.Lists.{keep, any, all}
-use Rattle.lists.proofs.Tests.{and-left, and-right, both}
+use Rattle.lists.specs.Lists.{keep, any, all, sumOf}
+use Rattle.lists.proofs.Tests.{_∈_, and-left, and-right, both}
 
 -- ---- tests
 pub or-split : (a b : Bool) → (a || b) ≡ true → (a ≡ true) ⊎ (b ≡ true)
@@ -25,8 +25,26 @@ pub neither-left : (a b : Bool) → (a || b) ≡ false → a ≡ false
 neither-left true b e = e
 neither-left false b e = refl
 
+-- two tests that say the same
+pub alike : (a b : Bool) → (a ≡ true → b ≡ true) → (b ≡ true → a ≡ true) → a ≡ b
+alike true b f g = sym (f refl)
+alike false true f g = g refl
+alike false false f g = refl
+
+pub implies : (a b : Bool) → (a ≡ true → b ≡ true) → (not a || b) ≡ true
+implies true b h = h refl
+implies false b h = refl
+
 -- ---- lists kept by a test
 module _ {A : Type 0} where
+  pub keep-member : (q : A → Bool) {x : A} {xs : List A} → x ∈ xs → q x ≡ true → x ∈ keep q xs
+  keep-member q {x} (List·Memᴰ·head {x = y} {xs = ys} p) e = rw (sym (ap q p) ∙ e) (List·Memᴰ·head p)
+  keep-member q {x} (List·Memᴰ·tail {x = y} {xs = ys} m) e = go (q y) (keep-member q m e)
+    where
+      go : (b : Bool) → x ∈ keep q ys → x ∈ cond b (y ∷ keep q ys) (keep q ys)
+      go true k = List·Memᴰ·tail k
+      go false k = k
+
   pub all-keep : (p q : A → Bool) (xs : List A) → all p xs ≡ true → all p (keep q xs) ≡ true
   all-keep p q [] e = refl
   all-keep p q (x ∷ xs) e = go (q x) (all-keep p q xs (and-right (p x) (all p xs) e))
@@ -34,6 +52,10 @@ module _ {A : Type 0} where
       go : (b : Bool) → all p (keep q xs) ≡ true → all p (cond b (x ∷ keep q xs) (keep q xs)) ≡ true
       go true h = both (p x) (all p (keep q xs)) (and-left (p x) (all p xs) e) h
       go false h = h
+
+  pub all-same : (p q : A → Bool) (xs : List A) → ((x : A) → x ∈ xs → p x ≡ q x) → all p xs ≡ all q xs
+  all-same p q [] h = refl
+  all-same p q (x ∷ xs) h = rw (h x (List·Memᴰ·head refl), all-same p q xs (λ y m. h y (List·Memᴰ·tail m)))
 
   pub all-implied : (p q : A → Bool) → ((x : A) → p x ≡ true → q x ≡ true) → (xs : List A) → all p xs ≡ true → all q xs ≡ true
   all-implied p q h [] e = refl
@@ -46,6 +68,15 @@ module _ {A : Type 0} where
   pub all-replicate : (p : A → Bool) (n : ℕ) (x : A) → p x ≡ true → all p (replicate n x) ≡ true
   all-replicate p zero x e = refl
   all-replicate p (suc n) x e = both (p x) (all p (replicate n x)) e (all-replicate p n x e)
+
+  pub sum-keep : (f : A → ℕ) (q : A → Bool) (xs : List A) → sumOf f (keep q xs) ≡ sumOf (λ (x : A). cond (q x) (f x) 0) xs
+  sum-keep f q [] = refl
+  sum-keep f q (x ∷ xs) = go (q x) (sum-keep f q xs)
+    where
+      go : (b : Bool) → sumOf f (keep q xs) ≡ sumOf (λ (y : A). cond (q y) (f y) 0) xs
+          → sumOf f (cond b (x ∷ keep q xs) (keep q xs)) ≡ cond b (f x) 0 + sumOf (λ (y : A). cond (q y) (f y) 0) xs
+      go true h = omega (arith, h)
+      go false h = omega (arith, h)
 
   pub length-keep : (q : A → Bool) (xs : List A) → length (keep (λ (x : A). not (q x)) xs) + length (keep q xs) ≡ length xs
   length-keep q [] = refl

@@ -16,8 +16,9 @@ use Rattle.book.specs.declared.Pool.{Pool}
 use Rattle.book.specs.Records.{Fields, liveFields, sameFields, hasFields, distinct, poolOf, recordsOf}
 use Rattle.book.specs.Messages.{under}
 use Rattle.book.specs.Soundness.{fieldsOnce}
-use Rattle.book.specs.Checks.{isTaken, allLive}
+use Rattle.book.specs.Checks.{isTaken}
 use Rattle.book.specs.History.{fieldsOfLots}
+use Rattle.book.proofs.ByRecord.{allLive}
 use Rattle.book.proofs.ListLaws.{or-left, or-right, all-keep, all-implied, not-any, keep-some, keep-two, pairwise, pairwise-keep, pairwise-append, pairwise-map}
 use Rattle.book.proofs.Ordered.{isFrom, records-from, isOld}
 
@@ -32,13 +33,13 @@ fields-equal f g e =
 
 -- ---- fields once
 -- whether two records have one message ID and equal fields
-abbrev collides : Pool → Pool → Bool
+abbrev pub collides : Pool → Pool → Bool
 collides r s = eqb (r .message) (s .message) && sameFields (liveFields r) (liveFields s)
 
-abbrev apart : Pool → Pool → Bool
+abbrev pub apart : Pool → Pool → Bool
 apart r s = not (collides r s)
 
-once-apart : (rs : List Pool) → fieldsOnce rs ≡ pairwise apart rs
+pub once-apart : (rs : List Pool) → fieldsOnce rs ≡ pairwise apart rs
 once-apart [] = refl
 once-apart (r ∷ rs) = ap₂ (λ (a b : Bool). a && b) (not-any (collides r) rs) (once-apart rs)
 

@@ -18,7 +18,7 @@ use Rattle.terminator.specs.Lots.{Lot, lotWeight, lotMillions}
 use Rattle.book.specs.declared.Trade.{Trade}
 use Rattle.book.specs.declared.Values.{Values}
 use Rattle.book.specs.declared.Pool.{Pool}
-use Rattle.book.specs.Records.{Fields, distinct, recordsOf, runSum, weightShare, weightOfRecords}
+use Rattle.book.specs.Records.{Fields, distinct, recordsOf, weightOfRecords}
 use Rattle.book.specs.Trades.{tradesOf, openPars}
 use Rattle.book.specs.Opening.{atPar}
 use Rattle.book.specs.Checks.{isTaken, tradeAt, noTrade}
@@ -125,11 +125,11 @@ module _ (v : Values) (ts : List Trade) (h : History) (t : ℕ) (tgt : Field) (f
 
   move-pars : (u : ℕ) → u < length (tradesOf v)
       → tradeAt (movedTrades ts (flat stands (h .lots)) t tgt fs ls) u .left + standingWeight u (movedLots (h .last) (h .lots) t tgt fs ls byOn byDk) ≡ tradeAt (tradesOf v) u .par
-  unfolding standingWeight weightOfRecords
+  unfolding standingWeight
   move-pars u lu = by (ℕ-discrete u t)
     where
       W : ℕ
-      W = runSum weightShare 0 0 (keep (isTaken tgt fs) (flat stands (h .lots)))
+      W = weightOfRecords (keep (isTaken tgt fs) (flat stands (h .lots)))
 
       X : Trade
       X = withLeft (tradeAt ts t) ((tradeAt ts t .left + W) - sumOf lotWeight ls)

@@ -4,17 +4,18 @@ use Prim.Native.Nat.{ℕ, _+_, _≤_, _<_}
 use mathlib.Core.Path.{_≡_, refl, sym, _∙_}
 use mathlib.Core.Logic.{_⊎_, inl, inr}
 use mathlib.Core.List.{List, [], _∷_, _++_, map}
-use mathlib.Core.Bool.{Bool, true, _&&_, _||_}
+use mathlib.Core.Bool.{Bool, true, _&&_, _||_, and-false}
 use native.Mathlib.Omega.{arith}
+use native.Mathlib.Decide.{ℕ-discrete, decLt}
 use lib.Dec.{eqb, leb, ltb}
-use borrow.Author.Tests.{ltb-true, leb-true, eqb-true, lt-ltb, le-leb, eq-eqb}
+use borrow.Author.Tests.{ltb-true, leb-true, eqb-true, lt-ltb, le-ltb, le-leb, lt-leb, eq-eqb, ne-eqb}
 use Rattle.lists.specs.Lists.{keep, all}
-use Rattle.lists.proofs.Tests.{and-left, and-right, both}
+use Rattle.lists.proofs.Tests.{and-left, and-right, both, implied}
 use Rattle.layout.specs.declared.Detail.{Detail}
 use Rattle.terminator.specs.Lots.{Lot, poolsOf}
 use Rattle.book.specs.declared.Pool.{Pool}
-use Rattle.book.specs.Records.{poolOf, recordsOf}
-use Rattle.book.specs.Soundness.{follows, inOrder}
+use Rattle.book.specs.Records.{poolOf, recordsOf, sameLot}
+use Rattle.book.specs.Soundness.{notFalling, agreeOnTrade, agreeOnLot, follows, inOrder}
 use Rattle.book.proofs.ListLaws.{or-split, or-right, all-keep, all-implied, all-both, all-map, pairwise, pairwise-keep, pairwise-append}
 
 -- ---- the test as an order
@@ -40,8 +41,24 @@ lot-follows-is q r e = go (or-split (ltb (q .ordinal) (r .ordinal)) (eqb (q .ord
           eqb-true (q .millions) (r .millions) (and-right (eqb (q .kind) (r .kind)) (eqb (q .millions) (r .millions)) k),
         )
 
+-- the test by cases of the order
+pub follows-cases : (q r : Pool) → follows q r ≡ (ltb (q .message) (r .message) || (eqb (q .message) (r .message) && (eqb (q .trade) (r .trade) && lotFollows q r)))
+follows-cases q r = go (decLt (q .message) (r .message)) (ℕ-discrete (q .message) (r .message)) (decLt (q .ordinal) (r .ordinal)) (ℕ-discrete (q .ordinal) (r .ordinal))
+  where
+    go : Dec (q .message < r .message) → Dec (q .message ≡ r .message) → Dec (q .ordinal < r .ordinal) → Dec (q .ordinal ≡ r .ordinal)
+        → follows q r ≡ (ltb (q .message) (r .message) || (eqb (q .message) (r .message) && (eqb (q .trade) (r .trade) && lotFollows q r)))
+    go (yes a) b d e = rw (lt-ltb (q .message) (r .message) a, ne-eqb (q .message) (r .message) (λ p. omega arith))
+    go (no a) (no b) d e = rw (le-ltb (q .message) (r .message) (omega arith), ne-eqb (q .message) (r .message) b)
+    go (no a) (yes b) (yes d) e =
+        rw (le-ltb (q .message) (r .message) (omega arith), eq-eqb (q .message) (r .message) b, le-leb (q .ordinal) (r .ordinal) (omega arith), ne-eqb (q .ordinal) (r .ordinal) (λ p. omega arith), lt-ltb (q .ordinal) (r .ordinal) d)
+    go (no a) (yes b) (no d) (yes e) =
+        rw (le-ltb (q .message) (r .message) (omega arith), eq-eqb (q .message) (r .message) b, le-leb (q .ordinal) (r .ordinal) (omega arith), eq-eqb (q .ordinal) (r .ordinal) e, le-ltb (q .ordinal) (r .ordinal) (omega arith))
+    go (no a) (yes b) (no d) (no e) =
+        rw (le-ltb (q .message) (r .message) (omega arith), eq-eqb (q .message) (r .message) b, lt-leb (q .ordinal) (r .ordinal) (omega arith), ne-eqb (q .ordinal) (r .ordinal) e, le-ltb (q .ordinal) (r .ordinal) (omega arith))
+        (sym (and-false (eqb (q .trade) (r .trade))))
+
 follows-is : (q r : Pool) → follows q r ≡ true → After q r
-follows-is q r e = go (or-split (ltb (q .message) (r .message)) (eqb (q .message) (r .message) && (eqb (q .trade) (r .trade) && lotFollows q r)) e)
+follows-is q r e = go (or-split (ltb (q .message) (r .message)) (eqb (q .message) (r .message) && (eqb (q .trade) (r .trade) && lotFollows q r)) (sym (follows-cases q r) ∙ e))
   where
     go : (ltb (q .message) (r .message) ≡ true) ⊎ ((eqb (q .message) (r .message) && (eqb (q .trade) (r .trade) && lotFollows q r)) ≡ true) → After q r
     go (inl a) = inl (ltb-true (q .message) (r .message) a)
@@ -61,6 +78,53 @@ follows-message q r e = go (follows-is q r e)
     go (inl a) = omega (arith, a)
     go (inr a) = omega (arith, a .0)
 
+-- within a message no smaller ordinal, and the same trade
+module _ (q r : Pool) (e : follows q r ≡ true) (m : q .message ≡ r .message) where
+  pub follows-ordinal : q .ordinal ≤ r .ordinal
+  follows-ordinal = go (or-split (ltb (q .message) (r .message)) (eqb (q .message) (r .message) && leb (q .ordinal) (r .ordinal)) (and-left (notFalling q r) (agreeOnTrade q r && agreeOnLot q r) e))
+    where
+      go : (ltb (q .message) (r .message) ≡ true) ⊎ ((eqb (q .message) (r .message) && leb (q .ordinal) (r .ordinal)) ≡ true) → q .ordinal ≤ r .ordinal
+      go (inl a) = absurd (omega (arith, ltb-true (q .message) (r .message) a))
+      go (inr a) = leb-true (q .ordinal) (r .ordinal) (and-right (eqb (q .message) (r .message)) (leb (q .ordinal) (r .ordinal)) a)
+
+  pub follows-trade : q .trade ≡ r .trade
+  follows-trade =
+      eqb-true (q .trade) (r .trade)
+      (implied (eqb (q .message) (r .message)) (eqb (q .trade) (r .trade))
+      (and-left (agreeOnTrade q r) (agreeOnLot q r) (and-right (notFalling q r) (agreeOnTrade q r && agreeOnLot q r) e))
+      (eq-eqb (q .message) (r .message) m))
+
+-- ---- records of one lot
+pub lot-parts : (q r : Pool) → sameLot q r ≡ true → (q .message ≡ r .message) × (q .ordinal ≡ r .ordinal)
+lot-parts q r e =
+    (eqb-true (q .message) (r .message) (and-left (eqb (q .message) (r .message)) (eqb (q .ordinal) (r .ordinal)) e), eqb-true (q .ordinal) (r .ordinal) (and-right (eqb (q .message) (r .message)) (eqb (q .ordinal) (r .ordinal)) e))
+
+pub is-lot : (q r : Pool) → q .message ≡ r .message → q .ordinal ≡ r .ordinal → sameLot q r ≡ true
+is-lot q r m o = both (eqb (q .message) (r .message)) (eqb (q .ordinal) (r .ordinal)) (eq-eqb (q .message) (r .message) m) (eq-eqb (q .ordinal) (r .ordinal) o)
+
+pub lot-refl : (r : Pool) → sameLot r r ≡ true
+lot-refl r = is-lot r r refl refl
+
+pub lot-sym : (q r : Pool) → sameLot q r ≡ true → sameLot r q ≡ true
+lot-sym q r e = let p = lot-parts q r e in is-lot r q (sym (p .0)) (sym (p .1))
+
+pub lot-trans : (q r s : Pool) → sameLot q r ≡ true → sameLot r s ≡ true → sameLot q s ≡ true
+lot-trans q r s e f = let p = lot-parts q r e in let o = lot-parts r s f in is-lot q s (p .0 ∙ o .0) (p .1 ∙ o .1)
+
+-- they agree on kind and millions
+pub follows-lot : (q r : Pool) → follows q r ≡ true → sameLot q r ≡ true → (q .kind ≡ r .kind) × (q .millions ≡ r .millions)
+follows-lot q r e s =
+    let k = implied (sameLot q r) (eqb (q .kind) (r .kind) && eqb (q .millions) (r .millions))
+    (and-right (agreeOnTrade q r) (agreeOnLot q r) (and-right (notFalling q r) (agreeOnTrade q r && agreeOnLot q r) e)) s in
+    (eqb-true (q .kind) (r .kind) (and-left (eqb (q .kind) (r .kind)) (eqb (q .millions) (r .millions)) k), eqb-true (q .millions) (r .millions) (and-right (eqb (q .kind) (r .kind)) (eqb (q .millions) (r .millions)) k))
+
+-- what comes between two records of a lot is of that lot
+pub lot-between : (q r s : Pool) → follows q r ≡ true → follows r s ≡ true → sameLot q s ≡ true → sameLot q r ≡ true
+lot-between q r s e f l =
+    let p = lot-parts q s l in
+    let m : q .message ≡ r .message = omega (arith, follows-message q r e, follows-message r s f, p .0) in
+    is-lot q r m (omega (arith, follows-ordinal q r e m, follows-ordinal r s f (sym m ∙ p .0), p .1))
+
 is-lot-follows : (q r : Pool) → LotAfter q r → lotFollows q r ≡ true
 is-lot-follows q r (inl a) = rw (lt-ltb (q .ordinal) (r .ordinal) a)
 is-lot-follows q r (inr (a, b, d)) =
@@ -68,9 +132,10 @@ is-lot-follows q r (inr (a, b, d)) =
     (rw (eq-eqb (q .ordinal) (r .ordinal) a, eq-eqb (q .kind) (r .kind) b, eq-eqb (q .millions) (r .millions) d))
 
 is-follows : (q r : Pool) → After q r → follows q r ≡ true
-is-follows q r (inl a) = rw (lt-ltb (q .message) (r .message) a)
+is-follows q r (inl a) = follows-cases q r ∙ rw (lt-ltb (q .message) (r .message) a)
 is-follows q r (inr (a, b, d)) =
-    or-right (ltb (q .message) (r .message)) (eqb (q .message) (r .message) && (eqb (q .trade) (r .trade) && lotFollows q r))
+    follows-cases q r
+    ∙ or-right (ltb (q .message) (r .message)) (eqb (q .message) (r .message) && (eqb (q .trade) (r .trade) && lotFollows q r))
     (rw (eq-eqb (q .message) (r .message) a, eq-eqb (q .trade) (r .trade) b) (is-lot-follows q r d))
 
 lot-after-trans : (q r s : Pool) → LotAfter q r → LotAfter r s → LotAfter q s
@@ -89,10 +154,10 @@ pub follows-trans : (q r s : Pool) → follows q r ≡ true → follows r s ≡ 
 follows-trans q r s e f = is-follows q s (after-trans q r s (follows-is q r e) (follows-is r s f))
 
 -- ---- each record before all that come later
-abbrev chained : List Pool → Bool
+abbrev pub chained : List Pool → Bool
 chained = pairwise follows
 
-order-chained : (rs : List Pool) → inOrder rs ≡ true → chained rs ≡ true
+pub order-chained : (rs : List Pool) → inOrder rs ≡ true → chained rs ≡ true
 order-chained [] e = refl
 order-chained (q ∷ []) e = refl
 order-chained (q ∷ r ∷ rs) e =
@@ -109,6 +174,9 @@ chained-order (q ∷ r ∷ rs) e =
     both (follows q r) (inOrder (r ∷ rs))
     (and-left (follows q r) (all (follows q) rs) (and-left (all (follows q) (r ∷ rs)) (chained (r ∷ rs)) e))
     (chained-order (r ∷ rs) (and-right (all (follows q) (r ∷ rs)) (chained (r ∷ rs)) e))
+
+pub ordered-keep : (p : Pool → Bool) (rs : List Pool) → inOrder rs ≡ true → inOrder (keep p rs) ≡ true
+ordered-keep p rs e = chained-order (keep p rs) (pairwise-keep follows p rs (order-chained rs e))
 
 -- ---- the records of new lots
 -- a record under a message ID and a trade, with an ordinal from a number on

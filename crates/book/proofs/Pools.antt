@@ -10,11 +10,14 @@ use borrow.Author.Tests.{eqb-true, not-true}
 use Rattle.lists.specs.Lists.{keep}
 use Rattle.lists.proofs.Tests.{and-left, and-right, keep-append}
 use Rattle.layout.specs.declared.Detail.{Detail}
+use Rattle.layout.specs.Details.{details}
 use Rattle.terminator.specs.Terminators.{digitCanceled, isEnd, isWrong, isBad, one, term, isCanceled}
 use Rattle.terminator.specs.Lots.{Lot, poolsOf, lotsFrom, lots, goesOn, lotsFormed, firstOn, firstCc, formedFor}
 use Rattle.terminator.specs.Groups.{Group, groupsFrom, groups, lotCanceled}
 use Rattle.faces.specs.Faces.{newLots, newPools, isNewLot}
+use Rattle.tally.specs.declared.MessageType.{MessageType}
 use Rattle.book.specs.Records.{fieldsOf, poolOf, recordsOf}
+use Rattle.book.specs.Messages.{typeOf, listedOf, listed}
 use Rattle.book.specs.Checks.{canceledLots}
 use Rattle.book.specs.History.{fieldsOfLots}
 
@@ -114,6 +117,11 @@ length-records id t o (l ∷ ls) =
 
 pub records-new : (id t o : ℕ) (cc : Bool) (ds : List Detail) → formedFor cc ds ≡ true → length (recordsOf id t o (newLots ds)) ≡ length (newPools ds)
 records-new id t o cc ds f = length-records id t o (newLots ds) ∙ ap length (flat-new cc ds f)
+
+-- ---- the pools that a body of a type lists
+pub listed-as : (body : List ℕ) (k : MessageType) → typeOf body ≡ k → listed body ≡ map fieldsOf (listedOf k (details body))
+unfolding listed
+listed-as body k e = ap (λ (x : MessageType). map fieldsOf (listedOf x (details body))) e
 
 -- ---- groups
 -- the canceled and the replacement lots of some groups, in order

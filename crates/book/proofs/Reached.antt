@@ -1,7 +1,7 @@
 -- Every state that is reached is sound: opening leaves a sound book, and each fact of soundness outlasts every call, refused or accepted.
 -- That open par is par less the weights is the one fact that is given here; it comes from the history.
 use Prim.Native.Nat.{ℕ, zero, suc, _+_, _-_, _≤_, _<_}
-use mathlib.Core.Path.{_≡_, refl, ap, ap₂, _∙_}
+use mathlib.Core.Path.{_≡_, refl, sym, ap, ap₂, _∙_}
 use mathlib.Core.Logic.{_⊎_, inl, inr}
 use mathlib.Core.List.{List, [], _∷_, _++_, map}
 use mathlib.Core.Bool.{Bool, true, false, cond, not, _&&_}
@@ -31,13 +31,15 @@ use Rattle.book.specs.Messages.{typeOf, targetOf, listedOf, listed, brou
 use Rattle.book.specs.Trades.{tradesOf, tradeName, broughtWeight}
 use Rattle.book.specs.Opening.{recordsMax, elevenDigitsMax, holidaysOf, tradeFine, valuesFine, openingFine, atPar, opened, cleared}
 use Rattle.book.specs.Soundness.{liveOf, recordFine, inOrder, fieldsOnce, isNone, parsFrom, Sound, isSound}
-use Rattle.book.specs.Checks.{Call, live, trades, arrived, concerned, onOrCc, ccOrDk, isCc, isTaken, taken, allLive, wholeLots, exactLots, tradeAt, answerOf}
+use Rattle.book.specs.Checks.{Call, live, trades, arrived, concerned, isOn, onOrCc, ccOrDk, isCc, isTaken, taken, tradeAt, answerOf}
 use Rattle.book.specs.Step.{isSilent, gapAt, lineOf, beforeAa, outboundOf, tradesMoved, liveMoved, tableMoved, accepted, bookAfter, tableAfter}
 use Rattle.book.specs.History.{fieldsOfLots}
 use Rattle.book.specs.Promise.{State, Put, callOf, after, afterAll, openedState}
-use Rattle.book.proofs.ListLaws.{neither-left, all-keep, all-implied, all-both, all-replicate, length-keep}
-use Rattle.book.proofs.Passed.{fine}
+use Rattle.book.proofs.ByRecord.{allLive, wholeLots, exactByRecord, listedByRecord}
+use Rattle.book.proofs.ListLaws.{or-right, neither-left, all-keep, all-implied, all-both, all-replicate, length-keep}
+use Rattle.book.proofs.Passed.{Fine, fine}
 use Rattle.book.proofs.Pools.{lots-formed-fields, records-new}
+use Rattle.book.proofs.LiveLots.{listed-by-record}
 use Rattle.book.proofs.Ordered.{isOld, ordered-after}
 use Rattle.book.proofs.Matched.{once-after, taken-enough}
 use Rattle.book.proofs.Stored.{new-ends, records-fine, record-stays, record-old}
@@ -103,6 +105,12 @@ opened-sound v table e =
     }
 
 -- ---- what an accepted message takes off and brings
+-- 37 record by record
+pub by-record : (c : Call) → ccOrDk (typeOf (c .body)) ≡ true → Fine c → listedByRecord (c .body) (live c) ≡ true
+by-record c e f =
+    let s = is-sound (c .book) (c .table) (f .sound) in
+    sym (listed-by-record (c .body) (live c) (s .ordered) (s .once) (λ t. rw t at (f .formed (or-right (isOn (typeOf (c .body))) (isCc (typeOf (c .body))) t)))) ∙ f .listedExact e
+
 module _ (c : Call) (ok : isAccepted (answerOf c) ≡ true) where
   abbrev ds : List Detail
   ds = details (c .body)
@@ -143,7 +151,7 @@ module _ (c : Call) (ok : isAccepted (answerOf c) ≡ true) where
           let h : length (listed (c .body)) ≡ 0 = ap length e in
           omega arith
       go (inl t) =
-          let exact : exactLots (targetOf (c .body)) (listed (c .body)) (live c) ≡ true = and-left (exactLots (targetOf (c .body)) (listed (c .body)) (live c)) _ (fine c ok .listedExact t) in
+          let exact : exactByRecord (targetOf (c .body)) (listed (c .body)) (live c) ≡ true = and-left (exactByRecord (targetOf (c .body)) (listed (c .body)) (live c)) _ (by-record c t (fine c ok)) in
           let rest : (distinct (listed (c .body)) && wholeLots (targetOf (c .body)) (listed (c .body)) (live c)) ≡ true =
           and-right (allLive (targetOf (c .body)) (listed (c .body)) (live c)) (distinct (listed (c .body)) && wholeLots (targetOf (c .body)) (listed (c .body)) (live c)) exact in
           taken-enough (targetOf (c .body)) (listed (c .body)) (live c)
@@ -324,7 +332,7 @@ accepted-sound c ok s p =
       pars = p;
     }
 
--- soundness outlasts every call that is refused, and every other where the open pars do
+-- soundness outlasts every call after which the open pars hold
 pub kept : (c : Call) → Sound (c .book) (c .table) → parsFrom 0 (tradesOf (bookAfter c .values)) (liveOf (bookAfter c) (tableAfter c)) ≡ true
     → Sound (bookAfter c) (tableAfter c)
 unfolding bookAfter tableAfter

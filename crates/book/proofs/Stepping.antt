@@ -24,12 +24,13 @@ use Rattle.book.specs.declared.Trade.{Trade}
 use Rattle.book.specs.declared.Values.{Values}
 use Rattle.book.specs.declared.Pool.{Pool}
 use Rattle.book.specs.Records.{fieldsOf, distinct, weightOfRecords}
-use Rattle.book.specs.Messages.{typeOf, idIn, targetOf, under, listedOf, listed, broughtBy, brought}
+use Rattle.book.specs.Messages.{typeOf, idIn, targetOf, under, listed, broughtBy, brought}
 use Rattle.book.specs.Trades.{tradesOf, sideOf, agrees, firstTrade, mayTake, tradeOfOn, openPars}
 use Rattle.book.specs.Opening.{atPar}
-use Rattle.book.specs.Checks.{targetTrade, tradeAt, isTaken, exactLots, oneLot, canceledLots}
+use Rattle.book.specs.Checks.{targetTrade, tradeAt, isTaken, canceledLots}
 use Rattle.book.specs.History.{Brought, History, isTarget, touches, takeOff, tradeShare, stands, due, fieldsOfLots, dueByGroups, lotsAfter}
-use Rattle.book.proofs.Pools.{lots-formed-fields, canceled-fields, groups-canceled, groups-new}
+use Rattle.book.proofs.ByRecord.{exactByRecord, oneByRecord}
+use Rattle.book.proofs.Pools.{listed-as, lots-formed-fields, canceled-fields, groups-canceled, groups-new}
 use Rattle.book.proofs.Taking.{Exact, exact, isListed, touches-target, gone, gone-there, gone-elsewhere, target-trade, target-range}
 use Rattle.book.proofs.Moving.{Beside, Move, same-count, same-opens, movedLots}
 use Rattle.book.proofs.Substituting.{gone-canceled, due-there, groups-even}
@@ -80,10 +81,6 @@ same-trade body os ts us e =
 
 -- ---- what a body of a type lists and brings
 
-pub listed-as : (body : List ℕ) (k : MessageType) → typeOf body ≡ k → listed body ≡ map fieldsOf (listedOf k (details body))
-unfolding listed
-listed-as body k e = ap (λ (x : MessageType). map fieldsOf (listedOf x (details body))) e
-
 brought-as : (body : List ℕ) (k : MessageType) → typeOf body ≡ k → brought body ≡ broughtBy k (details body)
 unfolding brought
 brought-as body k e = ap (λ (x : MessageType). broughtBy x (details body)) e
@@ -111,7 +108,7 @@ module _ (v : Values) (last : ℕ) (ts : List Trade) (rs : List Pool) (h : Histo
       rw (same-opens v last ts rs h w, same-trade body (openPars ts) (tradesOf v) ts (sym (w .terms)), listed-as body On e, take-none (targetOf body) (h .lots))
 
   -- a CC or DK: its lots are of the target's trade
-  module _ (un : any (under (targetOf body)) rs ≡ true) (ex : exactLots (targetOf body) (listed body) rs ≡ true) where
+  module _ (un : any (under (targetOf body)) rs ≡ true) (ex : exactByRecord (targetOf body) (listed body) rs ≡ true) where
     target-there : (g : Brought) → g ∈ h .lots → isTarget (targetOf body) (g .id) ≡ true → g .trade ≡ targetTrade body rs
     unfolding targetTrade
     target-there = rw (w .table) (target-trade (length (tradesOf v)) (h .last) (targetOf body) (h .lots) (w .lots) (rw (w .table) at un))
@@ -144,7 +141,7 @@ module _ (v : Values) (last : ℕ) (ts : List Trade) (rs : List Pool) (h : Histo
       listed-canceled : listed body ≡ fieldsOfLots (canceledLots (details body))
       listed-canceled = listed-as body Cc e ∙ sym (canceled-fields cc (details body) fo)
 
-      cc-gone : groupsBalanced (details body) ≡ true → all (oneLot (targetOf body) rs) (canceledLots (details body)) ≡ true
+      cc-gone : groupsBalanced (details body) ≡ true → all (oneByRecord (targetOf body) rs) (canceledLots (details body)) ≡ true
           → sumOf (gone (targetOf body) (listed body) lotMillions) (h .lots) ≡ sumOf lotMillions (brought body)
       unfolding groupsBalanced
       cc-gone ba on =
@@ -156,7 +153,7 @@ module _ (v : Values) (last : ℕ) (ts : List Trade) (rs : List Pool) (h : Histo
           ∙ ap (sumOf lotMillions) (groups-new (details body) ∙ sym (brought-as body Cc e))
 
       pub cc-move : distinct (map fieldsOf (newPools (details body))) ≡ true → groupsBalanced (details body) ≡ true
-          → all (oneLot (targetOf body) rs) (canceledLots (details body)) ≡ true
+          → all (oneByRecord (targetOf body) rs) (canceledLots (details body)) ≡ true
           → sumOf lotWeight (brought body) ≤ tradeAt ts (targetTrade body rs) .left + weightOfRecords (keep (isTaken (targetOf body) (listed body)) rs)
           → Move ts rs (h .lots) (targetTrade body rs) (targetOf body) (listed body) (brought body) false false
       cc-move di ba on le =

@@ -15,32 +15,23 @@ use Rattle.layout.specs.declared.Detail.{Detail}
 use Rattle.terminator.specs.Lots.{Lot, poolsOf, lotKind, lotMillions}
 use Rattle.terminator.specs.Groups.{Group, groupFormed, groupBalanced}
 use Rattle.book.specs.declared.Pool.{Pool}
-use Rattle.book.specs.Records.{Fields, fieldsOf, liveFields, sameFields, hasFields, distinct, kindNumber, runSum, millionsShare}
+use Rattle.book.specs.Records.{Fields, fieldsOf, liveFields, sameFields, hasFields, distinct, kindNumber, joinLot, liveLots, liveMillions}
 use Rattle.book.specs.Messages.{under}
-use Rattle.book.specs.Checks.{isTaken, allLive, wholeLots, firstOrdinal, lotFields, oneLot}
+use Rattle.book.specs.Checks.{isTaken, lotFields}
 use Rattle.book.specs.History.{Brought, isTarget, touches, stands, due, tradeOfFirst, fieldsOfLots, dueByGroups}
+use Rattle.book.proofs.ByRecord.{allLive, wholeLots, firstOrdinal, oneByRecord}
 use Rattle.book.proofs.Pools.{canceledOf, replacementOf}
-use Rattle.book.proofs.Targets.{has-in, has-out, distinct-right, distinct-cross, fieldsOfLots-append, under-is, target-one}
-use Rattle.book.proofs.Laid.{recordOf, flat, in-flat, value, run-flat, value-millions}
-use Rattle.book.proofs.Taking.{Lots, isListed, touches-target, touches-pool, from-live, listed-lot, gone, taken-flat, whole-or-none}
+use Rattle.book.proofs.Targets.{has-in, has-out, last-fields, distinct-right, distinct-cross, fieldsOfLots-append, under-is, target-one}
+use Rattle.book.proofs.Laid.{recordOf, flat, in-flat, sum-flat, laid-millions}
+use Rattle.book.proofs.Taking.{Lots, isListed, touches-target, touches-pool, listed-lot, gone, taken-flat, whole-or-none}
 
--- ---- the records of one lot: only the first counts its millions
-
-run-rest : (i o : ℕ) (rs : List Pool) → ((r : Pool) → r ∈ rs → (r .message ≡ i) × (r .ordinal ≡ o)) → runSum millionsShare i o rs ≡ 0
-run-rest i o [] k = refl
-run-rest i o (r ∷ rs) k =
-    let p = k r (List·Memᴰ·head refl) in
-    rw (p .0, p .1, eq-eqb i i refl, eq-eqb o o refl) (omega (arith, run-rest i o rs (λ s m. k s (List·Memᴰ·tail m))))
-
-run-one : (m : ℕ) (r : Pool) (rs : List Pool) → (eqb (r .message) 0 && eqb (r .ordinal) 0) ≡ false
-    → ((s : Pool) → s ∈ (r ∷ rs) → (s .message ≡ r .message) × (s .ordinal ≡ r .ordinal) × (s .millions ≡ m)) → runSum millionsShare 0 0 (r ∷ rs) ≡ m
-run-one m r rs d k =
-    rw d
-    (omega (
-      arith,
-      k r (List·Memᴰ·head refl) .2,
-      run-rest (r .message) (r .ordinal) rs (λ s n. let q = k s (List·Memᴰ·tail n) in (q .0, q .1)),
-    ))
+-- records of one message ID and ordinal are one live lot
+one-live : (r : Pool) (rs : List Pool) → ((s : Pool) → s ∈ rs → (s .message ≡ r .message) × (s .ordinal ≡ r .ordinal)) → liveLots (r ∷ rs) ≡ record { first = r; rest = rs } ∷ []
+one-live r [] k = refl
+one-live r (s ∷ rs) k =
+    let p = k s (List·Memᴰ·head refl) in
+    ap (joinLot r) (one-live s rs (λ u m. let q = k u (List·Memᴰ·tail m) in (q .0 ∙ sym (p .0), q .1 ∙ sym (p .1))))
+    ∙ rw (eq-eqb (s .message) (r .message) (p .0), eq-eqb (s .ordinal) (r .ordinal) (p .1))
 
 -- ---- touched by the fields of two lots
 touches-append : (tgt : Field) (fs gs : List Fields) (h : Brought) → touches tgt (fs ++ gs) h ≡ (touches tgt fs h || touches tgt gs h)
@@ -55,22 +46,9 @@ touches-append tgt fs gs h =
     go true b c = refl
     go false b c = refl
 
-last-in : (xs : List Detail) (d : Detail) → d ∈ (xs ++ (d ∷ []))
-last-in xs d = Memᴰ·append-right xs (List·Memᴰ·head refl)
-
--- every lot has a pool
-last-fields : (l : Lot) → fieldsOf (l .last) ∈ lotFields l
-last-fields l = Memᴰ·map fieldsOf (last-in (l .middles) (l .last))
-
 module _ (n last : ℕ) (tgt : Field) (hs : List Brought) (lots : Lots n last hs) where
-  -- no live record has message ID and ordinal 0
-  begins : (r : Pool) → r ∈ flat stands hs → (eqb (r .message) 0 && eqb (r .ordinal) 0) ≡ false
-  begins r m =
-      let (h, mh, sh, (d, md, ed)) = from-live hs r m in
-      rw (← ed) (lots .fine h mh .begins)
-
   -- the lots that a 6 lot takes off have its millions
-  gone-one : (l : Lot) → any (isTaken tgt (lotFields l)) (flat stands hs) ≡ true → oneLot tgt (flat stands hs) l ≡ true → sumOf (gone tgt (lotFields l) lotMillions) hs ≡ lotMillions l
+  gone-one : (l : Lot) → any (isTaken tgt (lotFields l)) (flat stands hs) ≡ true → oneByRecord tgt (flat stands hs) l ≡ true → sumOf (gone tgt (lotFields l) lotMillions) hs ≡ lotMillions l
   gone-one l some one = go (keep-first q F some)
     where
       F : List Pool
@@ -96,21 +74,18 @@ module _ (n last : ℕ) (tgt : Field) (hs : List Brought) (lots : Lots n last hs
       at : (r : Pool) → q r ≡ true → isTarget tgt (r .message) ≡ true
       at r e = sym (under-is tgt r) ∙ and-left (under tgt r) (hasFields (liveFields r) (lotFields l)) e
 
-      run-is : runSum millionsShare 0 0 (keep q F) ≡ sumOf (gone tgt (lotFields l) lotMillions) hs
-      run-is =
-          rw (taken-flat tgt (lotFields l) hs whole)
-          (run-flat millionsShare (λ h. stands h && touches tgt (lotFields l) h) 0 0 hs (λ h m. lots .fine h m .begins) (lots .apart)
-          ∙ sum-same (λ h. cond (stands h && touches tgt (lotFields l) h) (value millionsShare h) 0) (gone tgt (lotFields l) lotMillions) hs (λ h m. rw (value-millions h)))
+      sum-is : sumOf liveMillions (liveLots (keep q F)) ≡ sumOf (gone tgt (lotFields l) lotMillions) hs
+      sum-is = rw (taken-flat tgt (lotFields l) hs whole) (sum-flat liveMillions (λ h. lotMillions (h .lot)) laid-millions (λ h. stands h && touches tgt (lotFields l) h) hs (lots .apart))
 
       go : (r : Pool) × (r ∈ F) × (q r ≡ true) × ((rs : List Pool) × (keep q F ≡ r ∷ rs)) → sumOf (gone tgt (lotFields l) lotMillions) hs ≡ lotMillions l
       go (r, mr, er, (rs, k)) =
-          sym run-is
-          ∙ ap (runSum millionsShare 0 0) k
-          ∙ run-one (lotMillions l) r rs (begins r mr)
+          let alone : liveLots (keep q F) ≡ record { first = r; rest = rs } ∷ [] =
+          ap liveLots k
+          ∙ one-live r rs
           (λ s ms.
-          let mk : s ∈ keep q F = rw k ms in
-          let w = each s mk in
-          (target-one tgt (s .message) (r .message) (at s (keep-in q F mk .1)) (at r er), w .0 ∙ ap firstOrdinal k, w .1))
+          let mk : s ∈ keep q F = rw k (List·Memᴰ·tail ms) in
+          (target-one tgt (s .message) (r .message) (at s (keep-in q F mk .1)) (at r er), each s mk .0 ∙ ap firstOrdinal k)) in
+          sym sum-is ∙ ap (sumOf liveMillions) alone ∙ omega (arith, each r (rw k (List·Memᴰ·head refl)) .1)
 
   -- a standing lot that one 6 lot takes whole is touched by no other
   apart-lots : (fs gs : List Fields) → wholeLots tgt fs (flat stands hs) ≡ true → distinct (fs ++ gs) ≡ true → (h : Brought) → h ∈ hs → stands h ≡ true
@@ -147,19 +122,19 @@ module _ (n last : ℕ) (tgt : Field) (hs : List Brought) (lots : Lots n last hs
       any-in (touches tgt gs) mh (both (isTarget tgt (h .id)) (any (isListed gs) (poolsOf (h .lot))) th (any-in (isListed gs) md (rw ed (has-in k))))
 
   -- all 6 lots together
-  pub gone-canceled : (ls : List Lot) → allLive tgt (fieldsOfLots ls) (flat stands hs) ≡ true → distinct (fieldsOfLots ls) ≡ true → all (oneLot tgt (flat stands hs)) ls ≡ true
+  pub gone-canceled : (ls : List Lot) → allLive tgt (fieldsOfLots ls) (flat stands hs) ≡ true → distinct (fieldsOfLots ls) ≡ true → all (oneByRecord tgt (flat stands hs)) ls ≡ true
       → sumOf (gone tgt (fieldsOfLots ls) lotMillions) hs ≡ sumOf lotMillions ls
   gone-canceled [] li di on =
       sum-same (gone tgt [] lotMillions) (λ h. 0) hs
       (λ h m. rw (any-none (isListed []) (poolsOf (h .lot)) (λ d. refl), and-false (isTarget tgt (h .id)), and-false (stands h)))
       ∙ sum-zero hs
   gone-canceled (l ∷ ls) li di on =
-      gone-add (lotFields l) (fieldsOfLots ls) (and-left (wholeLots tgt (lotFields l) (flat stands hs)) _ (and-left (oneLot tgt (flat stands hs) l) (all (oneLot tgt (flat stands hs)) ls) on)) di
+      gone-add (lotFields l) (fieldsOfLots ls) (and-left (wholeLots tgt (lotFields l) (flat stands hs)) _ (and-left (oneByRecord tgt (flat stands hs) l) (all (oneByRecord tgt (flat stands hs)) ls) on)) di
       ∙ rw (
         gone-one l (some-taken (fieldsOfLots (l ∷ ls)) li (lotFields l) (fieldsOf (l .last)) (Memᴰ·append-left (fieldsOfLots ls) (last-fields l)) (last-fields l))
-            (and-left (oneLot tgt (flat stands hs) l) (all (oneLot tgt (flat stands hs)) ls) on),
+            (and-left (oneByRecord tgt (flat stands hs) l) (all (oneByRecord tgt (flat stands hs)) ls) on),
         gone-canceled ls (all-right _ (lotFields l) (fieldsOfLots ls) li) (distinct-right (lotFields l) (fieldsOfLots ls) di)
-            (and-right (oneLot tgt (flat stands hs) l) (all (oneLot tgt (flat stands hs)) ls) on),
+            (and-right (oneByRecord tgt (flat stands hs) l) (all (oneByRecord tgt (flat stands hs)) ls) on),
       )
 
   -- every group's new lots go to the target's trade

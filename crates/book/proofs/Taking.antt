@@ -15,20 +15,20 @@ use Rattle.fields.specs.declared.Field.{Field}
 use Rattle.layout.specs.declared.Detail.{Detail}
 use Rattle.terminator.specs.Lots.{Lot, poolsOf, lotWeight}
 use Rattle.book.specs.declared.Pool.{Pool}
-use Rattle.book.specs.Records.{Fields, fieldsOf, liveFields, sameFields, hasFields, distinct, sameLot, runSum, weightShare}
+use Rattle.book.specs.Records.{Fields, fieldsOf, liveFields, sameFields, hasFields, distinct, sameLot, liveWeight, weightOfRecords}
 use Rattle.book.specs.Messages.{under}
-use Rattle.book.specs.Checks.{isTaken, allLive, wholeLots, exactLots, firstUnder, lotFields}
+use Rattle.book.specs.Checks.{isTaken, firstUnder, lotFields}
 use Rattle.book.specs.History.{Brought, isTarget, touches, once, takeOff, stands, tradeShare}
+use Rattle.book.proofs.ByRecord.{allLive, wholeLots, exactByRecord}
 use Rattle.book.proofs.Matched.{fields-equal}
 use Rattle.book.proofs.Targets.{under-is, target-one}
-use Rattle.book.proofs.Laid.{recordOf, laid, flat, flat-same, flat-takeOff, flat-keep, in-flat, flat-in, Other, Apart, value, run-flat, value-weight}
+use Rattle.book.proofs.Laid.{recordOf, laid, flat, flat-same, flat-takeOff, flat-keep, in-flat, flat-in, Apart, sum-flat, laid-weight}
 
 -- ---- what holds of the history's lots: each by itself, and any two under one ID
 
--- an ID already given, not the ordinal 0, a trade that is opened, taken off once at most
+-- an ID already given, a trade that is opened, taken off once at most
 pub record Fine (last n : ℕ) (g : Brought) : Type 0 where
   pub id : g .id ≤ last
-  pub begins : Other 0 0 g
   pub trade : g .trade < n
   pub once : g .offs ≤ 1
 
@@ -48,7 +48,7 @@ pub record Exact (tgt : Field) (fs : List Fields) (rs : List Pool) : Type 0 wher
   pub distinct : distinct fs ≡ true
   pub whole : wholeLots tgt fs rs ≡ true
 
-pub exact : (tgt : Field) (fs : List Fields) (rs : List Pool) → exactLots tgt fs rs ≡ true → Exact tgt fs rs
+pub exact : (tgt : Field) (fs : List Fields) (rs : List Pool) → exactByRecord tgt fs rs ≡ true → Exact tgt fs rs
 exact tgt fs rs e =
     let f = and-right (allLive tgt fs rs) (distinct fs && wholeLots tgt fs rs) e in
     record {
@@ -167,7 +167,7 @@ module _ (tgt : Field) (fs : List Fields) (hs : List Brought) where
       fine g m =
           let (a, ma, ea) = Memᴰ·of-map (takeOff byDk tgt fs) hs m in
           let w = lots .fine a ma in
-          rw (← ea) (record { id = w .id; begins = w .begins; trade = w .trade; once = once-more a ma (touches tgt fs a) refl })
+          rw (← ea) (record { id = w .id; trade = w .trade; once = once-more a ma (touches tgt fs a) refl })
 
       far : (gs : List Brought) → Apart gs → Apart (map (takeOff byDk tgt fs) gs)
       far [] a = tt
@@ -197,10 +197,10 @@ module _ (tgt : Field) (fs : List Fields) (hs : List Brought) where
 
   -- the table's sum over what is taken is the history's over what is gone
   pub gone-weight : (n last : ℕ) → Lots n last hs → wholeLots tgt fs (flat stands hs) ≡ true
-      → runSum weightShare 0 0 (keep (isTaken tgt fs) (flat stands hs)) ≡ sumOf (gone tgt fs lotWeight) hs
+      → weightOfRecords (keep (isTaken tgt fs) (flat stands hs)) ≡ sumOf (gone tgt fs lotWeight) hs
+  unfolding weightOfRecords
   gone-weight n last lots w =
-      rw (taken-flat w) (run-flat weightShare (λ h. stands h && touches tgt fs h) 0 0 hs (λ h m. lots .fine h m .begins) (lots .apart)
-      ∙ sum-same (λ h. cond (stands h && touches tgt fs h) (value weightShare h) 0) (gone tgt fs lotWeight) hs (λ h m. rw (value-weight h)))
+      rw (taken-flat w) (sum-flat liveWeight (λ h. lotWeight (h .lot)) laid-weight (λ h. stands h && touches tgt fs h) hs (lots .apart))
 
   -- all of it is of one trade
   pub gone-there : (v : Lot → ℕ) (t : ℕ) → ((g : Brought) → g ∈ hs → touches tgt fs g ≡ true → g .trade ≡ t)

@@ -1,19 +1,20 @@
 -- Matched fields and targets: the tests decide equality, so a pool that is listed once is one pool, and a target names one message.
-use mathlib.Core.Path.{_≡_, refl, sym, _∙_}
+use mathlib.Core.Path.{_≡_, refl, sym, ap, _∙_}
 use mathlib.Core.Logic.{_⊎_, inl, inr}
 use mathlib.Core.Bool.{true, not, false≢true}
-use mathlib.Core.List.{List, [], _∷_, _++_, append-assoc, List·Memᴰ·head, List·Memᴰ·tail, List·Memᴰ·not-nil, List·Memᴰ·cases-cons, Memᴰ·append-left, Memᴰ·append-right, Memᴰ·cast}
+use mathlib.Core.List.{List, [], _∷_, _++_, append-assoc, List·Memᴰ·head, List·Memᴰ·tail, List·Memᴰ·not-nil, List·Memᴰ·cases-cons, Memᴰ·append-left, Memᴰ·append-right, Memᴰ·map, Memᴰ·cast}
 use Prim.Native.Nat.{ℕ}
 use borrow.Author.Tests.{eqb-true, not-true}
-use Rattle.lists.proofs.Tests.{_∈_, and-left, and-right, clash, any-in, any-out, same-refl}
+use Rattle.lists.proofs.Tests.{_∈_, and-left, and-right, both, clash, any-in, any-out, any-append, same-refl}
 use Rattle.fields.specs.declared.Field.{Field}
 use Rattle.fields.specs.declared.Field.the-variants.{Number, NotDigits}
 use Rattle.terminator.specs.Lots.{Lot}
 use Rattle.book.specs.declared.Pool.{Pool}
-use Rattle.book.specs.Records.{Fields, sameFields, hasFields, distinct}
+use Rattle.book.specs.Records.{Fields, fieldsOf, sameFields, hasFields, distinct}
 use Rattle.book.specs.Messages.{under}
 use Rattle.book.specs.Checks.{lotFields}
 use Rattle.book.specs.History.{isTarget, fieldsOfLots}
+use Rattle.book.proofs.ListLaws.{neither-left}
 use Rattle.book.proofs.Matched.{fields-equal}
 
 -- ---- matched fields
@@ -42,7 +43,23 @@ distinct-cross {f} (x ∷ xs) ys d m n =
     go (inl e) below = clash (rw e at (has-in (Memᴰ·append-right xs n))) (not-true (hasFields x (xs ++ ys)) (and-left (not (hasFields x (xs ++ ys))) (distinct (xs ++ ys)) d))
     go (inr m′) below = below m′
 
+pub distinct-left : (xs ys : List Fields) → distinct (xs ++ ys) ≡ true → distinct xs ≡ true
+distinct-left [] ys d = refl
+distinct-left (x ∷ xs) ys d =
+    both (not (hasFields x xs)) (distinct xs)
+    (ap not (neither-left (hasFields x xs) (hasFields x ys) (sym (any-append (sameFields x) xs ys) ∙ not-true (hasFields x (xs ++ ys)) (and-left (not (hasFields x (xs ++ ys))) (distinct (xs ++ ys)) d))))
+    (distinct-left xs ys (and-right (not (hasFields x (xs ++ ys))) (distinct (xs ++ ys)) d))
+
 -- ---- the fields of lots
+
+-- every lot has a pool
+pub last-fields : (l : Lot) → fieldsOf (l .last) ∈ lotFields l
+last-fields l = Memᴰ·map fieldsOf (Memᴰ·append-right (l .middles) (List·Memᴰ·head refl))
+
+-- the fields of one of them are once where those of all are
+pub distinct-lot : {l : Lot} {ls : List Lot} → l ∈ ls → distinct (fieldsOfLots ls) ≡ true → distinct (lotFields l) ≡ true
+distinct-lot {l} (List·Memᴰ·head {x = x} {xs = ls} e) d = rw e (distinct-left (lotFields x) (fieldsOfLots ls) d)
+distinct-lot (List·Memᴰ·tail {x = x} {xs = ls} m) d = distinct-lot m (distinct-right (lotFields x) (fieldsOfLots ls) d)
 
 pub in-fieldsOfLots : {f : Fields} {l : Lot} {ls : List Lot} → l ∈ ls → f ∈ lotFields l → f ∈ fieldsOfLots ls
 in-fieldsOfLots {f} {l} (List·Memᴰ·head {x = x} {xs = ls} e) m = Memᴰ·append-left {s = lotFields x} (fieldsOfLots ls) (rw e at m)
@@ -61,3 +78,10 @@ under-is NotDigits r = refl
 pub target-one : (tgt : Field) (i j : ℕ) → isTarget tgt i ≡ true → isTarget tgt j ≡ true → i ≡ j
 target-one (Number n) i j p q = eqb-true i n p ∙ sym (eqb-true j n q)
 target-one NotDigits i j p q = absurd (false≢true p)
+
+-- the records under a target have one message ID
+pub under-one : (tgt : Field) (q r : Pool) → under tgt q ≡ true → under tgt r ≡ true → q .message ≡ r .message
+under-one tgt q r a b = target-one tgt (q .message) (r .message) (sym (under-is tgt q) ∙ a) (sym (under-is tgt r) ∙ b)
+
+pub under-message : (tgt : Field) (q r : Pool) → under tgt q ≡ true → q .message ≡ r .message → under tgt r ≡ true
+under-message tgt q r a e = under-is tgt r ∙ rw e at (sym (under-is tgt q) ∙ a)

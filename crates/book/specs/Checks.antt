@@ -1,6 +1,6 @@
 -- The checks of a frame call in their order (01, "Who causes which number"), the first that fails, and the answer that follows from it.
 use Prim.Native.Nat.{ℕ, _+_}
-use mathlib.Core.List.{List, [], _∷_, map}
+use mathlib.Core.List.{List, [], _∷_, _++_, map}
 use mathlib.Core.Bool.{Bool, true, false, cond, not, _&&_, _||_}
 use lib.ListN.{length, getD}
 use lib.Dec.{eqb, leb, ltb}
@@ -39,7 +39,7 @@ use Rattle.book.specs.declared.Verdict.the-variants.{Passes, Fails}
 use Rattle.book.specs.declared.Answer.{Answer}
 use Rattle.book.specs.declared.Answer.the-variants.{Accepted, Rejected, Dked}
 use Rattle.book.specs.Reasons.{numberOf}
-use Rattle.book.specs.Records.{Fields, fieldsOf, liveFields, sameFields, hasFields, distinct, kindNumber, sameLot, weightOfRecords}
+use Rattle.book.specs.Records.{Fields, fieldsOf, liveFields, hasFields, distinct, kindNumber, LiveLot, livePools, liveLots, weightOfRecords}
 use Rattle.book.specs.Messages.{typeOf, ftba, fsti, isStipulated, idIn, targetOf, under, listed}
 use Rattle.book.specs.Trades.{tradesOf, agrees, isNamedBy, firstTrade, broughtWeight, tradeOfOn, openPars}
 use Rattle.book.specs.Opening.{holidaysOf, elevenDigitsMax}
@@ -312,30 +312,41 @@ isTaken tgt fs r = under tgt r && hasFields (liveFields r) fs
 abbrev pub taken : Call → List Pool
 taken c = keep (isTaken (targetOf (c .body)) (listed (c .body))) (live c)
 
--- 37: each listed pool is live under the target, none is listed twice, and a lot of which a pool is listed is listed whole
-abbrev pub allLive : Field → List Fields → List Pool → Bool
-allLive tgt fs rs = all (λ (f : Fields). any (λ (r : Pool). under tgt r && sameFields (liveFields r) f) rs) fs
+-- the target's live lots
+abbrev pub targetLots : Field → List Pool → List LiveLot
+targetLots tgt rs = liveLots (keep (under tgt) rs)
 
-abbrev pub wholeLots : Field → List Fields → List Pool → Bool
-wholeLots tgt fs rs =
-    all (λ (r : Pool). not (isTaken tgt fs r) || all (λ (s : Pool). not (sameLot r s) || isTaken tgt fs s) rs) rs
+-- the matched fields of a live lot's pools, and of several lots'
+abbrev pub liveLotFields : LiveLot → List Fields
+liveLotFields l = map liveFields (livePools l)
 
+abbrev pub fieldsOfLive : List LiveLot → List Fields
+fieldsOfLive [] = []
+fieldsOfLive (l ∷ ls) = liveLotFields l ++ fieldsOfLive ls
+
+-- whether some fields are just the others, each once, in any order
+abbrev pub eachOnce : List Fields → List Fields → Bool
+eachOnce fs gs = distinct fs && (all (λ (f : Fields). hasFields f gs) fs && all (λ (g : Fields). hasFields g fs) gs)
+
+-- a live lot of which some pool is listed
+abbrev pub isListedIn : List Fields → LiveLot → Bool
+isListedIn fs l = any (λ (g : Fields). hasFields g fs) (liveLotFields l)
+
+-- 37: the listed pools are exactly some live lots of the target, each pool once, in any order: the lots of which a pool is listed
 abbrev pub exactLots : Field → List Fields → List Pool → Bool
-exactLots tgt fs rs = allLive tgt fs rs && (distinct fs && wholeLots tgt fs rs)
+exactLots tgt fs rs = eachOnce fs (fieldsOfLive (keep (isListedIn fs) (targetLots tgt rs)))
 
--- 37 of a CC: a 6 lot is one whole live lot of the same kind and millions
-abbrev pub firstOrdinal : List Pool → ℕ
-firstOrdinal [] = 0
-firstOrdinal (r ∷ rs) = r .ordinal
-
+-- 37 of a CC: a 6 lot is one live lot of the target, of the same kind and millions
 abbrev pub lotFields : Lot → List Fields
 lotFields l = map fieldsOf (poolsOf l)
 
+abbrev pub isLot : Lot → LiveLot → Bool
+isLot l live =
+    eachOnce (lotFields l) (liveLotFields live)
+    && (eqb (live .first .kind) (kindNumber (lotKind l)) && eqb (live .first .millions) (lotMillions l))
+
 abbrev pub oneLot : Field → List Pool → Lot → Bool
-oneLot tgt rs l =
-    wholeLots tgt (lotFields l) rs
-    && all (λ (r : Pool). eqb (r .ordinal) (firstOrdinal (keep (isTaken tgt (lotFields l)) rs)) && (eqb (r .kind) (kindNumber (lotKind l)) && eqb (r .millions) (lotMillions l)))
-    (keep (isTaken tgt (lotFields l)) rs)
+oneLot tgt rs l = any (isLot l) (targetLots tgt rs)
 
 abbrev pub canceledLots : List Detail → List Lot
 canceledLots ds = keep lotCanceled (lots ds)

@@ -4,7 +4,7 @@ use mathlib.Core.List.{List, [], _∷_, _++_, map}
 use mathlib.Core.Bool.{Bool, true, cond, not, _&&_}
 use lib.ListN.{replicate}
 use lib.Dec.{eqb}
-use Rattle.lists.specs.Lists.{same, any}
+use Rattle.lists.specs.Lists.{same, keep, any, sumOf}
 use Rattle.layout.specs.declared.Detail.{Detail}
 use Rattle.layout.specs.Columns.{lotId, poolNumber, originalFace}
 use Rattle.terminator.specs.declared.Kind.{Kind}
@@ -90,31 +90,45 @@ noPool =
 abbrev pub sameLot : Pool → Pool → Bool
 sameLot r s = eqb (r .message) (s .message) && eqb (r .ordinal) (s .ordinal)
 
--- a sum over records, each with whether it begins a lot: message and ordinal differ from those of the record before it
-abbrev pub runSum : (Bool → Pool → ℕ) → ℕ → ℕ → List Pool → ℕ
-runSum share message ordinal [] = 0
-runSum share message ordinal (r ∷ rs) =
-    share (not (eqb (r .message) message && eqb (r .ordinal) ordinal)) r + runSum share (r .message) (r .ordinal) rs
+-- a live lot: its first record and those after it
+pub record LiveLot : Type 0 where
+  pub first : Pool
+  pub rest : List Pool
 
--- a record's share of its lot's weight: a good lot's millions once, else its own face
-abbrev pub weightShare : Bool → Pool → ℕ
-weightShare begins r = cond (eqb (r .kind) kindGood) (cond begins (r .millions * millionCents) 0) (r .current)
+abbrev pub livePools : LiveLot → List Pool
+livePools l = l .first ∷ l .rest
 
--- a record's share of its lot's millions: each lot once
-abbrev pub millionsShare : Bool → Pool → ℕ
-millionsShare begins r = cond begins (r .millions) 0
+-- a record before some lots: it joins the first of them, or is a lot by itself
+abbrev pub joinLot : Pool → List LiveLot → List LiveLot
+joinLot r [] = record { first = r; rest = [] } ∷ []
+joinLot r (l ∷ ls) = cond (sameLot (l .first) r) (record { first = r; rest = livePools l } ∷ ls) (record { first = r; rest = [] } ∷ (l ∷ ls))
 
--- a trade's share
-abbrev pub shareOf : ℕ → (Bool → Pool → ℕ) → Bool → Pool → ℕ
-shareOf t share begins r = cond (eqb (r .trade) t) (share begins r) 0
+-- the live lots of some records: those next to each other with one message ID and ordinal
+abbrev pub liveLots : List Pool → List LiveLot
+liveLots [] = []
+liveLots (r ∷ rs) = joinLot r (liveLots rs)
 
--- what the lots of some records weigh, and those of one trade (no message ID and no ordinal is 0, so the first record begins a lot)
+-- weight of a live lot: good, its millions times 100,000,000 cents; odd or bad, the sum of its current faces (a lot's records agree on kind and millions)
+abbrev pub goodWeight : ℕ → ℕ
+goodWeight millions = millions * millionCents
+
+abbrev pub liveWeight : LiveLot → ℕ
+liveWeight l = cond (eqb (l .first .kind) kindGood) (goodWeight (l .first .millions)) (sumOf (λ (r : Pool). r .current) (livePools l))
+
+abbrev pub liveMillions : LiveLot → ℕ
+liveMillions l = l .first .millions
+
+-- whether it is a trade's (a message's records agree on trade)
+abbrev pub ofTrade : ℕ → LiveLot → Bool
+ofTrade t l = eqb (l .first .trade) t
+
+-- what the lots of some records weigh, and those of one trade
 unfoldable pub weightOfRecords : List Pool → ℕ
-weightOfRecords rs = runSum weightShare 0 0 rs
+weightOfRecords rs = sumOf liveWeight (liveLots rs)
 
 unfoldable pub tradeWeight : ℕ → List Pool → ℕ
-tradeWeight t rs = runSum (shareOf t weightShare) 0 0 rs
+tradeWeight t rs = sumOf liveWeight (keep (ofTrade t) (liveLots rs))
 
--- a trade's standing millions
+-- a trade's standing millions: the lot millions of its live lots, each lot once
 unfoldable pub standingMillions : ℕ → List Pool → ℕ
-standingMillions t rs = runSum (shareOf t millionsShare) 0 0 rs
+standingMillions t rs = sumOf liveMillions (keep (ofTrade t) (liveLots rs))

@@ -12,7 +12,7 @@ use Rattle.book.specs.declared.Trade.{Trade}
 use Rattle.book.specs.declared.Values.{Values}
 use Rattle.book.specs.declared.Book.{Book}
 use Rattle.book.specs.declared.Pool.{Pool}
-use Rattle.book.specs.Records.{liveFields, sameFields, kindGood, kindOdd, kindBad, tradeWeight, noPool}
+use Rattle.book.specs.Records.{liveFields, sameFields, kindGood, kindOdd, kindBad, sameLot, tradeWeight, noPool}
 use Rattle.book.specs.Trades.{tradesOf}
 use Rattle.book.specs.Opening.{valuesFine, recordsMax, elevenDigitsMax}
 
@@ -30,13 +30,21 @@ recordFine v r =
     ltb (r .trade) (v .count)
     && (between 1 (v .last) (r .message) && (leb 1 (r .ordinal) && (leb (r .current) elevenDigitsMax && kindFine r)))
 
--- a record after another: message ID, then ordinal, does not fall; a message's records agree on trade, a lot's on kind and millions
+-- message ID, then ordinal, does not fall
+abbrev pub notFalling : Pool → Pool → Bool
+notFalling q r = ltb (q .message) (r .message) || (eqb (q .message) (r .message) && leb (q .ordinal) (r .ordinal))
+
+-- records of one message agree on trade
+abbrev pub agreeOnTrade : Pool → Pool → Bool
+agreeOnTrade q r = not (eqb (q .message) (r .message)) || eqb (q .trade) (r .trade)
+
+-- records of one lot agree on kind and millions
+abbrev pub agreeOnLot : Pool → Pool → Bool
+agreeOnLot q r = not (sameLot q r) || (eqb (q .kind) (r .kind) && eqb (q .millions) (r .millions))
+
+-- a record after another
 abbrev pub follows : Pool → Pool → Bool
-follows q r =
-    ltb (q .message) (r .message)
-    || (eqb (q .message) (r .message) && (eqb (q .trade) (r .trade)
-    && (ltb (q .ordinal) (r .ordinal)
-    || (eqb (q .ordinal) (r .ordinal) && (eqb (q .kind) (r .kind) && eqb (q .millions) (r .millions))))))
+follows q r = notFalling q r && (agreeOnTrade q r && agreeOnLot q r)
 
 abbrev pub inOrder : List Pool → Bool
 inOrder [] = true

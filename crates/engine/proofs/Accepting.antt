@@ -34,6 +34,7 @@ use Rattle.book.specs.Soundness.{recordFine, isNone, Sound}
 use Rattle.book.specs.Checks.{arrived, onOrCc, ccOrDk, isCx, isOther, noTrade, tradeAt, targetTrade, firstUnder, concerned, concernedFor, isTaken, taken, firstFailing, answerOf}
 use Rattle.book.specs.Step.{isSilent, withLeft, outputFor, tradesMoved, liveMoved, tableMoved, bookAfter, tableAfter, outputAfter}
 use Rattle.book.proofs.ListLaws.{all-keep}
+use Rattle.book.proofs.Ordered.{ordered-keep}
 use Rattle.book.proofs.Kept.{last-within}
 use Rattle.book.proofs.Passed.{Fine, fine}
 use Rattle.book.proofs.Reached.{is-sound, moved-fits}
@@ -163,7 +164,7 @@ module _ (b : Book) (ns ks : List (List ℕ)) (body : List ℕ) (room : ℕ) (d 
 
   weight-few : weightOfRecords (taken (callOn b ns ks body room)) ≤ recordsMax * elevenDigitsMax
   weight-few =
-      let w = weight-most (b .values) (taken (callOn b ns ks body room)) (all-keep (recordFine (b .values)) (isTaken (targetOf body) (listed body)) (take (b .live) (tableOf ns ks)) (sure .records)) in
+      let w = weight-most (b .values) (taken (callOn b ns ks body room)) (ordered-keep (isTaken (targetOf body) (listed body)) (take (b .live) (tableOf ns ks)) (sure .ordered)) (all-keep (recordFine (b .values)) (isTaken (targetOf body) (listed body)) (take (b .live) (tableOf ns ks)) (sure .records)) in
       let m : length (taken (callOn b ns ks body room)) ≤ length (take (b .live) (tableOf ns ks)) = keep-most _ (take (b .live) (tableOf ns ks)) in
       omega (arith, w, m, size, within, few)
 

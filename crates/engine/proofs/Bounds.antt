@@ -9,24 +9,25 @@ use lib.Dec.{eqb, leb}
 use borrow.Author.Tests.{eqb-true, leb-true}
 use Rattle.lists.specs.Lists.{same, all, between}
 use Rattle.lists.proofs.Tests.{and-left, and-right, same-equal}
-use Rattle.terminator.specs.Lots.{millionCents}
 use Rattle.calendar.specs.Calendar.{businessDate}
 use Rattle.book.specs.declared.Trade.{Trade}
 use Rattle.book.specs.declared.Values.{Values}
 use Rattle.book.specs.declared.Pool.{Pool}
-use Rattle.book.specs.Records.{kindGood, runSum, weightShare, tradeWeight, noPool, weightOfRecords}
+use Rattle.book.specs.Records.{kindGood, goodWeight, tradeWeight, noPool, weightOfRecords}
 use Rattle.book.specs.Opening.{elevenDigitsMax, priceMax, idFine, accountFine, tradeFine}
 use Rattle.book.specs.Messages.{ftba, fsti}
 use Rattle.fields.specs.Fields.{allVisible}
-use Rattle.book.specs.Soundness.{recordFine, isNone, parsFrom}
+use Rattle.book.specs.Soundness.{recordFine, inOrder, isNone, parsFrom}
 use Rattle.book.specs.Checks.{tradeAt}
+use Rattle.table.specs.Runs.{runSum, weightShare}
+use Rattle.table.proofs.Runs.{weight-runs}
 use Rattle.soundness.proofs.Whole.{record-light}
 
 -- a record's share is at most eleven digits
 share-most : (v : Values) (begins : Bool) (r : Pool) → recordFine v r ≡ true → weightShare begins r ≤ elevenDigitsMax
 share-most v begins r e = go (eqb (r .kind) kindGood) begins
   where
-    go : (g b : Bool) → cond g (cond b (r .millions * millionCents) 0) (r .current) ≤ elevenDigitsMax
+    go : (g b : Bool) → cond g (cond b (goodWeight (r .millions)) 0) (r .current) ≤ elevenDigitsMax
     go true true = omega (arith, record-light v r e .2)
     go true false = omega arith
     go false b = record-light v r e .1
@@ -38,9 +39,8 @@ sum-most v m o (r ∷ rs) e =
     let b = sum-most v (r .message) (r .ordinal) rs (and-right (recordFine v r) (all (recordFine v) rs) e) in
     omega (arith, a, b)
 
-pub weight-most : (v : Values) (rs : List Pool) → all (recordFine v) rs ≡ true → weightOfRecords rs ≤ length rs * elevenDigitsMax
-unfolding weightOfRecords
-weight-most v rs e = sum-most v 0 0 rs e
+pub weight-most : (v : Values) (rs : List Pool) → inOrder rs ≡ true → all (recordFine v) rs ≡ true → weightOfRecords rs ≤ length rs * elevenDigitsMax
+weight-most v rs o e = omega (arith, weight-runs v rs o e, sum-most v 0 0 rs e)
 
 -- a trade's par has eleven digits, and its open par is no more
 par-most : (holidays : List ℕ) (t : Trade) → tradeFine holidays t ≡ true → t .par ≤ elevenDigitsMax

@@ -10,14 +10,15 @@ use lib.Dec.{eqb, leb, ltb}
 use borrow.Author.Tests.{lt-ltb, le-ltb, leb-true, not-true, not-false}
 use Rattle.lists.proofs.Tests.{and-left, and-right}
 use Rattle.book.specs.declared.Book.{Book}
-use Rattle.book.specs.Records.{standingMillions}
 use Rattle.book.specs.Trades.{tradesOf}
 use Rattle.book.specs.Opening.{tradesMax, recordsMax}
 use Rattle.book.specs.Checks.{noTrade}
 use Rattle.book.specs.Soundness.{isSound, Sound}
 use Rattle.book.proofs.Reached.{is-sound}
 use Rattle.table.specs.Rows.{tableOf}
+use Rattle.table.specs.Runs.{runSum, millionsShare, shareOf}
 use Rattle.table.proofs.Rows.{length-table}
+use Rattle.table.proofs.Runs.{standing-runs}
 use Rattle.soundness.specs.Parts.{Light}
 use Rattle.soundness.proofs.Whole.{and-fails, few-trades, light}
 use Rattle.figures.specs.Saying.{unknown, figuresOf}
@@ -65,8 +66,8 @@ module _ (b : Book) (ns ks : List (List ℕ)) (trade : ℕ) (sound : Bool) (is :
       unfolding figuresOf
       not-opened h = rw (paired, passes, size, le-ltb trade (b .values .count) h)
 
-      pub said : trade < b .values .count → (millions : ℕ) → ((js : List (List ℕ)) → millions ≡ standingMillions trade (take (b .live) (tableOf ns js)))
+      pub said : trade < b .values .count → (millions : ℕ) → ((js : List (List ℕ)) → millions ≡ runSum (shareOf trade millionsShare) 0 0 (take (b .live) (tableOf ns js)))
           → Answer (record { known = true; left = getD (b .values .trades) trade noTrade .left; millions = millions })
       unfolding figuresOf
       said h millions e =
-          rw (paired, passes, size, lt-ltb trade (b .values .count) h, e ks, getD-take (b .values .count) (b .values .trades) trade noTrade h)
+          rw (paired, passes, size, lt-ltb trade (b .values .count) h, e ks ∙ standing-runs (b .values) (take (b .live) (tableOf ns ks)) (facts .ordered) (facts .records) trade, getD-take (b .values .count) (b .values .trades) trade noTrade h)

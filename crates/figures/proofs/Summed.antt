@@ -10,8 +10,8 @@ use borrow.Author.Tests.{eq-eqb, ne-eqb}
 use Rattle.lists.specs.Lists.{tab}
 use Rattle.lists.proofs.Tables.{tab-turn, tab-end, tab-all}
 use Rattle.book.specs.declared.Pool.{Pool}
-use Rattle.book.specs.Records.{runSum, millionsShare, shareOf, standingMillions}
 use Rattle.table.specs.Rows.{numberAt, keyAt, recordAt, tableOf}
+use Rattle.table.specs.Runs.{runSum, millionsShare, shareOf}
 use Rattle.table.proofs.Rows.{take-table}
 use Rattle.soundness.specs.Parts.{recordOf}
 
@@ -34,7 +34,7 @@ module _ (t : ℕ) (begins : Bool) (row : List ℕ) where
       go true false = omega arith
       go false b = omega arith
 
--- ---- the loop: the sum, with what is left from i on, is the trade's standing millions
+-- ---- the loop: the sum, with what is left from i on, is the whole
 module _ (ns : List (List ℕ)) (live t : ℕ) where
   abbrev pub Summed : ℕ → ℕ → ℕ → ℕ → Type 0
   Summed sum message ordinal i = (ks : List (List ℕ))
@@ -44,8 +44,7 @@ module _ (ns : List (List ℕ)) (live t : ℕ) where
   summed-none ks = omega (arith, ap (runSum (shareOf t millionsShare) 0 0) (tab-all (recordAt ns ks) live))
 
   module _ (sum message ordinal i : ℕ) (inv : Summed sum message ordinal i) where
-    pub summed-done : live ≤ i → live ≤ length ns → (ks : List (List ℕ)) → sum ≡ standingMillions t (take live (tableOf ns ks))
-    unfolding standingMillions
+    pub summed-done : live ≤ i → live ≤ length ns → (ks : List (List ℕ)) → sum ≡ runSum (shareOf t millionsShare) 0 0 (take live (tableOf ns ks))
     summed-done h l ks =
         rw (take-table ns ks live l) (omega (arith, inv ks, ap (runSum (shareOf t millionsShare) message ordinal) (tab-end (recordAt ns ks) live i h)))
 

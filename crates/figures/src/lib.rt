@@ -5,9 +5,9 @@ ghost use mathlib.Core.List.{List};
 ghost use Prim.Native.Nat.{ℕ, _≤_};
 ghost use lib.ListN.{length, take};
 ghost use lib.Dec.{eqb};
-ghost use Rattle.book.specs.Records.{millionsShare, shareOf, standingMillions};
 ghost use Rattle.book.specs.Opening.{recordsMax};
 ghost use Rattle.table.specs.Rows.{tableOf};
+ghost use Rattle.table.specs.Runs.{runSum, millionsShare, shareOf};
 ghost use Rattle.soundness.specs.Parts.{recordOf, Light};
 ghost use Rattle.figures.specs.Saying.{figuresOf};
 
@@ -34,7 +34,7 @@ fn share(row: [u64; 6], trade: u64, begins: bool) -> u64
 // The lot millions of a trade's live lots, each lot once.
 fn standing(numbers: &[[u64; 6]], live: usize, trade: u64) -> u64
     requires { ⌜ (live ≤ length (now numbers)) × (live ≤ recordsMax) × Light (now numbers) live ⌝ }
-    ensures { λ r. ⌜ ((ks : List (List ℕ)) → r ≡ standingMillions trade (take live (tableOf (now (numbers .entry)) ks))) ⌝ }
+    ensures { λ r. ⌜ ((ks : List (List ℕ)) → r ≡ runSum (shareOf trade millionsShare) 0 0 (take live (tableOf (now (numbers .entry)) ks))) ⌝ }
 {
     let mut sum: u64 = 0;
     let mut message: u64 = 0;

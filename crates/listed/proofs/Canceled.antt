@@ -18,12 +18,13 @@ use Rattle.book.specs.Records.{Fields, fieldsOf, kindNumber, distinct}
 use Rattle.book.specs.Messages.{under}
 use Rattle.book.specs.Opening.{recordsMax}
 use Rattle.book.specs.Soundness.{inOrder, fieldsOnce}
-use Rattle.book.specs.Checks.{isTaken, wholeLots, firstOrdinal, lotFields, oneLot, canceledLots}
+use Rattle.book.specs.Checks.{isTaken, lotFields, canceledLots}
+use Rattle.book.proofs.ByRecord.{wholeLots, firstOrdinal, oneByRecord}
 use Rattle.book.proofs.Pools.{flatPools, flat-canceled}
+use Rattle.book.proofs.ListLaws.{alike, keep-member}
 use Rattle.listed.specs.declared.Listed.{Listed}
 use Rattle.listed.specs.Marks.{Entry, entriesFrom, markAll, unmarked}
 use Rattle.listed.specs.Lots.{ordinalIn, lastFits}
-use Rattle.listed.proofs.Indexed.{alike}
 use Rattle.listed.proofs.Taken.{fieldsAt, Within, Closed, whole-closed, closed-whole, map-from}
 use Rattle.listed.proofs.Marking.{markAt}
 use Rattle.listed.proofs.Numbered.{numbered, rowsIn, rows-numbered, rows-out, rows-in}
@@ -32,7 +33,7 @@ use Rattle.listed.proofs.Exact.{marks-fine, marks-taken, marks-closed, 
 use Rattle.listed.proofs.Formed.{canceled-alike, canceled-pools}
 use Rattle.listed.proofs.Grouped.{lotRows, entries-rows, entries-cc}
 use Rattle.listed.proofs.Likeness.{oneOrdinal, lotAlike, ordinal-out, ordinal-in}
-use Rattle.listed.proofs.OneLot.{keep-member, Agreed, agree-out, agree-in}
+use Rattle.listed.proofs.OneLot.{Agreed, agree-out, agree-in}
 use Rattle.listed.proofs.Whole.{Stands, fields-are, rows-stand}
 
 in-flat : {d : Detail} {l : Lot} {ls : List Lot} → l ∈ ls → d ∈ poolsOf l → d ∈ flatPools ls
@@ -93,9 +94,9 @@ module _ (tgt : Field) (f : ℕ → Pool) (n : ℕ) (order : inOrder (tab f n 0)
     its-fields = fields-are tgt f n order once row (poolsOf l) its-stand
 
   module _ (numbers : Detail → List ℕ) (are : Numbers f row numbers) where
-    -- oneLot, by the fields that it is asked of
-    abbrev oneLotBy : Lot → List Fields → Bool
-    oneLotBy l fs =
+    -- oneByRecord, by the fields that it is asked of
+    abbrev oneByFields : Lot → List Fields → Bool
+    oneByFields l fs =
         wholeLots tgt fs (tab f n 0)
         && all (λ (r : Pool). eqb (r .ordinal) (firstOrdinal (keep (isTaken tgt fs) (tab f n 0))) && (eqb (r .kind) (kindNumber (lotKind l)) && eqb (r .millions) (lotMillions l)))
         (keep (isTaken tgt fs) (tab f n 0))
@@ -150,18 +151,18 @@ module _ (tgt : Field) (f : ℕ → Pool) (n : ℕ) (order : inOrder (tab f n 0)
             let (g, a, b) = rows-out gs i (rw rows-are k) in
             rw rows-are at (rows-in gs g j a (closed-of e g a i j h b s)))
 
-        one-of : even ≡ true → all (lotAlike numbers) (lots ds) ≡ true → (l : Lot) → l ∈ canceledLots ds → oneLot tgt (tab f n 0) l ≡ true
+        one-of : even ≡ true → all (lotAlike numbers) (lots ds) ≡ true → (l : Lot) → l ∈ canceledLots ds → oneByRecord tgt (tab f n 0) l ≡ true
         one-of e a l k =
             let (m, c) = keep-in lotCanceled (lots ds) k in
-            ap (oneLotBy l) (sym (its-fields l m c))
+            ap (oneByFields l) (sym (its-fields l m c))
             ∙ both (wholeLots tgt (map (fieldsAt tgt f n order once) (map row (poolsOf l))) (tab f n 0)) _
             (closed-whole tgt f n order once (map row (poolsOf l)) (its-within l m c) (closed-of e (map row (poolsOf l)) (its-group l m c)))
             (agree-in tgt f n order once row l (its-within l m c) (alike-agreed l m c (all-out (lotAlike numbers) m a)))
 
-        one-by : all (oneLot tgt (tab f n 0)) (canceledLots ds) ≡ true → (l : Lot) → l ∈ lots ds → lotCanceled l ≡ true → oneLotBy l (map (fieldsAt tgt f n order once) (map row (poolsOf l))) ≡ true
-        one-by a l m c = ap (oneLotBy l) (its-fields l m c) ∙ all-out (oneLot tgt (tab f n 0)) (keep-member lotCanceled m c) a
+        one-by : all (oneByRecord tgt (tab f n 0)) (canceledLots ds) ≡ true → (l : Lot) → l ∈ lots ds → lotCanceled l ≡ true → oneByFields l (map (fieldsAt tgt f n order once) (map row (poolsOf l))) ≡ true
+        one-by a l m c = ap (oneByFields l) (its-fields l m c) ∙ all-out (oneByRecord tgt (tab f n 0)) (keep-member lotCanceled m c) a
 
-        even-of : all (oneLot tgt (tab f n 0)) (canceledLots ds) ≡ true → even ≡ true
+        even-of : all (oneByRecord tgt (tab f n 0)) (canceledLots ds) ≡ true → even ≡ true
         even-of a = in′ (rw marks-are (closed-marks tgt f n order once small gs within fine-there start stop inside bound closed))
           where
             closed : (g : List ℕ) → g ∈ gs → Closed tgt f n order once g
@@ -175,7 +176,7 @@ module _ (tgt : Field) (f : ℕ → Pool) (n : ℕ) (order : inOrder (tab f n 0)
                     let z : g ≡ [] = e ∙ ap (map row) (canceled-pools true ds formed l m ∙ ap (λ (b : Bool). cond b (poolsOf l) []) c) in
                     absurd (List·Memᴰ·not-nil (rw z at q))
 
-        alike-of : all (oneLot tgt (tab f n 0)) (canceledLots ds) ≡ true → (l : Lot) → l ∈ lots ds → lotAlike numbers l ≡ true
+        alike-of : all (oneByRecord tgt (tab f n 0)) (canceledLots ds) ≡ true → (l : Lot) → l ∈ lots ds → lotAlike numbers l ≡ true
         alike-of a l m = by (lotCanceled l) refl
           where
             by : (b : Bool) → lotCanceled l ≡ b → lotAlike numbers l ≡ true
@@ -184,13 +185,13 @@ module _ (tgt : Field) (f : ℕ → Pool) (n : ℕ) (order : inOrder (tab f n 0)
                 (and-right (wholeLots tgt (map (fieldsAt tgt f n order once) (map row (poolsOf l))) (tab f n 0)) _ (one-by a l m c)))
             by false c = other-alike l m c
 
-        pub cc-even : (even && all (lotAlike numbers) (lots ds)) ≡ (wholeLots tgt listedFields (tab f n 0) && all (oneLot tgt (tab f n 0)) (canceledLots ds))
+        pub cc-even : (even && all (lotAlike numbers) (lots ds)) ≡ (wholeLots tgt listedFields (tab f n 0) && all (oneByRecord tgt (tab f n 0)) (canceledLots ds))
         cc-even =
-            alike (even && all (lotAlike numbers) (lots ds)) (wholeLots tgt listedFields (tab f n 0) && all (oneLot tgt (tab f n 0)) (canceledLots ds))
+            alike (even && all (lotAlike numbers) (lots ds)) (wholeLots tgt listedFields (tab f n 0) && all (oneByRecord tgt (tab f n 0)) (canceledLots ds))
             (λ e.
             let v = and-left even (all (lotAlike numbers) (lots ds)) e in
-            both (wholeLots tgt listedFields (tab f n 0)) (all (oneLot tgt (tab f n 0)) (canceledLots ds)) (whole-of v)
-            (all-in (oneLot tgt (tab f n 0)) (canceledLots ds) (one-of v (and-right even (all (lotAlike numbers) (lots ds)) e))))
+            both (wholeLots tgt listedFields (tab f n 0)) (all (oneByRecord tgt (tab f n 0)) (canceledLots ds)) (whole-of v)
+            (all-in (oneByRecord tgt (tab f n 0)) (canceledLots ds) (one-of v (and-right even (all (lotAlike numbers) (lots ds)) e))))
             (λ e.
-            let a = and-right (wholeLots tgt listedFields (tab f n 0)) (all (oneLot tgt (tab f n 0)) (canceledLots ds)) e in
+            let a = and-right (wholeLots tgt listedFields (tab f n 0)) (all (oneByRecord tgt (tab f n 0)) (canceledLots ds)) e in
             both even (all (lotAlike numbers) (lots ds)) (even-of a) (all-in (lotAlike numbers) (lots ds) (alike-of a)))

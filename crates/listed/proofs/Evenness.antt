@@ -14,8 +14,9 @@ use Rattle.book.specs.Records.{sameLot}
 use Rattle.book.specs.Messages.{under}
 use Rattle.book.specs.Soundness.{inOrder, fieldsOnce}
 use Rattle.listed.specs.Marks.{Entry}
-use Rattle.listed.proofs.Indexed.{lot-next, lot-parts, is-lot}
-use Rattle.listed.proofs.Taken.{under-lot}
+use Rattle.book.proofs.Ordered.{lot-parts, is-lot}
+use Rattle.book.proofs.Targets.{under-message}
+use Rattle.listed.proofs.Indexed.{lot-next}
 use Rattle.listed.proofs.Numbered.{entry, numbered, list-of, number-of}
 
 module _ (tgt : Field) (f : ℕ → Pool) (n : ℕ) (order : inOrder (tab f n 0) ≡ true) (once : fieldsOnce (tab f n 0) ≡ true) (start stop : ℕ) (m : ℕ → ℕ) where
@@ -71,7 +72,7 @@ module _ (tgt : Field) (f : ℕ → Pool) (n : ℕ) (order : inOrder (tab f n 0)
         there : m i ≡ m j
         there =
             let a = inside i (w .0) (w .1) in
-            let b = inside j l (under-lot tgt (f i) (f j) (w .1) (lot-parts (f i) (f j) s .0)) in
+            let b = inside j l (under-message tgt (f i) (f j) (w .1) (lot-parts (f i) (f j) s .0)) in
             even-far bound e i j (a .0) (a .1) (b .0) (b .1) s
 
         go : (m j ≡ 0) ⊎ ((y : Entry) × (y ∈ numbered 1 gs) × (y .row ≡ j) × (y .lot ≡ m j)) → j ∈ g

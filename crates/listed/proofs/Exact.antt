@@ -17,10 +17,10 @@ use Rattle.book.specs.Messages.{under}
 use Rattle.book.specs.Opening.{recordsMax}
 use Rattle.book.specs.Soundness.{inOrder, fieldsOnce}
 use Rattle.book.specs.Checks.{isTaken}
+use Rattle.book.proofs.ListLaws.{alike}
 use Rattle.places.proofs.Cells.{getD-zeros}
 use Rattle.listed.specs.declared.Listed.{Listed}
 use Rattle.listed.specs.Marks.{Entry, markAll, unmarked}
-use Rattle.listed.proofs.Indexed.{alike}
 use Rattle.listed.proofs.Taken.{fieldsAt, Within, taken-in, taken-out, same-row}
 use Rattle.listed.proofs.Marking.{markAt, mark-from, Fits, mark-of, fine-distinct, distinct-fine, Apart}
 use Rattle.listed.proofs.Numbered.{entry, numbered, rowsIn, rows-numbered, list-of, number-of, rows-out, rows-in}

@@ -21,7 +21,10 @@ use Rattle.book.specs.Records.{Fields, fieldsOf, distinct, sameLot, noPool}
 use Rattle.book.specs.Messages.{typeOf, targetOf, under, listedOf, listed}
 use Rattle.book.specs.Opening.{recordsMax}
 use Rattle.book.specs.Soundness.{inOrder, fieldsOnce}
-use Rattle.book.specs.Checks.{isCc, ccOrDk, isTaken, allLive, wholeLots, oneLot, canceledLots}
+use Rattle.book.specs.Checks.{isCc, ccOrDk, isTaken, canceledLots, listedFine}
+use Rattle.book.proofs.ByRecord.{allLive, wholeLots, oneByRecord, listedByRecord}
+use Rattle.book.proofs.LiveLots.{listed-by-record}
+use Rattle.book.proofs.ListLaws.{implies}
 use Rattle.table.specs.Rows.{recordAt, tableOf}
 use Rattle.places.specs.declared.Run.{Run}
 use Rattle.places.specs.declared.Places.{Places}
@@ -34,7 +37,6 @@ use Rattle.listed.specs.Marks.{Rows, entriesFrom, markAll, unmarked, eve
 use Rattle.listed.specs.Lots.{numbersOf, alikePool, alikeAll, noneAlike}
 use Rattle.listed.specs.Listing.{Findable, Decides, Judgeable, judgedBy}
 use Rattle.listed.proofs.Indexed.{all-each, each-all}
-use Rattle.listed.proofs.Taken.{implies}
 use Rattle.listed.proofs.Marking.{markAt}
 use Rattle.listed.proofs.Evenness.{Even}
 use Rattle.listed.proofs.Likeness.{lotAlike, alike-pass}
@@ -72,11 +74,15 @@ module _ (body : List ℕ) (ns ks : List (List ℕ)) (live : ℕ) (given : Finda
   abbrev target-run : Run
   target-run = run body ns ks live (given .within) (given .ordered) (given .once)
 
+  by-record : listedFine body live-rs ≡ listedByRecord body live-rs
+  by-record = listed-by-record body live-rs (given .ordered) (given .once) (given .formed)
+
   -- not found
   pub none-found : (p : Places) → Finds body ks target-run p → p .found ≡ false → (ms : List ℕ) → Decides body ns ks live (record { fine = false; marks = ms })
   none-found p w e ms =
+      let none : false ≡ listedByRecord body live-rs = rw (sym (found-live body ns ks live (given .within) (given .ordered) p w) ∙ e) in
       record {
-        fine = λ c. rw (sym (found-live body ns ks live (given .within) (given .ordered) p w) ∙ e);
+        fine = λ c. none ∙ sym by-record;
         marks = λ c f. absurd (false≢true f);
       }
 
@@ -150,7 +156,7 @@ module _ (body : List ℕ) (ns ks : List (List ℕ)) (live : ℕ) (given : Finda
     Shown t =
         ((marksFor (isCc t) .fine && (evenFor (isCc t) && (not (isCc t) || alikeLots)))
         ≡ ((allLive (targetOf body) (fieldsFor t) live-rs && (distinct (fieldsFor t) && wholeLots (targetOf body) (fieldsFor t) live-rs))
-        && (not (isCc t) || all (oneLot (targetOf body) live-rs) (canceledLots (details body)))))
+        && (not (isCc t) || all (oneByRecord (targetOf body) live-rs) (canceledLots (details body)))))
         × (marksFor (isCc t) .fine ≡ true → (i : ℕ) → i < live → eqb (markAt (marksFor (isCc t)) i) 0 ≡ not (isTaken (targetOf body) (fieldsFor t) (getD live-rs i noPool)))
 
     rows-tab : live-rs ≡ tab f live 0
@@ -162,7 +168,7 @@ module _ (body : List ℕ) (ns ks : List (List ℕ)) (live : ℕ) (given : Finda
     shown-dk : typeOf body ≡ Dk → liveFor Dk → Shown Dk
     shown-dk t l = (
       dk-tests (allLive (targetOf body) (fieldsFor Dk) live-rs) (distinct (fieldsFor Dk)) (wholeLots (targetOf body) (fieldsFor Dk) live-rs) (marksFor false .fine) (evenFor false) alikeLots
-          (all (oneLot (targetOf body) live-rs) (canceledLots (details body))) l
+          (all (oneByRecord (targetOf body) live-rs) (canceledLots (details body))) l
           (dk-fine (targetOf body) f live order once small row (details body) each)
           (λ e. dk-even (targetOf body) f live order once small row (details body) each e (target-run .start) (target-run .stop) inside bound (evenFor false) (even-out (marksFor false)) (even-in (marksFor false))
           ∙ ap (wholeLots (targetOf body) (fieldsFor Dk)) (sym rows-tab)),
@@ -174,12 +180,12 @@ module _ (body : List ℕ) (ns ks : List (List ℕ)) (live : ℕ) (given : Finda
 
     shown-cc : typeOf body ≡ Cc → liveFor Cc → Shown Cc
     shown-cc t l = (
-      cc-tests (allLive (targetOf body) (fieldsFor Cc) live-rs) (distinct (fieldsFor Cc)) (wholeLots (targetOf body) (fieldsFor Cc) live-rs) (all (oneLot (targetOf body) live-rs) (canceledLots (details body)))
+      cc-tests (allLive (targetOf body) (fieldsFor Cc) live-rs) (distinct (fieldsFor Cc)) (wholeLots (targetOf body) (fieldsFor Cc) live-rs) (all (oneByRecord (targetOf body) live-rs) (canceledLots (details body)))
           (marksFor true .fine) (evenFor true) alikeLots l
           (cc-fine (targetOf body) f live order once small row (details body) formed each)
           (λ e. ap (λ (b : Bool). evenFor true && b) lots-alike
           ∙ cc-even (targetOf body) f live order once small row (details body) formed each numbers (numbers-are ns ks row) e (target-run .start) (target-run .stop) inside bound (evenFor true) (even-out (marksFor true)) (even-in (marksFor true))
-          ∙ ap (λ (xs : List Pool). wholeLots (targetOf body) (fieldsFor Cc) xs && all (oneLot (targetOf body) xs) (canceledLots (details body))) (sym rows-tab)),
+          ∙ ap (λ (xs : List Pool). wholeLots (targetOf body) (fieldsFor Cc) xs && all (oneByRecord (targetOf body) xs) (canceledLots (details body))) (sym rows-tab)),
       λ e i h. cc-taken (targetOf body) f live order once small row (details body) formed each numbers (numbers-are ns ks row) e i h ∙ taken-there (fieldsFor Cc) i h,
     )
       where
@@ -209,7 +215,7 @@ module _ (body : List ℕ) (ns ks : List (List ℕ)) (live : ℕ) (given : Finda
     unfolding judgedBy listed
     decided r e =
         record {
-          fine = λ c. ap (λ (s : Listed). s .fine) e ∙ shown (typeOf body) refl c all-live .0;
+          fine = λ c. ap (λ (s : Listed). s .fine) e ∙ shown (typeOf body) refl c all-live .0 ∙ sym by-record;
           marks = λ c g i h.
               ap (λ (s : Listed). eqb (markAt s i) 0) e
               ∙ shown (typeOf body) refl c all-live .1 (and-left (marksFor (isCc (typeOf body)) .fine) (evenFor (isCc (typeOf body)) && (not (isCc (typeOf body)) || alikeLots)) (sym (ap (λ (s : Listed). s .fine) e) ∙ g)) i h;

@@ -1,27 +1,20 @@
 -- Records by their index: tests over a table of them, their order, and that no two of a message have equal fields.
 use Prim.Native.Nat.{ℕ, zero, suc, _+_, _-_, _≤_, _<_}
-use mathlib.Core.Path.{_≡_, refl, sym, ap, _∙_}
+use mathlib.Core.Path.{_≡_, sym, ap, _∙_}
 use mathlib.Core.Logic.{_⊎_, inl, inr}
 use mathlib.Core.List.{List·Memᴰ·head, List·Memᴰ·tail, List·Memᴰ·not-nil, List·Memᴰ·cases-cons}
-use mathlib.Core.Bool.{Bool, true, false, not, _&&_, _||_}
+use mathlib.Core.Bool.{Bool, true, not, _&&_}
 use native.Mathlib.Omega.{arith}
 use native.Mathlib.Decide.{ℕ-discrete, decLt}
-use lib.Dec.{eqb, ltb}
-use borrow.Author.Tests.{eq-eqb, eqb-true, ltb-true, not-true}
+use lib.Dec.{eqb}
+use borrow.Author.Tests.{eq-eqb, not-true}
 use Rattle.lists.specs.Lists.{tab, any, all}
 use Rattle.lists.proofs.Tests.{_∈_, and-left, and-right, both, clash, all-in, all-out, any-in}
 use Rattle.book.specs.declared.Pool.{Pool}
 use Rattle.book.specs.Records.{Fields, liveFields, sameFields, sameLot}
 use Rattle.book.specs.Soundness.{follows, inOrder, fieldsOnce}
 use Rattle.book.proofs.Targets.{fields-refl}
-use Rattle.book.proofs.ListLaws.{or-split}
-use Rattle.book.proofs.Ordered.{follows-trans}
-
--- two tests that say the same
-pub alike : (a b : Bool) → (a ≡ true → b ≡ true) → (b ≡ true → a ≡ true) → a ≡ b
-alike true b f g = sym (f refl)
-alike false true f g = g refl
-alike false false f g = refl
+use Rattle.book.proofs.Ordered.{follows-trans, lot-parts, is-lot, follows-lot, lot-between}
 
 module _ {A : Type 0} (f : ℕ → A) where
   pub tab-in : (n i k : ℕ) → i ≤ k → k < i + n → f k ∈ tab f n i
@@ -79,51 +72,6 @@ module _ (f : ℕ → Pool) where
           (not-true here (and-left (not here) (fieldsOnce (tab f n (i + 1))) e))
       go (no p) below = below (omega (arith, p))
 
--- ---- what following says
-module _ (q r : Pool) where
-  abbrev lotFollows : Bool
-  lotFollows = ltb (q .ordinal) (r .ordinal) || (eqb (q .ordinal) (r .ordinal) && (eqb (q .kind) (r .kind) && eqb (q .millions) (r .millions)))
-
-  -- neither message ID nor, within a message, ordinal falls
-  pub messages-rise : follows q r ≡ true → q .message ≤ r .message
-  messages-rise e = go (or-split (ltb (q .message) (r .message)) (eqb (q .message) (r .message) && (eqb (q .trade) (r .trade) && lotFollows)) e)
-    where
-      go : (ltb (q .message) (r .message) ≡ true) ⊎ ((eqb (q .message) (r .message) && (eqb (q .trade) (r .trade) && lotFollows)) ≡ true) → q .message ≤ r .message
-      go (inl a) = omega (arith, ltb-true (q .message) (r .message) a)
-      go (inr a) = omega (arith, eqb-true (q .message) (r .message) (and-left (eqb (q .message) (r .message)) (eqb (q .trade) (r .trade) && lotFollows) a))
-
-  in-message : follows q r ≡ true → q .message ≡ r .message → lotFollows ≡ true
-  in-message e m = go (or-split (ltb (q .message) (r .message)) (eqb (q .message) (r .message) && (eqb (q .trade) (r .trade) && lotFollows)) e)
-    where
-      go : (ltb (q .message) (r .message) ≡ true) ⊎ ((eqb (q .message) (r .message) && (eqb (q .trade) (r .trade) && lotFollows)) ≡ true) → lotFollows ≡ true
-      go (inl a) = absurd (omega (arith, ltb-true (q .message) (r .message) a))
-      go (inr a) = and-right (eqb (q .trade) (r .trade)) lotFollows (and-right (eqb (q .message) (r .message)) (eqb (q .trade) (r .trade) && lotFollows) a)
-
-  pub ordinals-rise : follows q r ≡ true → q .message ≡ r .message → q .ordinal ≤ r .ordinal
-  ordinals-rise e m = go (or-split (ltb (q .ordinal) (r .ordinal)) (eqb (q .ordinal) (r .ordinal) && (eqb (q .kind) (r .kind) && eqb (q .millions) (r .millions))) (in-message e m))
-    where
-      go : (ltb (q .ordinal) (r .ordinal) ≡ true) ⊎ ((eqb (q .ordinal) (r .ordinal) && (eqb (q .kind) (r .kind) && eqb (q .millions) (r .millions))) ≡ true) → q .ordinal ≤ r .ordinal
-      go (inl a) = omega (arith, ltb-true (q .ordinal) (r .ordinal) a)
-      go (inr a) = omega (arith, eqb-true (q .ordinal) (r .ordinal) (and-left (eqb (q .ordinal) (r .ordinal)) (eqb (q .kind) (r .kind) && eqb (q .millions) (r .millions)) a))
-
-  -- records of a lot agree on kind and millions
-  pub lots-agree : follows q r ≡ true → q .message ≡ r .message → q .ordinal ≡ r .ordinal → (q .kind ≡ r .kind) × (q .millions ≡ r .millions)
-  lots-agree e m o = go (or-split (ltb (q .ordinal) (r .ordinal)) (eqb (q .ordinal) (r .ordinal) && (eqb (q .kind) (r .kind) && eqb (q .millions) (r .millions))) (in-message e m))
-    where
-      go : (ltb (q .ordinal) (r .ordinal) ≡ true) ⊎ ((eqb (q .ordinal) (r .ordinal) && (eqb (q .kind) (r .kind) && eqb (q .millions) (r .millions))) ≡ true)
-          → (q .kind ≡ r .kind) × (q .millions ≡ r .millions)
-      go (inl a) = absurd (omega (arith, ltb-true (q .ordinal) (r .ordinal) a))
-      go (inr a) =
-          let k = and-right (eqb (q .ordinal) (r .ordinal)) (eqb (q .kind) (r .kind) && eqb (q .millions) (r .millions)) a in
-          (eqb-true (q .kind) (r .kind) (and-left (eqb (q .kind) (r .kind)) (eqb (q .millions) (r .millions)) k), eqb-true (q .millions) (r .millions) (and-right (eqb (q .kind) (r .kind)) (eqb (q .millions) (r .millions)) k))
-
-pub lot-parts : (q r : Pool) → sameLot q r ≡ true → (q .message ≡ r .message) × (q .ordinal ≡ r .ordinal)
-lot-parts q r e =
-    (eqb-true (q .message) (r .message) (and-left (eqb (q .message) (r .message)) (eqb (q .ordinal) (r .ordinal)) e), eqb-true (q .ordinal) (r .ordinal) (and-right (eqb (q .message) (r .message)) (eqb (q .ordinal) (r .ordinal)) e))
-
-pub is-lot : (q r : Pool) → q .message ≡ r .message → q .ordinal ≡ r .ordinal → sameLot q r ≡ true
-is-lot q r m o = both (eqb (q .message) (r .message)) (eqb (q .ordinal) (r .ordinal)) (eq-eqb (q .message) (r .message) m) (eq-eqb (q .ordinal) (r .ordinal) o)
-
 -- ---- sound live records
 module _ (f : ℕ → Pool) (n : ℕ) (order : inOrder (tab f n 0) ≡ true) (once : fieldsOnce (tab f n 0) ≡ true) where
   follows-of : (i j : ℕ) → i < j → j < n → follows (f i) (f j) ≡ true
@@ -135,29 +83,19 @@ module _ (f : ℕ → Pool) (n : ℕ) (order : inOrder (tab f n 0) ≡ true) (on
   pub lot-next : (i j : ℕ) → i < j → j < n → sameLot (f i) (f j) ≡ true → sameLot (f i) (f (i + 1)) ≡ true
   lot-next i j h l s = go (ℕ-discrete (i + 1) j)
     where
-      p : (f i .message ≡ f j .message) × (f i .ordinal ≡ f j .ordinal)
-      p = lot-parts (f i) (f j) s
-
       go : Dec (i + 1 ≡ j) → sameLot (f i) (f (i + 1)) ≡ true
       go (yes e) = rw e s
-      go (no e) =
-          let a = follows-of i (i + 1) (omega arith) (omega arith) in
-          let b = follows-of (i + 1) j (omega (arith, e)) l in
-          let m : f i .message ≡ f (i + 1) .message = omega (arith, messages-rise (f i) (f (i + 1)) a, messages-rise (f (i + 1)) (f j) b, p .0) in
-          let k : f (i + 1) .message ≡ f j .message = sym m ∙ p .0 in
-          is-lot (f i) (f (i + 1)) m (omega (arith, ordinals-rise (f i) (f (i + 1)) a m, ordinals-rise (f (i + 1)) (f j) b k, p .1))
+      go (no e) = lot-between (f i) (f (i + 1)) (f j) (follows-of i (i + 1) (omega arith) (omega arith)) (follows-of (i + 1) j (omega (arith, e)) l) s
 
   pub lot-alike : (i j : ℕ) → i < n → j < n → sameLot (f i) (f j) ≡ true → (f i .kind ≡ f j .kind) × (f i .millions ≡ f j .millions)
   lot-alike i j h l s = go (ℕ-discrete i j) (decLt i j)
     where
-      p : (f i .message ≡ f j .message) × (f i .ordinal ≡ f j .ordinal)
-      p = lot-parts (f i) (f j) s
-
       go : Dec (i ≡ j) → Dec (i < j) → (f i .kind ≡ f j .kind) × (f i .millions ≡ f j .millions)
       go (yes e) d = (rw e, rw e)
-      go (no e) (yes d) = lots-agree (f i) (f j) (follows-of i j d l) (p .0) (p .1)
+      go (no e) (yes d) = follows-lot (f i) (f j) (follows-of i j d l) s
       go (no e) (no d) =
-          let w = lots-agree (f j) (f i) (follows-of j i (omega (arith, e, d)) h) (sym (p .0)) (sym (p .1)) in
+          let p = lot-parts (f i) (f j) s in
+          let w = follows-lot (f j) (f i) (follows-of j i (omega (arith, e, d)) h) (is-lot (f j) (f i) (sym (p .0)) (sym (p .1))) in
           (sym (w .0), sym (w .1))
 
   -- no two records of a message have equal fields

@@ -1,8 +1,8 @@
 -- A 6 lot's records are of one live lot of its kind and millions exactly if all have one ordinal and the last pool's has that kind and those millions.
 use Prim.Native.Nat.{ℕ, _<_}
 use mathlib.Core.Path.{_≡_, refl, sym, ap, _∙_}
-use mathlib.Core.List.{List, [], _∷_, map, List·Memᴰ·head, List·Memᴰ·tail, List·Memᴰ·not-nil, Memᴰ·map, Memᴰ·append-right}
-use mathlib.Core.Bool.{Bool, true, false, cond, _&&_}
+use mathlib.Core.List.{List, [], _∷_, map, List·Memᴰ·head, List·Memᴰ·not-nil, Memᴰ·map, Memᴰ·append-right}
+use mathlib.Core.Bool.{Bool, true, _&&_}
 use native.Mathlib.Omega.{arith}
 use lib.Dec.{eqb}
 use borrow.Author.Tests.{eq-eqb, eqb-true}
@@ -14,17 +14,13 @@ use Rattle.terminator.specs.Lots.{Lot, poolsOf, lotKind, lotMillions}
 use Rattle.book.specs.declared.Pool.{Pool}
 use Rattle.book.specs.Records.{kindNumber}
 use Rattle.book.specs.Soundness.{inOrder, fieldsOnce}
-use Rattle.book.specs.Checks.{isTaken, firstOrdinal}
-use Rattle.listed.proofs.Indexed.{tab-in, tab-from, lot-alike, is-lot}
-use Rattle.listed.proofs.Taken.{fieldsAt, Within, taken-in, taken-out, under-one, map-from}
-
-pub keep-member : {A : Type 0} (q : A → Bool) {x : A} {xs : List A} → x ∈ xs → q x ≡ true → x ∈ keep q xs
-keep-member q {x} (List·Memᴰ·head {x = y} {xs = ys} p) e = rw (sym (ap q p) ∙ e) (List·Memᴰ·head p)
-keep-member q {x} (List·Memᴰ·tail {x = y} {xs = ys} m) e = go (q y) (keep-member q m e)
-  where
-    go : (b : Bool) → x ∈ keep q ys → x ∈ cond b (y ∷ keep q ys) (keep q ys)
-    go true k = List·Memᴰ·tail k
-    go false k = k
+use Rattle.book.specs.Checks.{isTaken}
+use Rattle.book.proofs.ByRecord.{firstOrdinal}
+use Rattle.listed.proofs.Indexed.{tab-in, tab-from, lot-alike}
+use Rattle.book.proofs.Ordered.{is-lot}
+use Rattle.book.proofs.ListLaws.{keep-member}
+use Rattle.book.proofs.Targets.{under-one}
+use Rattle.listed.proofs.Taken.{fieldsAt, Within, taken-in, taken-out, map-from}
 
 first-of : (x : Pool) (xs : List Pool) → x ∈ xs → (y : Pool) × (y ∈ xs) × (firstOrdinal xs ≡ y .ordinal)
 first-of x [] m = absurd (List·Memᴰ·not-nil m)
@@ -40,7 +36,7 @@ module _ (tgt : Field) (f : ℕ → Pool) (n : ℕ) (order : inOrder (tab f n 0)
   abbrev its : List Pool
   its = keep isIts (tab f n 0)
 
-  -- the second half of oneLot
+  -- the second half of oneByRecord
   abbrev pub agrees : Pool → Bool
   agrees r = eqb (r .ordinal) (firstOrdinal its) && (eqb (r .kind) (kindNumber (lotKind l)) && eqb (r .millions) (lotMillions l))
 

@@ -1,9 +1,9 @@
 -- Records that a list of rows takes off: those of the rows, since no two records of the target have equal fields; and whole lots of them.
 use Prim.Native.Nat.{ℕ, _<_}
-use mathlib.Core.Path.{_≡_, refl, sym, _∙_}
+use mathlib.Core.Path.{_≡_, refl}
 use mathlib.Core.Logic.{_⊎_, inl, inr}
 use mathlib.Core.List.{List, [], _∷_, map, List·Memᴰ·head, List·Memᴰ·tail, List·Memᴰ·not-nil, List·Memᴰ·cases-cons, Memᴰ·map}
-use mathlib.Core.Bool.{Bool, true, false, not, _||_}
+use mathlib.Core.Bool.{Bool, true, not, _||_}
 use native.Mathlib.Omega.{arith}
 use Rattle.lists.specs.Lists.{tab, all}
 use Rattle.lists.proofs.Tests.{_∈_, and-left, and-right, both, implied}
@@ -12,8 +12,10 @@ use Rattle.book.specs.declared.Pool.{Pool}
 use Rattle.book.specs.Records.{Fields, liveFields, hasFields, sameLot}
 use Rattle.book.specs.Messages.{under}
 use Rattle.book.specs.Soundness.{inOrder, fieldsOnce}
-use Rattle.book.specs.Checks.{isTaken, wholeLots}
-use Rattle.book.proofs.Targets.{has-in, has-out, under-is, target-one}
+use Rattle.book.specs.Checks.{isTaken}
+use Rattle.book.proofs.ByRecord.{wholeLots}
+use Rattle.book.proofs.Targets.{has-in, has-out, under-one}
+use Rattle.book.proofs.ListLaws.{implies}
 use Rattle.listed.proofs.Indexed.{all-each, each-all, row-once}
 
 -- an element of a mapped list is that of an element
@@ -24,18 +26,6 @@ map-from {A} g (x ∷ xs) y m = go (List·Memᴰ·cases-cons m) (map-from g xs y
     go : (y ≡ g x) ⊎ (y ∈ map g xs) → (y ∈ map g xs → (z : A) × (z ∈ xs) × (y ≡ g z)) → (z : A) × (z ∈ (x ∷ xs)) × (y ≡ g z)
     go (inl e) below = (x, List·Memᴰ·head refl, e)
     go (inr m′) below = let (z, k, e) = below m′ in (z, List·Memᴰ·tail k, e)
-
--- a record of the target's lot is the target's
-pub under-one : (tgt : Field) (q r : Pool) → under tgt q ≡ true → under tgt r ≡ true → q .message ≡ r .message
-under-one tgt q r a b = target-one tgt (q .message) (r .message) (sym (under-is tgt q) ∙ a) (sym (under-is tgt r) ∙ b)
-
-pub under-lot : (tgt : Field) (q r : Pool) → under tgt q ≡ true → q .message ≡ r .message → under tgt r ≡ true
-under-lot tgt q r a e = under-is tgt r ∙ rw e at (sym (under-is tgt q) ∙ a)
-
--- "not a, or b" from a function
-pub implies : (a b : Bool) → (a ≡ true → b ≡ true) → (not a || b) ≡ true
-implies true b h = h refl
-implies false b h = refl
 
 module _ (tgt : Field) (f : ℕ → Pool) (n : ℕ) (order : inOrder (tab f n 0) ≡ true) (once : fieldsOnce (tab f n 0) ≡ true) where
   abbrev pub fieldsAt : ℕ → Fields

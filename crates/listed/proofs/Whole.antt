@@ -14,10 +14,11 @@ use Rattle.book.specs.Records.{Fields, fieldsOf, liveFields, distinct}
 use Rattle.book.specs.Messages.{under}
 use Rattle.book.specs.Opening.{recordsMax}
 use Rattle.book.specs.Soundness.{inOrder, fieldsOnce}
-use Rattle.book.specs.Checks.{isTaken, wholeLots}
+use Rattle.book.specs.Checks.{isTaken}
+use Rattle.book.proofs.ByRecord.{wholeLots}
+use Rattle.book.proofs.ListLaws.{alike}
 use Rattle.listed.specs.declared.Listed.{Listed}
 use Rattle.listed.specs.Marks.{entriesFrom, markAll, unmarked}
-use Rattle.listed.proofs.Indexed.{alike}
 use Rattle.listed.proofs.Taken.{fieldsAt, Within, Closed, whole-closed, closed-whole, map-from}
 use Rattle.listed.proofs.Marking.{markAt}
 use Rattle.listed.proofs.Numbered.{numbered, rowsIn}

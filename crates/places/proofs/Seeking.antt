@@ -19,7 +19,8 @@ use Rattle.book.specs.declared.Pool.{Pool}
 use Rattle.book.specs.Records.{Fields, fieldsOf, liveFields, sameFields}
 use Rattle.book.specs.Messages.{typeOf, targetOf, under, listedOf, listed}
 use Rattle.book.specs.Soundness.{inOrder}
-use Rattle.book.specs.Checks.{ccOrDk, allLive}
+use Rattle.book.specs.Checks.{ccOrDk}
+use Rattle.book.proofs.ByRecord.{allLive}
 use Rattle.book.proofs.ListLaws.{all-of-map}
 use Rattle.table.specs.Rows.{keyAt, recordAt, tableOf}
 use Rattle.table.proofs.Rows.{take-table}

@@ -12,9 +12,10 @@ use Rattle.lists.proofs.Parts.{drop-turn}
 use Rattle.lists.proofs.Tables.{tab-turn, tab-end, tab-all}
 use Rattle.terminator.specs.Lots.{millionCents}
 use Rattle.book.specs.declared.Pool.{Pool}
-use Rattle.book.specs.Records.{noPool, runSum, weightShare, weightOfRecords}
+use Rattle.book.specs.Records.{noPool}
 use Rattle.table.specs.Rows.{recordAt, tableOf}
 use Rattle.table.specs.Closed.{unmarked}
+use Rattle.table.specs.Runs.{runSum, weightShare}
 use Rattle.table.proofs.Rows.{take-table}
 use Rattle.places.specs.Marks.{marked, rowShare}
 
@@ -43,18 +44,17 @@ module _ (ns : List (List ℕ)) (ms : List ℕ) (live : ℕ) (ks : List (List �
   left i = marked (drop i ms) (tab (recordAt ns ks) (live - i) i)
 
   abbrev pub Weighed : ℕ → ℕ → ℕ → ℕ → Type 0
-  Weighed sum message ordinal i = sum + runSum weightShare message ordinal (left i) ≡ weightOfRecords (marked ms (tab (recordAt ns ks) live 0))
+  Weighed sum message ordinal i = sum + runSum weightShare message ordinal (left i) ≡ runSum weightShare 0 0 (marked ms (tab (recordAt ns ks) live 0))
 
   pub weighed-none : Weighed 0 0 0 0
-  unfolding weightOfRecords
   weighed-none = omega (arith, ap (λ (rs : List Pool). runSum weightShare 0 0 (marked ms rs)) (tab-all (recordAt ns ks) live))
 
   module _ (sum message ordinal i : ℕ) (inv : Weighed sum message ordinal i) where
-    pub weighed-done : live ≤ i → live ≤ length ns → live ≤ length ms → i ≤ live → sum ≡ weightOfRecords (marked ms (take live (tableOf ns ks)))
+    pub weighed-done : live ≤ i → live ≤ length ns → live ≤ length ms → i ≤ live → sum ≡ runSum weightShare 0 0 (marked ms (take live (tableOf ns ks)))
     weighed-done h l m k =
         let none : left i ≡ [] = ap (marked (drop i ms)) (tab-end (recordAt ns ks) live i h) ∙ marked-nil (drop i ms) in
         let e : sum + runSum weightShare message ordinal (left i) ≡ sum = omega (arith, ap (runSum weightShare message ordinal) none) in
-        sym e ∙ inv ∙ ap (λ (rs : List Pool). weightOfRecords (marked ms rs)) (sym (take-table ns ks live l))
+        sym e ∙ inv ∙ ap (λ (rs : List Pool). runSum weightShare 0 0 (marked ms rs)) (sym (take-table ns ks live l))
 
     module _ (h : i < live) (m : live ≤ length ms) where
       turn : left i ≡ cond (eqb (getD ms i 0) 0) (left (i + 1)) (recordAt ns ks i ∷ left (i + 1))
@@ -70,7 +70,7 @@ module _ (ns : List (List ℕ)) (ms : List ℕ) (live : ℕ) (ks : List (List �
           → Weighed (sum + s) (getD (getD ns i []) 0 0) (getD (getD ns i []) 1 0) (i + 1)
       weighed-more e s is =
           let t : left i ≡ recordAt ns ks i ∷ left (i + 1) = turn ∙ rw (ne-eqb (getD ms i 0) 0 e) in
-          let u : sum + runSum weightShare message ordinal (recordAt ns ks i ∷ left (i + 1)) ≡ weightOfRecords (marked ms (tab (recordAt ns ks) live 0)) =
+          let u : sum + runSum weightShare message ordinal (recordAt ns ks i ∷ left (i + 1)) ≡ runSum weightShare 0 0 (marked ms (tab (recordAt ns ks) live 0)) =
           ap (λ (rs : List Pool). sum + runSum weightShare message ordinal rs) (sym t) ∙ inv in
           omega (arith, u, is)
 

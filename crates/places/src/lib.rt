@@ -8,10 +8,11 @@ ghost use Prim.Native.Nat.{ℕ, _+_, _-_, _≤_, _<_};
 ghost use lib.ListN.{length, take, getD};
 ghost use Rattle.lists.specs.Lists.{tab};
 ghost use Rattle.fields.specs.declared.Field.the-variants.{Number};
-ghost use Rattle.book.specs.Records.{sameFields, weightOfRecords};
+ghost use Rattle.book.specs.Records.{sameFields};
 ghost use Rattle.book.specs.Messages.{targetOf, under};
 ghost use Rattle.book.specs.Opening.{elevenDigitsMax};
 ghost use Rattle.table.specs.Rows.{recordAt, tableOf};
+ghost use Rattle.table.specs.Runs.{runSum, weightShare};
 ghost use Rattle.places.specs.Runs.{ahead, leading, runOf};
 ghost use Rattle.places.specs.Finding.{rowFields, lists, Finds};
 ghost use Rattle.places.specs.Marks.{marked, rowShare, Weighable};
@@ -174,7 +175,7 @@ fn row_share(row: [u64; 6], begins: bool) -> u64
 // What the lots of the marked live records weigh, in cents.
 pub fn weight_of_marked(numbers: &[[u64; 6]], marks: &[u8], live: usize) -> u64
     requires { ⌜ Weighable (now numbers) (now marks) live ⌝ }
-    ensures { λ r. ⌜ ((ks : List (List ℕ)) → r ≡ weightOfRecords (marked (now (marks .entry)) (take live (tableOf (now (numbers .entry)) ks)))) ⌝ }
+    ensures { λ r. ⌜ ((ks : List (List ℕ)) → r ≡ runSum weightShare 0 0 (marked (now (marks .entry)) (take live (tableOf (now (numbers .entry)) ks)))) ⌝ }
 {
     let mut sum: u64 = 0;
     let mut message: u64 = 0;

@@ -5,17 +5,15 @@ use mathlib.Core.Bool.{Bool, true, false, not, _&&_}
 use Prim.Native.Nat.{ℕ, _+_, _-_, _≤_, _<_}
 use native.Mathlib.Omega.{arith}
 use lib.ListN.{length, getD, take, replicate}
-use lib.Dec.{leb, ltb}
-use borrow.Author.Tests.{not-true, not-false, leb-true, lt-ltb}
-use Rattle.lists.specs.Lists.{tab, all, between}
+use borrow.Author.Tests.{not-true, not-false, lt-ltb, ne-eqb}
+use Rattle.lists.specs.Lists.{tab, all}
 use Rattle.lists.proofs.Tables.{tab-turn, tab-end, tab-all}
-use Rattle.lists.proofs.Tests.{and-left, and-right}
 use Rattle.book.specs.declared.Pool.{Pool}
 use Rattle.book.specs.declared.Values.{Values}
-use Rattle.book.specs.Opening.{elevenDigitsMax}
-use Rattle.book.specs.Soundness.{kindFine, recordFine, follows, inOrder}
+use Rattle.book.specs.Soundness.{recordFine, follows, inOrder}
 use Rattle.table.specs.Rows.{keyAt, recordAt, tableOf}
 use Rattle.table.proofs.Rows.{take-table}
+use Rattle.table.proofs.Runs.{above}
 use Rattle.soundness.specs.Parts.{recordOf, against}
 
 module _ (v : Values) where
@@ -41,21 +39,14 @@ module _ (v : Values) where
       swap (recordFine v r) (all (recordFine v) rs) (follows q r) (inOrder (r ∷ rs))
       ∙ ap (λ (b : Bool). (recordFine v r && follows q r) && b) (chained-after r rs)
 
-  -- a fine record has a message ID above 0
-  above : (r : Pool) → recordFine v r ≡ true → 0 < r .message
-  above r e =
-      let rest = leb 1 (r .ordinal) && (leb (r .current) elevenDigitsMax && kindFine r) in
-      let p = and-left (between 1 (v .last) (r .message)) rest (and-right (ltb (r .trade) (v .count)) (between 1 (v .last) (r .message) && rest) e) in
-      leb-true 1 (r .message) (and-left (leb 1 (r .message)) (leb (r .message) (v .last)) p)
-
   chained-first : (q : Pool) → q .message ≡ 0 → (rs : List Pool) → chained q rs ≡ (all (recordFine v) rs && inOrder rs)
   chained-first q z [] = refl
   chained-first q z (r ∷ rs) = go (recordFine v r) refl
     where
       go : (b : Bool) → recordFine v r ≡ b → ((b && follows q r) && chained r rs) ≡ ((b && all (recordFine v) rs) && inOrder (r ∷ rs))
       go true e =
-          let f : ltb (q .message) (r .message) ≡ true = lt-ltb (q .message) (r .message) (omega (arith, above r e, z)) in
-          rw f (sym (chained-after r rs))
+          let h : q .message < r .message = omega (arith, above v r e, z) in
+          rw (lt-ltb (q .message) (r .message) h, ne-eqb (q .message) (r .message) (λ p. omega arith)) (sym (chained-after r rs))
       go false e = refl
 
 module _ (count last : ℕ) (ns : List (List ℕ)) (live : ℕ) where

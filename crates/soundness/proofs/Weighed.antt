@@ -13,8 +13,9 @@ use Rattle.lists.proofs.Tables.{tab-turn, tab-end, tab-all}
 use Rattle.terminator.specs.Lots.{millionCents}
 use Rattle.book.specs.declared.Pool.{Pool}
 use Rattle.book.specs.Opening.{tradesMax, recordsMax, elevenDigitsMax}
-use Rattle.book.specs.Records.{kindGood, runSum, weightShare, shareOf, tradeWeight}
+use Rattle.book.specs.Records.{kindGood}
 use Rattle.table.specs.Rows.{numberAt, keyAt, recordAt, tableOf}
+use Rattle.table.specs.Runs.{runSum, weightShare, shareOf}
 use Rattle.table.proofs.Rows.{take-table}
 use Rattle.soundness.specs.Parts.{recordOf, Light}
 
@@ -59,8 +60,7 @@ module _ (ns : List (List ℕ)) (live : ℕ) where
   weighed-none ks t h = omega (arith, getD-replicate {A = ℕ} tradesMax t 0 0 h, ap (runSum (shareOf t weightShare) 0 0) (tab-all (recordAt ns ks) live))
 
   pub weighed-done : (sums : List ℕ) (message ordinal i : ℕ) → Weighed sums message ordinal i → live ≤ i → live ≤ length ns
-      → (ks : List (List ℕ)) (t : ℕ) → t < tradesMax → getD sums t 0 ≡ tradeWeight t (take live (tableOf ns ks))
-  unfolding tradeWeight
+      → (ks : List (List ℕ)) (t : ℕ) → t < tradesMax → getD sums t 0 ≡ runSum (shareOf t weightShare) 0 0 (take live (tableOf ns ks))
   weighed-done sums message ordinal i inv h l ks t k =
       rw (take-table ns ks live l) (omega (arith, inv ks t k, ap (runSum (shareOf t weightShare) message ordinal) (tab-end (recordAt ns ks) live i h)))
 

@@ -19,7 +19,7 @@ use Rattle.book.specs.Opening.{tradesMax, recordsMax, elevenDigitsMax, valuesFi
 use Rattle.book.specs.Soundness.{kindFine, recordFine, inOrder, fieldsOnce, isNone, parsFrom, isSound}
 use Rattle.table.specs.Rows.{recordAt, tableOf}
 use Rattle.table.proofs.Rows.{length-table, take-table}
-use Rattle.soundness.specs.Parts.{against, Light}
+use Rattle.soundness.specs.Parts.{against, RowsFine, Light}
 use Rattle.soundness.proofs.Rows.{all-at}
 
 -- ---- what the facts give to those after them
@@ -113,6 +113,9 @@ module _ (b : Book) (ns ks : List (List ℕ)) where
 
               pub ordered : inOrder (take (b .live) (tableOf ns ks)) ≡ true
               ordered = and-right (all (recordFine (b .values)) (take (b .live) (tableOf ns ks))) (inOrder (take (b .live) (tableOf ns ks))) (sym are ∙ not-false rows rows-hold)
+
+              pub rows-fine : RowsFine (b .values) ns (b .live)
+              rows-fine js = sym (rows-are js) ∙ not-false rows rows-hold
 
               pub all-light : Light ns (b .live)
               all-light = light (b .values) ns ks (b .live) within few each

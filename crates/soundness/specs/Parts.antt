@@ -1,14 +1,17 @@
 -- What the parts of number 42 look at: a row by itself, the two values that a record is held against, and rows that are light enough to sum.
 use Prim.Native.Nat.{ℕ, _≤_, _<_}
+use mathlib.Core.Path.{_≡_}
 use mathlib.Core.List.{List, []}
-use lib.ListN.{getD}
-use Rattle.lists.specs.Lists.{part}
+use mathlib.Core.Bool.{true, _&&_}
+use lib.ListN.{getD, take}
+use Rattle.lists.specs.Lists.{part, all}
 use Rattle.terminator.specs.Terminators.{millionsMost}
 use Rattle.sequence.specs.Sequence.{outbound}
 use Rattle.book.specs.declared.Values.{Values}
 use Rattle.book.specs.declared.Pool.{Pool}
 use Rattle.book.specs.Opening.{tradesMax, elevenDigitsMax}
-use Rattle.table.specs.Rows.{numberAt}
+use Rattle.book.specs.Soundness.{recordFine, inOrder}
+use Rattle.table.specs.Rows.{numberAt, tableOf}
 
 -- the record of one row of numbers and one row of bytes
 abbrev pub recordOf : List ℕ → List ℕ → Pool
@@ -39,6 +42,10 @@ against count last =
       last = last;
       outbound = outbound 0;
     }
+
+-- the first rows are fine live records in order, whatever bytes stand beside them
+abbrev pub RowsFine : Values → List (List ℕ) → ℕ → Type 0
+RowsFine v ns live = (ks : List (List ℕ)) → (all (recordFine v) (take live (tableOf ns ks)) && inOrder (take live (tableOf ns ks))) ≡ true
 
 -- each of the first rows has one of 64 trades, a face of eleven digits and at most 99 millions
 abbrev pub Light : List (List ℕ) → ℕ → Type 0

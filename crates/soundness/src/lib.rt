@@ -8,12 +8,12 @@ ghost use Prim.Native.Nat.{ℕ, _≤_, _<_};
 ghost use lib.ListN.{length, take, drop, getD};
 ghost use lib.Dec.{eqb};
 ghost use Rattle.lists.specs.Lists.{all};
-ghost use Rattle.book.specs.Records.{weightShare, tradeWeight};
 ghost use Rattle.book.specs.Trades.{tradesOf};
 ghost use Rattle.book.specs.Opening.{tradesMax, recordsMax};
 ghost use Rattle.book.specs.Soundness.{recordFine, follows, inOrder, isNone, parsFrom, isSound};
 ghost use Rattle.table.specs.Rows.{tableOf};
-ghost use Rattle.soundness.specs.Parts.{recordOf, against, Light};
+ghost use Rattle.table.specs.Runs.{runSum, weightShare, shareOf};
+ghost use Rattle.soundness.specs.Parts.{recordOf, against, RowsFine, Light};
 
 // Eleven digits: a current face in cents.
 const ELEVEN_DIGITS_MAX: u64 = 99999999999;
@@ -138,7 +138,7 @@ fn share(row: [u64; 6], begins: bool) -> u64
 // What the lots of each trade weigh.
 fn weights(numbers: &[[u64; 6]], live: usize) -> [u64; 64]
     requires { ⌜ (live ≤ length (now numbers)) × (live ≤ recordsMax) × Light (now numbers) live ⌝ }
-    ensures { λ r. ⌜ ((ks : List (List ℕ)) (t : ℕ) → t < tradesMax → getD r t 0 ≡ tradeWeight t (take live (tableOf (now (numbers .entry)) ks))) ⌝ }
+    ensures { λ r. ⌜ ((ks : List (List ℕ)) (t : ℕ) → t < tradesMax → getD r t 0 ≡ runSum (shareOf t weightShare) 0 0 (take live (tableOf (now (numbers .entry)) ks))) ⌝ }
 {
     let mut sums = [0u64; 64];
     let mut message: u64 = 0;
@@ -159,7 +159,7 @@ fn weights(numbers: &[[u64; 6]], live: usize) -> [u64; 64]
 
 // 42: every trade's open par is its par less what its lots weigh.
 fn pars_fine(v: Values, numbers: &[[u64; 6]], live: usize) -> bool
-    requires { ⌜ (v .count ≤ tradesMax) × (live ≤ length (now numbers)) × (live ≤ recordsMax) × Light (now numbers) live ⌝ }
+    requires { ⌜ (v .count ≤ tradesMax) × (live ≤ length (now numbers)) × (live ≤ recordsMax) × Light (now numbers) live × RowsFine v (now numbers) live ⌝ }
     ensures { λ r. ⌜ ((ks : List (List ℕ)) → r ≡ parsFrom 0 (tradesOf v) (take live (tableOf (now (numbers .entry)) ks))) ⌝ }
 {
     let count = v.count;

@@ -2,3 +2,4 @@ pub mod Rows
 pub mod Closing
 pub mod Zeros
 pub mod Whole
+pub mod Runs

@@ -25,12 +25,16 @@ use Rattle.book.specs.Records.{fieldsOf, noPool, weightOfRecords}
 use Rattle.book.specs.Messages.{typeOf, targetOf, under, listed, listedOf}
 use Rattle.book.specs.Trades.{tradesOf, openPars, broughtWeight, tradeOfOn}
 use Rattle.book.specs.Opening.{recordsMax}
-use Rattle.book.specs.Soundness.{Sound}
+use Rattle.book.specs.Soundness.{recordFine, Sound}
 use Rattle.book.specs.Checks.{Check, live, isOn, isCc, onOrCc, ccOrDk, targetTrade, tradeAt, concerned, concernedFor, isTaken, taken, listedFine, parFine, tableFine, checks, firstFailing}
+use Rattle.book.proofs.ListLaws.{all-keep}
+use Rattle.book.proofs.Ordered.{ordered-keep}
 use Rattle.book.proofs.Reached.{is-sound}
 use Rattle.book.proofs.ListLaws.{or-right}
 use Rattle.table.specs.Rows.{recordAt, numberAt, tableOf}
+use Rattle.table.specs.Runs.{runSum, weightShare}
 use Rattle.table.proofs.Rows.{length-table, table-at}
+use Rattle.table.proofs.Runs.{weight-runs}
 use Rattle.places.specs.declared.Run.{Run}
 use Rattle.places.specs.Runs.{runOf}
 use Rattle.places.specs.Marks.{marked, Weighable}
@@ -144,7 +148,7 @@ module _ (book : Book) (ns ks : List (List ℕ)) (body : List ℕ) (y : Ready bo
     listed-fails h = rw (takes-not (ccOrDk (typeOf body)) (listedFine body (take (book .live) (tableOf ns ks))) (t .fine) (tk .fine) (not-true (t .fine) h))
 
     module _ (h37 : not (t .fine) ≡ false) (off brought trade : ℕ)
-        (ef : (ks′ : List (List ℕ)) → off ≡ weightOfRecords (marked (t .marks) (take (book .live) (tableOf ns ks′)))) (eb : brought ≡ broughtWeight body)
+        (ef : (ks′ : List (List ℕ)) → off ≡ runSum weightShare 0 0 (marked (t .marks) (take (book .live) (tableOf ns ks′)))) (eb : brought ≡ broughtWeight body)
         (er : trade ≡ cond on (tradeOfOn body (tradesOf (book .values)) (openPars (tradesOf (book .values)))) target) where
       tests : (ccOrDk (typeOf body) && not (listedFine body (take (book .live) (tableOf ns ks)))) ≡ false
       tests = takes-all (ccOrDk (typeOf body)) (listedFine body (take (book .live) (tableOf ns ks))) (t .fine) (tk .fine) (not-false (t .fine) h37)
@@ -165,8 +169,11 @@ module _ (book : Book) (ns ks : List (List ℕ)) (body : List ℕ) (y : Ready bo
       pub off-is : off ≡ weightOfRecords (taken (callOn book ns ks body room))
       off-is =
           ef ks
-          ∙ ap weightOfRecords
+          ∙ ap (runSum weightShare 0 0)
           (marked-keep (isTaken (targetOf body) (listed body)) (t .marks) (take (book .live) (tableOf ns ks)) (omega (arith, size, within, few, tk .size), tk .marked (not-false (t .fine) h37)))
+          ∙ weight-runs (book .values) (keep (isTaken (targetOf body) (listed body)) (take (book .live) (tableOf ns ks)))
+          (ordered-keep (isTaken (targetOf body) (listed body)) (take (book .live) (tableOf ns ks)) (sure .ordered))
+          (all-keep (recordFine (book .values)) (isTaken (targetOf body) (listed body)) (take (book .live) (tableOf ns ks)) (sure .records))
 
       module _ (p : Bool) (ep : p ≡ (ltb trade (length (tradesOf (book .values))) && leb brought (tradeAt (tradesOf (book .values)) trade .left + off))) where
         par-is : p ≡ parFine (callOn book ns ks body room)

@@ -1,7 +1,7 @@
 -- Each test decides one fact of 42 in its order; a fact that holds is handed to the tests after it.
 use native.Mathlib.Omega.{arith}
 use borrow.Author.Needs.{needs}
-use Rattle.soundness.proofs.Whole.{unlike, values-fail, few, table-long, line-fails, live-long, rows-fail, ordered, all-light, once-fails, zeros-fail, all-hold}
+use Rattle.soundness.proofs.Whole.{unlike, values-fail, few, table-long, line-fails, live-long, rows-fail, ordered, rows-fine, all-light, once-fails, zeros-fail, all-hold}
 use Rattle.soundness.proofs.is_sound.Tie as tie
 use Rattle.soundness.proofs.is_sound.Statement.{statement}
 
@@ -45,7 +45,7 @@ returns-8 : tie.Need-returns-8
 returns-8 c = zeros-fail (c .before .before .before .before .before .before .before .before .before .before .before .before .before .before .before .args .book) (c .before .before .before .before .before .before .before .before .before .before .before .before .before .before .before .args .numbers .now) (c .before .before .before .before .before .before .before .before .before .before .before .before .before .before .before .args .keys .now) (c .before .before .before .before .before .before .before .before .before .before .before .before .if1 .left) _ (c .before .before .before .before .before .before .before .before .before .before .before .values-fine .ensures) (c .before .before .before .before .before .before .before .before .before .before .if2 .left) (c .before .before .before .before .before .before .before .before .before .if3 .left) _ (c .before .before .before .before .before .before .before .before .sound .ensures) (c .before .before .before .before .before .before .before .if4 .left) (c .before .before .before .before .before .before .if5 .left) _ (c .before .before .before .before .before .rows-fine .ensures) (c .before .before .before .before .if6 .left) _ (c .before .before .before .fields-once .ensures) (c .before .before .if7 .left) _ (c .before .zeros-after .ensures) (c .if8 .taken)
 
 pars-fine-requires : tie.Need-pars-fine-requires
-pars-fine-requires c κs = (few (c .before .before .before .before .before .before .before .before .before .before .before .before .before .before .before .args .book) (c .before .before .before .before .before .before .before .before .before .before .before .before .before .before .before .args .numbers .now) (c .before .before .before .before .before .before .before .before .before .before .before .before .before .before .before .args .keys .now) (c .before .before .before .before .before .before .before .before .before .before .before .before .if1 .left) _ (c .before .before .before .before .before .before .before .before .before .before .before .values-fine .ensures) (c .before .before .before .before .before .before .before .before .before .before .if2 .left), omega arith, omega arith, all-light (c .before .before .before .before .before .before .before .before .before .before .before .before .before .before .before .args .book) (c .before .before .before .before .before .before .before .before .before .before .before .before .before .before .before .args .numbers .now) (c .before .before .before .before .before .before .before .before .before .before .before .before .before .before .before .args .keys .now) (c .before .before .before .before .before .before .before .before .before .before .before .before .if1 .left) _ (c .before .before .before .before .before .before .before .before .before .before .before .values-fine .ensures) (c .before .before .before .before .before .before .before .before .before .before .if2 .left) (c .before .before .before .before .before .before .before .before .before .if3 .left) _ (c .before .before .before .before .before .before .before .before .sound .ensures) (c .before .before .before .before .before .before .before .if4 .left) (c .before .before .before .before .before .before .if5 .left) _ (c .before .before .before .before .before .rows-fine .ensures) (c .before .before .before .before .if6 .left))
+pars-fine-requires c κs = (few (c .before .before .before .before .before .before .before .before .before .before .before .before .before .before .before .args .book) (c .before .before .before .before .before .before .before .before .before .before .before .before .before .before .before .args .numbers .now) (c .before .before .before .before .before .before .before .before .before .before .before .before .before .before .before .args .keys .now) (c .before .before .before .before .before .before .before .before .before .before .before .before .if1 .left) _ (c .before .before .before .before .before .before .before .before .before .before .before .values-fine .ensures) (c .before .before .before .before .before .before .before .before .before .before .if2 .left), omega arith, omega arith, all-light (c .before .before .before .before .before .before .before .before .before .before .before .before .before .before .before .args .book) (c .before .before .before .before .before .before .before .before .before .before .before .before .before .before .before .args .numbers .now) (c .before .before .before .before .before .before .before .before .before .before .before .before .before .before .before .args .keys .now) (c .before .before .before .before .before .before .before .before .before .before .before .before .if1 .left) _ (c .before .before .before .before .before .before .before .before .before .before .before .values-fine .ensures) (c .before .before .before .before .before .before .before .before .before .before .if2 .left) (c .before .before .before .before .before .before .before .before .before .if3 .left) _ (c .before .before .before .before .before .before .before .before .sound .ensures) (c .before .before .before .before .before .before .before .if4 .left) (c .before .before .before .before .before .before .if5 .left) _ (c .before .before .before .before .before .rows-fine .ensures) (c .before .before .before .before .if6 .left), rows-fine (c .before .before .before .before .before .before .before .before .before .before .before .before .before .before .before .args .book) (c .before .before .before .before .before .before .before .before .before .before .before .before .before .before .before .args .numbers .now) (c .before .before .before .before .before .before .before .before .before .before .before .before .before .before .before .args .keys .now) (c .before .before .before .before .before .before .before .before .before .before .before .before .if1 .left) _ (c .before .before .before .before .before .before .before .before .before .before .before .values-fine .ensures) (c .before .before .before .before .before .before .before .before .before .before .if2 .left) (c .before .before .before .before .before .before .before .before .before .if3 .left) _ (c .before .before .before .before .before .before .before .before .sound .ensures) (c .before .before .before .before .before .before .before .if4 .left) (c .before .before .before .before .before .before .if5 .left) _ (c .before .before .before .before .before .rows-fine .ensures) (c .before .before .before .before .if6 .left))
 
 returns-9 : tie.Need-returns-9
 returns-9 c = all-hold (c .before .before .before .before .before .before .before .before .before .before .before .before .before .before .before .before .args .book) (c .before .before .before .before .before .before .before .before .before .before .before .before .before .before .before .before .args .numbers .now) (c .before .before .before .before .before .before .before .before .before .before .before .before .before .before .before .before .args .keys .now) (c .before .before .before .before .before .before .before .before .before .before .before .before .before .if1 .left) _ (c .before .before .before .before .before .before .before .before .before .before .before .before .values-fine .ensures) (c .before .before .before .before .before .before .before .before .before .before .before .if2 .left) (c .before .before .before .before .before .before .before .before .before .before .if3 .left) _ (c .before .before .before .before .before .before .before .before .before .sound .ensures) (c .before .before .before .before .before .before .before .before .if4 .left) (c .before .before .before .before .before .before .before .if5 .left) _ (c .before .before .before .before .before .before .rows-fine .ensures) (c .before .before .before .before .before .if6 .left) _ (c .before .before .before .before .fields-once .ensures) (c .before .before .before .if7 .left) _ (c .before .before .zeros-after .ensures) (c .before .if8 .left) _ (c .pars-fine .ensures)
