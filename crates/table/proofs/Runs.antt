@@ -11,7 +11,8 @@ use Rattle.lists.specs.Lists.{keep, all, sumOf}
 use Rattle.lists.proofs.Tests.{and-left, and-right}
 use Rattle.book.specs.declared.Pool.{Pool}
 use Rattle.book.specs.declared.Values.{Values}
-use Rattle.book.specs.Opening.{elevenDigitsMax, between}
+use Rattle.book.specs.Opening.{elevenDigitsMax}
+use Rattle.lists.specs.Lists.{between}
 use Rattle.book.specs.Records.{kindGood, goodWeight, sameLot, LiveLot, livePools, joinLot, liveLots, liveWeight, liveMillions, ofTrade, weightOfRecords, tradeWeight, standingMillions}
 use Rattle.book.specs.Soundness.{kindFine, recordFine, follows, inOrder}
 use Rattle.book.proofs.ListLaws.{sum-keep}
