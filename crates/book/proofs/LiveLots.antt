@@ -28,36 +28,35 @@ use Rattle.book.proofs.Matched.{fields-equal, collides, apart, once-apa
 use Rattle.book.proofs.Targets.{fields-refl, has-in, has-out, last-fields, in-fieldsOfLots, distinct-lot, under-one, under-message}
 
 -- ---- the lots of any records
-abbrev alone : Pool → LiveLot
+abbrev pub alone : Pool → LiveLot
 alone r = record { first = r; rest = [] }
 
-abbrev joined : Pool → LiveLot → LiveLot
+abbrev pub joined : Pool → LiveLot → LiveLot
 joined r k = record { first = r; rest = livePools k }
 
--- a lot after a record has joined: it alone, one that it joined, or one of the others
-join-cases : (r : Pool) (ls : List LiveLot) (l : LiveLot) → l ∈ joinLot r ls
-    → (l ≡ alone r) ⊎ (((k : LiveLot) × (k ∈ ls) × (sameLot (k .first) r ≡ true) × (l ≡ joined r k)) ⊎ (l ∈ ls))
+-- a lot after a record has joined: one of those before, or one that it begins, with the records of a lot that it joined
+abbrev Begun : Pool → List LiveLot → LiveLot → Type 0
+Begun r ls l = (l .first ≡ r) × ((s : Pool) → s ∈ l .rest → (k : LiveLot) × (k ∈ ls) × (sameLot (k .first) r ≡ true) × (s ∈ livePools k))
+
+join-cases : (r : Pool) (ls : List LiveLot) (l : LiveLot) → l ∈ joinLot r ls → (l ∈ ls) ⊎ Begun r ls l
 join-cases r [] l m = go (List·Memᴰ·cases-cons m)
   where
-    go : (l ≡ alone r) ⊎ (l ∈ []) → (l ≡ alone r) ⊎ (((k : LiveLot) × (k ∈ []) × (sameLot (k .first) r ≡ true) × (l ≡ joined r k)) ⊎ (l ∈ []))
-    go (inl e) = inl e
-    go (inr n) = inr (inr n)
+    go : (l ≡ alone r) ⊎ (l ∈ []) → (l ∈ []) ⊎ Begun r [] l
+    go (inl e) = inr (rw e (refl, λ s n. absurd (List·Memᴰ·not-nil n)))
+    go (inr n) = inl n
 join-cases r (k ∷ ks) l m = go (sameLot (k .first) r) refl m
   where
-    Cases : Type 0
-    Cases = (l ≡ alone r) ⊎ (((h : LiveLot) × (h ∈ (k ∷ ks)) × (sameLot (h .first) r ≡ true) × (l ≡ joined r h)) ⊎ (l ∈ (k ∷ ks)))
+    one : (l ≡ alone r) ⊎ (l ∈ (k ∷ ks)) → (l ∈ (k ∷ ks)) ⊎ Begun r (k ∷ ks) l
+    one (inl e) = inr (rw e (refl, λ s n. absurd (List·Memᴰ·not-nil n)))
+    one (inr n) = inl n
 
-    one : (l ≡ alone r) ⊎ (l ∈ (k ∷ ks)) → Cases
-    one (inl e) = inl e
-    one (inr n) = inr (inr n)
+    two : sameLot (k .first) r ≡ true → (l ≡ joined r k) ⊎ (l ∈ ks) → (l ∈ (k ∷ ks)) ⊎ Begun r (k ∷ ks) l
+    two t (inl e) = inr (rw e (refl, λ s n. (k, List·Memᴰ·head refl, t, n)))
+    two t (inr n) = inl (List·Memᴰ·tail n)
 
-    two : sameLot (k .first) r ≡ true → (l ≡ joined r k) ⊎ (l ∈ ks) → Cases
-    two s (inl e) = inr (inl (k, List·Memᴰ·head refl, s, e))
-    two s (inr n) = inr (inr (List·Memᴰ·tail n))
-
-    go : (b : Bool) → sameLot (k .first) r ≡ b → l ∈ cond b (joined r k ∷ ks) (alone r ∷ (k ∷ ks)) → Cases
-    go true s n = two s (List·Memᴰ·cases-cons n)
-    go false s n = one (List·Memᴰ·cases-cons n)
+    go : (b : Bool) → sameLot (k .first) r ≡ b → l ∈ cond b (joined r k ∷ ks) (alone r ∷ (k ∷ ks)) → (l ∈ (k ∷ ks)) ⊎ Begun r (k ∷ ks) l
+    go true t n = two t (List·Memᴰ·cases-cons n)
+    go false t n = one (List·Memᴰ·cases-cons n)
 
 -- the record is in one of them, and so are those that were in one before
 join-own : (r : Pool) (ls : List LiveLot) → (l : LiveLot) × (l ∈ joinLot r ls) × (r ∈ livePools l)
@@ -87,44 +86,23 @@ in-live (q ∷ rs) r m = go (List·Memᴰ·cases-cons m) (in-live rs r)
 
 live-in : (rs : List Pool) (l : LiveLot) → l ∈ liveLots rs → (r : Pool) → r ∈ livePools l → r ∈ rs
 live-in [] l m r n = absurd (List·Memᴰ·not-nil m)
-live-in (q ∷ rs) l m r n = go (λ k mk. live-in rs k mk r) (join-cases q (liveLots rs) l m)
+live-in (q ∷ rs) l m r n = go (join-cases q (liveLots rs) l m) (List·Memᴰ·cases-cons n) (λ k mk. live-in rs k mk r)
   where
-    Below : Type 0
-    Below = (k : LiveLot) → k ∈ liveLots rs → r ∈ livePools k → r ∈ rs
-
-    by : Below → (k : LiveLot) → k ∈ liveLots rs → (r ≡ q) ⊎ (r ∈ livePools k) → r ∈ (q ∷ rs)
-    by below k mk (inl e) = List·Memᴰ·head e
-    by below k mk (inr o) = List·Memᴰ·tail (below k mk o)
-
-    only : (r ≡ q) ⊎ (r ∈ []) → r ∈ (q ∷ rs)
-    only (inl e) = List·Memᴰ·head e
-    only (inr o) = absurd (List·Memᴰ·not-nil o)
-
-    go : Below → (l ≡ alone q) ⊎ (((k : LiveLot) × (k ∈ liveLots rs) × (sameLot (k .first) q ≡ true) × (l ≡ joined q k)) ⊎ (l ∈ liveLots rs)) → r ∈ (q ∷ rs)
-    go below (inl e) = only (List·Memᴰ·cases-cons (rw e at n))
-    go below (inr (inl (k, mk, s, e))) = by below k mk (List·Memᴰ·cases-cons (rw e at n))
-    go below (inr (inr o)) = List·Memᴰ·tail (below l o n)
+    go : (l ∈ liveLots rs) ⊎ Begun q (liveLots rs) l → (r ≡ l .first) ⊎ (r ∈ l .rest) → ((k : LiveLot) → k ∈ liveLots rs → r ∈ livePools k → r ∈ rs) → r ∈ (q ∷ rs)
+    go (inl o) w below = List·Memᴰ·tail (below l o n)
+    go (inr (e, f)) (inl p) below = List·Memᴰ·head (p ∙ e)
+    go (inr (e, f)) (inr o) below = let (k, mk, t, w) = f r o in List·Memᴰ·tail (below k mk w)
 
 -- the records of a live lot are of one lot
 live-lot : (rs : List Pool) (l : LiveLot) → l ∈ liveLots rs → (r : Pool) → r ∈ livePools l → sameLot (l .first) r ≡ true
 live-lot [] l m r n = absurd (List·Memᴰ·not-nil m)
-live-lot (q ∷ rs) l m r n = go (λ k mk. live-lot rs k mk r) (join-cases q (liveLots rs) l m)
+live-lot (q ∷ rs) l m r n = go (join-cases q (liveLots rs) l m) (List·Memᴰ·cases-cons n) (λ k mk. live-lot rs k mk r)
   where
-    Below : Type 0
-    Below = (k : LiveLot) → k ∈ liveLots rs → r ∈ livePools k → sameLot (k .first) r ≡ true
-
-    by : Below → (k : LiveLot) → k ∈ liveLots rs → sameLot (k .first) q ≡ true → (r ≡ q) ⊎ (r ∈ livePools k) → sameLot q r ≡ true
-    by below k mk s (inl e) = rw e (lot-refl q)
-    by below k mk s (inr o) = lot-trans q (k .first) r (lot-sym (k .first) q s) (below k mk o)
-
-    only : (r ≡ q) ⊎ (r ∈ []) → sameLot q r ≡ true
-    only (inl e) = rw e (lot-refl q)
-    only (inr o) = absurd (List·Memᴰ·not-nil o)
-
-    go : Below → (l ≡ alone q) ⊎ (((k : LiveLot) × (k ∈ liveLots rs) × (sameLot (k .first) q ≡ true) × (l ≡ joined q k)) ⊎ (l ∈ liveLots rs)) → sameLot (l .first) r ≡ true
-    go below (inl e) = rw e (only (List·Memᴰ·cases-cons (rw e at n)))
-    go below (inr (inl (k, mk, s, e))) = rw e (by below k mk s (List·Memᴰ·cases-cons (rw e at n)))
-    go below (inr (inr o)) = below l o n
+    go : (l ∈ liveLots rs) ⊎ Begun q (liveLots rs) l → (r ≡ l .first) ⊎ (r ∈ l .rest) → ((k : LiveLot) → k ∈ liveLots rs → r ∈ livePools k → sameLot (k .first) r ≡ true)
+        → sameLot (l .first) r ≡ true
+    go (inl o) w below = below l o n
+    go (inr (e, f)) (inl p) below = rw p (lot-refl (l .first))
+    go (inr (e, f)) (inr o) below = let (k, mk, t, w) = f r o in rw e (lot-trans q (k .first) r (lot-sym (k .first) q t) (below k mk w))
 
 -- ---- the lots of ordered records
 -- each lot before the others, and not one of them
@@ -173,27 +151,18 @@ live-all rs order l ml r s mr ms e =
 -- they agree on kind and millions
 live-agree : (rs : List Pool) → chained rs ≡ true → (l : LiveLot) → l ∈ liveLots rs → (r : Pool) → r ∈ livePools l → (l .first .kind ≡ r .kind) × (l .first .millions ≡ r .millions)
 live-agree [] e l m r n = absurd (List·Memᴰ·not-nil m)
-live-agree (q ∷ rs) e l m r n = go (λ k mk. live-agree rs (and-right (all (follows q) rs) (chained rs) e) k mk r) (join-cases q (liveLots rs) l m)
+live-agree (q ∷ rs) e l m r n = go (join-cases q (liveLots rs) l m) (List·Memᴰ·cases-cons n) (λ k mk. live-agree rs (and-right (all (follows q) rs) (chained rs) e) k mk r)
   where
-    Below : Type 0
-    Below = (k : LiveLot) → k ∈ liveLots rs → r ∈ livePools k → (k .first .kind ≡ r .kind) × (k .first .millions ≡ r .millions)
-
-    by : Below → (k : LiveLot) → k ∈ liveLots rs → sameLot (k .first) q ≡ true → (r ≡ q) ⊎ (r ∈ livePools k) → (q .kind ≡ r .kind) × (q .millions ≡ r .millions)
-    by below k mk s (inl p) = (rw p, rw p)
-    by below k mk s (inr o) =
-        let near = follows-lot q (k .first) (all-out (follows q) (live-in rs k mk (k .first) (List·Memᴰ·head refl)) (and-left (all (follows q) rs) (chained rs) e)) (lot-sym (k .first) q s) in
-        let far = below k mk o in
-        (near .0 ∙ far .0, near .1 ∙ far .1)
-
-    only : (r ≡ q) ⊎ (r ∈ []) → (q .kind ≡ r .kind) × (q .millions ≡ r .millions)
-    only (inl p) = (rw p, rw p)
-    only (inr o) = absurd (List·Memᴰ·not-nil o)
-
-    go : Below → (l ≡ alone q) ⊎ (((k : LiveLot) × (k ∈ liveLots rs) × (sameLot (k .first) q ≡ true) × (l ≡ joined q k)) ⊎ (l ∈ liveLots rs))
+    go : (l ∈ liveLots rs) ⊎ Begun q (liveLots rs) l → (r ≡ l .first) ⊎ (r ∈ l .rest)
+        → ((k : LiveLot) → k ∈ liveLots rs → r ∈ livePools k → (k .first .kind ≡ r .kind) × (k .first .millions ≡ r .millions))
         → (l .first .kind ≡ r .kind) × (l .first .millions ≡ r .millions)
-    go below (inl p) = rw p (only (List·Memᴰ·cases-cons (rw p at n)))
-    go below (inr (inl (k, mk, s, p))) = rw p (by below k mk s (List·Memᴰ·cases-cons (rw p at n)))
-    go below (inr (inr o)) = below l o n
+    go (inl o) w below = below l o n
+    go (inr (p, f)) (inl u) below = (rw u, rw u)
+    go (inr (p, f)) (inr o) below =
+        let (k, mk, t, w) = f r o in
+        let near = follows-lot q (k .first) (all-out (follows q) (live-in rs k mk (k .first) (List·Memᴰ·head refl)) (and-left (all (follows q) rs) (chained rs) e)) (lot-sym (k .first) q t) in
+        let far = below k mk w in
+        rw p (near .0 ∙ far .0, near .1 ∙ far .1)
 
 -- matched fields once: two records of a message with equal fields are one
 once-same : (rs : List Pool) → pairwise apart rs ≡ true → (r s : Pool) → r ∈ rs → s ∈ rs → r .message ≡ s .message → liveFields r ≡ liveFields s → r ≡ s
@@ -234,17 +203,17 @@ fields-out (k ∷ ks) f m = go (List·Memᴰ·append-cases (liveLotFields k) m) 
 
 -- ---- 37
 module _ (tgt : Field) (rs : List Pool) (order : inOrder rs ≡ true) (once : fieldsOnce rs ≡ true) where
-  abbrev T : List Pool
-  T = keep (under tgt) rs
+  abbrev targetPools : List Pool
+  targetPools = keep (under tgt) rs
 
-  in-target : (r : Pool) → r ∈ rs → under tgt r ≡ true → r ∈ T
+  in-target : (r : Pool) → r ∈ rs → under tgt r ≡ true → r ∈ targetPools
   in-target r m u = keep-member (under tgt) m u
 
   under-lot : (r s : Pool) → under tgt r ≡ true → sameLot r s ≡ true → under tgt s ≡ true
   under-lot r s u e = under-message tgt r s u (lot-parts r s e .0)
 
-  lot-all : (l : LiveLot) → l ∈ liveLots T → (r s : Pool) → r ∈ livePools l → s ∈ T → sameLot r s ≡ true → s ∈ livePools l
-  lot-all = live-all T (ordered-keep (under tgt) rs order)
+  lot-all : (l : LiveLot) → l ∈ liveLots targetPools → (r s : Pool) → r ∈ livePools l → s ∈ targetPools → sameLot r s ≡ true → s ∈ livePools l
+  lot-all = live-all targetPools (ordered-keep (under tgt) rs order)
 
   -- fields that are live have their record
   live-record : (fs : List Fields) → allLive tgt fs rs ≡ true → (f : Fields) → f ∈ fs → (r : Pool) × (r ∈ rs) × (under tgt r ≡ true) × (liveFields r ≡ f)
@@ -281,10 +250,10 @@ module _ (tgt : Field) (rs : List Pool) (order : inOrder rs ≡ true) (once : fi
     taken-fields : (r : Pool) → isTaken tgt fs r ≡ true → liveFields r ∈ fs
     taken-fields r t = has-out (liveFields r) fs (and-right (under tgt r) (hasFields (liveFields r) fs) t)
 
-    abbrev gs : List Fields
-    gs = fieldsOfLive (keep (isListedIn fs) (liveLots T))
+    abbrev lotsFields : List Fields
+    lotsFields = fieldsOfLive (keep (isListedIn fs) (liveLots targetPools))
 
-    touched : (l : LiveLot) → l ∈ liveLots T → (r : Pool) → r ∈ livePools l → liveFields r ∈ fs → l ∈ keep (isListedIn fs) (liveLots T)
+    touched : (l : LiveLot) → l ∈ liveLots targetPools → (r : Pool) → r ∈ livePools l → liveFields r ∈ fs → l ∈ keep (isListedIn fs) (liveLots targetPools)
     touched l ml r mr mf = keep-member (isListedIn fs) ml (any-in (λ (g : Fields). hasFields g fs) (Memᴰ·map liveFields mr) (has-in mf))
 
     exact-live : exactLots tgt fs rs ≡ exactByRecord tgt fs rs
@@ -292,45 +261,45 @@ module _ (tgt : Field) (rs : List Pool) (order : inOrder rs ≡ true) (once : fi
       where
         there : exactLots tgt fs rs ≡ true → exactByRecord tgt fs rs ≡ true
         there e =
-            let e₁ = and-right (distinct fs) (all (λ (f : Fields). hasFields f gs) fs && all (λ (g : Fields). hasFields g fs) gs) e in
-            let fore = and-left (all (λ (f : Fields). hasFields f gs) fs) (all (λ (g : Fields). hasFields g fs) gs) e₁ in
-            let aft = and-right (all (λ (f : Fields). hasFields f gs) fs) (all (λ (g : Fields). hasFields g fs) gs) e₁ in
+            let e₁ = and-right (distinct fs) (all (λ (f : Fields). hasFields f lotsFields) fs && all (λ (g : Fields). hasFields g fs) lotsFields) e in
+            let fore = and-left (all (λ (f : Fields). hasFields f lotsFields) fs) (all (λ (g : Fields). hasFields g fs) lotsFields) e₁ in
+            let aft = and-right (all (λ (f : Fields). hasFields f lotsFields) fs) (all (λ (g : Fields). hasFields g fs) lotsFields) e₁ in
             both (allLive tgt fs rs) (distinct fs && wholeLots tgt fs rs)
             (all-in (λ (f : Fields). any (λ (r : Pool). under tgt r && sameFields (liveFields r) f) rs) fs
             (λ f m.
-            let (l, ml, (r, mr, er)) = fields-out (keep (isListedIn fs) (liveLots T)) f (has-out f gs (all-out (λ (f : Fields). hasFields f gs) m fore)) in
-            let (a, b) = keep-in (under tgt) rs (live-in T l (keep-in (isListedIn fs) (liveLots T) ml .0) r mr) in
+            let (l, ml, (r, mr, er)) = fields-out (keep (isListedIn fs) (liveLots targetPools)) f (has-out f lotsFields (all-out (λ (f : Fields). hasFields f lotsFields) m fore)) in
+            let (a, b) = keep-in (under tgt) rs (live-in targetPools l (keep-in (isListedIn fs) (liveLots targetPools) ml .0) r mr) in
             is-live f r a b er))
             (both (distinct fs) (wholeLots tgt fs rs) (and-left (distinct fs) _ e)
             (whole-in
             (λ r s mr ms t same.
             let u = taken-under r t in
             let v = under-lot r s u same in
-            let (l, ml, rl) = in-live T r (in-target r mr u) in
+            let (l, ml, rl) = in-live targetPools r (in-target r mr u) in
             let sl = lot-all l ml r s rl (in-target s ms v) same in
-            taken-of s v (has-out (liveFields s) fs (all-out (λ (g : Fields). hasFields g fs) (fields-in (keep (isListedIn fs) (liveLots T)) l s (touched l ml r rl (taken-fields r t)) sl) aft)))))
+            taken-of s v (has-out (liveFields s) fs (all-out (λ (g : Fields). hasFields g fs) (fields-in (keep (isListedIn fs) (liveLots targetPools)) l s (touched l ml r rl (taken-fields r t)) sl) aft)))))
 
         back : exactByRecord tgt fs rs ≡ true → exactLots tgt fs rs ≡ true
         back e =
             let li = and-left (allLive tgt fs rs) (distinct fs && wholeLots tgt fs rs) e in
             let e₁ = and-right (allLive tgt fs rs) (distinct fs && wholeLots tgt fs rs) e in
             let w = and-right (distinct fs) (wholeLots tgt fs rs) e₁ in
-            both (distinct fs) (all (λ (f : Fields). hasFields f gs) fs && all (λ (g : Fields). hasFields g fs) gs) (and-left (distinct fs) (wholeLots tgt fs rs) e₁)
-            (both (all (λ (f : Fields). hasFields f gs) fs) (all (λ (g : Fields). hasFields g fs) gs)
-            (all-in (λ (f : Fields). hasFields f gs) fs
+            both (distinct fs) (all (λ (f : Fields). hasFields f lotsFields) fs && all (λ (g : Fields). hasFields g fs) lotsFields) (and-left (distinct fs) (wholeLots tgt fs rs) e₁)
+            (both (all (λ (f : Fields). hasFields f lotsFields) fs) (all (λ (g : Fields). hasFields g fs) lotsFields)
+            (all-in (λ (f : Fields). hasFields f lotsFields) fs
             (λ f m.
             let (r, mr, u, er) = live-record fs li f m in
-            let (l, ml, rl) = in-live T r (in-target r mr u) in
-            has-in (Memᴰ·cast (sym er) (fields-in (keep (isListedIn fs) (liveLots T)) l r (touched l ml r rl (Memᴰ·cast er m)) rl))))
-            (all-in (λ (g : Fields). hasFields g fs) gs
+            let (l, ml, rl) = in-live targetPools r (in-target r mr u) in
+            has-in (Memᴰ·cast (sym er) (fields-in (keep (isListedIn fs) (liveLots targetPools)) l r (touched l ml r rl (Memᴰ·cast er m)) rl))))
+            (all-in (λ (g : Fields). hasFields g fs) lotsFields
             (λ g m.
-            let (l, ml, (s, sl, es)) = fields-out (keep (isListedIn fs) (liveLots T)) g m in
-            let (mk, li′) = keep-in (isListedIn fs) (liveLots T) ml in
+            let (l, ml, (s, sl, es)) = fields-out (keep (isListedIn fs) (liveLots targetPools)) g m in
+            let (mk, li′) = keep-in (isListedIn fs) (liveLots targetPools) ml in
             let (f, mf, ef) = any-out (λ (g : Fields). hasFields g fs) (liveLotFields l) li′ in
             let (r, rl, er) = Memᴰ·of-map liveFields (livePools l) mf in
-            let (a, u) = keep-in (under tgt) rs (live-in T l mk r rl) in
-            let (b, v) = keep-in (under tgt) rs (live-in T l mk s sl) in
-            let same = lot-trans r (l .first) s (lot-sym (l .first) r (live-lot T l mk r rl)) (live-lot T l mk s sl) in
+            let (a, u) = keep-in (under tgt) rs (live-in targetPools l mk r rl) in
+            let (b, v) = keep-in (under tgt) rs (live-in targetPools l mk s sl) in
+            let same = lot-trans r (l .first) s (lot-sym (l .first) r (live-lot targetPools l mk r rl)) (live-lot targetPools l mk s sl) in
             let t = whole-out w r s a b (taken-of r u (Memᴰ·cast er (has-out f fs ef))) same in
             has-in (Memᴰ·cast (sym es) (taken-fields s t)))))
 
@@ -353,9 +322,9 @@ module _ (tgt : Field) (rs : List Pool) (order : inOrder rs ≡ true) (once : fi
     one-live = alike (oneLot tgt rs l) (oneByRecord tgt rs l) there back
       where
         there : oneLot tgt rs l ≡ true → oneByRecord tgt rs l ≡ true
-        there e = go (any-out (isLot l) (liveLots T) e)
+        there e = go (any-out (isLot l) (liveLots targetPools) e)
           where
-            go : (k : LiveLot) × (k ∈ liveLots T) × (isLot l k ≡ true) → oneByRecord tgt rs l ≡ true
+            go : (k : LiveLot) × (k ∈ liveLots targetPools) × (isLot l k ≡ true) → oneByRecord tgt rs l ≡ true
             go (k, mk, ek) =
                 both (wholeLots tgt fs rs) (all fit (keep q rs))
                 (whole-in fs (λ r s mr ms t same.
@@ -365,9 +334,9 @@ module _ (tgt : Field) (rs : List Pool) (order : inOrder rs ≡ true) (once : fi
                 let (mr, t) = keep-in q rs m in
                 let (y, my, ey) = first-of (keep q rs) r m in
                 let (b, u) = keep-in q rs my in
-                let near = live-lot T k mk r (mine r mr t) in
-                let far = live-lot T k mk y (mine y b u) in
-                let (kind, millions) = live-agree T (order-chained T (ordered-keep (under tgt) rs order)) k mk r (mine r mr t) in
+                let near = live-lot targetPools k mk r (mine r mr t) in
+                let far = live-lot targetPools k mk y (mine y b u) in
+                let (kind, millions) = live-agree targetPools (order-chained targetPools (ordered-keep (under tgt) rs order)) k mk r (mine r mr t) in
                 both (eqb (r .ordinal) (firstOrdinal (keep q rs))) (eqb (r .kind) (kindNumber (lotKind l)) && eqb (r .millions) (lotMillions l))
                 (eq-eqb (r .ordinal) (firstOrdinal (keep q rs)) (sym (lot-parts (k .first) r near .1) ∙ lot-parts (k .first) y far .1 ∙ sym ey))
                 (both (eqb (r .kind) (kindNumber (lotKind l))) (eqb (r .millions) (lotMillions l))
@@ -393,7 +362,7 @@ module _ (tgt : Field) (rs : List Pool) (order : inOrder rs ≡ true) (once : fi
                     let m = has-out (liveFields r) (liveLotFields k)
                     (all-out (λ (f : Fields). hasFields f (liveLotFields k)) (taken-fields fs r t) (and-left (all (λ (f : Fields). hasFields f (liveLotFields k)) fs) (all (λ (g : Fields). hasFields g fs) (liveLotFields k)) sides)) in
                     let (p, mp, ep) = Memᴰ·of-map liveFields (livePools k) m in
-                    let (a, u) = keep-in (under tgt) rs (live-in T k mk p mp) in
+                    let (a, u) = keep-in (under tgt) rs (live-in targetPools k mk p mp) in
                     let same : r ≡ p = once-same rs (sym (once-apart rs) ∙ once) r p mr a (under-one tgt r p (taken-under fs r t) u) (sym ep) in
                     rw same mp
 
@@ -402,7 +371,7 @@ module _ (tgt : Field) (rs : List Pool) (order : inOrder rs ≡ true) (once : fi
             let w = and-left (wholeLots tgt fs rs) (all fit (keep q rs)) e in
             let (r, mr, u, er) = live-record fs li (fieldsOf (l .last)) (last-fields l) in
             let t = taken-of fs r u (Memᴰ·cast er (last-fields l)) in
-            let (k, mk, rk) = in-live T r (in-target r mr u) in
+            let (k, mk, rk) = in-live targetPools r (in-target r mr u) in
             any-in (isLot l) mk
             (both (eachOnce fs (liveLotFields k)) (eqb (k .first .kind) (kindNumber (lotKind l)) && eqb (k .first .millions) (lotMillions l))
             (both (distinct fs) (all (λ (f : Fields). hasFields f (liveLotFields k)) fs && all (λ (g : Fields). hasFields g fs) (liveLotFields k)) di
@@ -417,7 +386,7 @@ module _ (tgt : Field) (rs : List Pool) (order : inOrder rs ≡ true) (once : fi
             (λ g m.
             let (p, mp, ep) = Memᴰ·of-map liveFields (livePools k) m in
             has-in (Memᴰ·cast (sym ep) (taken-fields fs p (whole w r mr t k mk rk p mp)))))))
-            (let b = keep-in (under tgt) rs (live-in T k mk (k .first) (List·Memᴰ·head refl)) .0 in
+            (let b = keep-in (under tgt) rs (live-in targetPools k mk (k .first) (List·Memᴰ·head refl)) .0 in
             let z = fits e (k .first) b (whole w r mr t k mk rk (k .first) (List·Memᴰ·head refl)) in
             both (eqb (k .first .kind) (kindNumber (lotKind l))) (eqb (k .first .millions) (lotMillions l))
             (eq-eqb (k .first .kind) (kindNumber (lotKind l)) (z .1)) (eq-eqb (k .first .millions) (lotMillions l) (z .2))))
@@ -432,10 +401,10 @@ module _ (tgt : Field) (rs : List Pool) (order : inOrder rs ≡ true) (once : fi
                 )
 
             -- a lot of which a record is taken is taken whole
-            whole : wholeLots tgt fs rs ≡ true → (r : Pool) → r ∈ rs → q r ≡ true → (k : LiveLot) → k ∈ liveLots T → r ∈ livePools k → (p : Pool) → p ∈ livePools k → q p ≡ true
+            whole : wholeLots tgt fs rs ≡ true → (r : Pool) → r ∈ rs → q r ≡ true → (k : LiveLot) → k ∈ liveLots targetPools → r ∈ livePools k → (p : Pool) → p ∈ livePools k → q p ≡ true
             whole w r mr t k mk rk p mp =
-                whole-out fs w r p mr (keep-in (under tgt) rs (live-in T k mk p mp) .0) t
-                (lot-trans r (k .first) p (lot-sym (k .first) r (live-lot T k mk r rk)) (live-lot T k mk p mp))
+                whole-out fs w r p mr (keep-in (under tgt) rs (live-in targetPools k mk p mp) .0) t
+                (lot-trans r (k .first) p (lot-sym (k .first) r (live-lot targetPools k mk r rk)) (live-lot targetPools k mk p mp))
 
 -- 37 over live lots is 37 record by record, in a table that is in order with matched fields once, for a CC whose lots are formed
 pub listed-by-record : (body : List ℕ) (rs : List Pool) → inOrder rs ≡ true → fieldsOnce rs ≡ true → (isCc (typeOf body) ≡ true → formedFor true (details body) ≡ true)

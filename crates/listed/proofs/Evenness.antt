@@ -13,9 +13,9 @@ use Rattle.book.specs.declared.Pool.{Pool}
 use Rattle.book.specs.Records.{sameLot}
 use Rattle.book.specs.Messages.{under}
 use Rattle.book.specs.Soundness.{inOrder, fieldsOnce}
-use Rattle.listed.specs.Marks.{Entry}
-use Rattle.book.proofs.Ordered.{lot-parts, is-lot}
+use Rattle.book.proofs.Ordered.{lot-parts, lot-sym, lot-trans}
 use Rattle.book.proofs.Targets.{under-message}
+use Rattle.listed.specs.Marks.{Entry}
 use Rattle.listed.proofs.Indexed.{lot-next}
 use Rattle.listed.proofs.Numbered.{entry, numbered, list-of, number-of}
 
@@ -24,21 +24,12 @@ module _ (tgt : Field) (f : ℕ → Pool) (n : ℕ) (order : inOrder (tab f n 0)
   abbrev pub Even : Type 0
   Even = (i : ℕ) → start ≤ i → i + 1 < stop → sameLot (f i) (f (i + 1)) ≡ true → m i ≡ m (i + 1)
 
-  lot-sym : (i j : ℕ) → sameLot (f i) (f j) ≡ true → sameLot (f j) (f i) ≡ true
-  lot-sym i j s = let p = lot-parts (f i) (f j) s in is-lot (f j) (f i) (sym (p .0)) (sym (p .1))
-
-  lot-trans : (i j k : ℕ) → sameLot (f i) (f j) ≡ true → sameLot (f i) (f k) ≡ true → sameLot (f j) (f k) ≡ true
-  lot-trans i j k s t =
-      let p = lot-parts (f i) (f j) s in
-      let q = lot-parts (f i) (f k) t in
-      is-lot (f j) (f k) (sym (p .0) ∙ q .0) (sym (p .1) ∙ q .1)
-
   even-from : stop ≤ n → Even → (d i : ℕ) → start ≤ i → i + d < stop → sameLot (f i) (f (i + d)) ≡ true → m i ≡ m (i + d)
   even-from b e zero i h l s = ap m (omega arith)
   even-from b e (suc d) i h l s =
       let q : i + suc d ≡ i + 1 + d = omega arith in
       let a : sameLot (f i) (f (i + 1)) ≡ true = lot-next f n order once i (i + suc d) (omega arith) (omega arith) s in
-      e i h (omega arith) a ∙ even-from b e d (i + 1) (omega arith) (omega arith) (rw q at (lot-trans i (i + 1) (i + suc d) a s)) ∙ ap m (sym q)
+      e i h (omega arith) a ∙ even-from b e d (i + 1) (omega arith) (omega arith) (rw q at (lot-trans (f (i + 1)) (f i) (f (i + suc d)) (lot-sym (f i) (f (i + 1)) a) s)) ∙ ap m (sym q)
 
   even-far : stop ≤ n → Even → (i j : ℕ) → start ≤ i → i < stop → start ≤ j → j < stop → sameLot (f i) (f j) ≡ true → m i ≡ m j
   even-far b e i j h l a d s = go (decLt i j)
@@ -49,7 +40,7 @@ module _ (tgt : Field) (f : ℕ → Pool) (n : ℕ) (order : inOrder (tab f n 0)
           even-from b e (j - i) i h (omega arith) (rw q s) ∙ ap m q
       go (no o) =
           let q : j + (i - j) ≡ i = omega (arith, o) in
-          sym (even-from b e (i - j) j a (omega (arith, q)) (rw q (lot-sym i j s)) ∙ ap m q)
+          sym (even-from b e (i - j) j a (omega (arith, q)) (rw q (lot-sym (f i) (f j) s)) ∙ ap m q)
 
   -- marks that are those of numbered lists of the target's rows
   module _ (gs : List (List ℕ))
@@ -91,7 +82,7 @@ module _ (tgt : Field) (f : ℕ → Pool) (n : ℕ) (order : inOrder (tab f n 0)
             inr (given (entry (e .lot) j) (w j (c g b i j l (Memᴰ·cast (sym r) d) s)) ∙ q)
 
     pub closed-even : ((g : List ℕ) → g ∈ gs → (i j : ℕ) → j < n → i ∈ g → sameLot (f i) (f j) ≡ true → j ∈ g) → Even
-    closed-even c i h l s = go (goes-over c i (i + 1) (omega arith) (omega arith) s) (goes-over c (i + 1) i (omega arith) (omega arith) (lot-sym i (i + 1) s))
+    closed-even c i h l s = go (goes-over c i (i + 1) (omega arith) (omega arith) s) (goes-over c (i + 1) i (omega arith) (omega arith) (lot-sym (f i) (f (i + 1)) s))
       where
         go : (m i ≡ 0) ⊎ (m (i + 1) ≡ m i) → (m (i + 1) ≡ 0) ⊎ (m i ≡ m (i + 1)) → m i ≡ m (i + 1)
         go (inr a) b = sym a

@@ -14,7 +14,7 @@ use Rattle.book.specs.declared.Pool.{Pool}
 use Rattle.book.specs.Records.{Fields, liveFields, sameFields, sameLot}
 use Rattle.book.specs.Soundness.{follows, inOrder, fieldsOnce}
 use Rattle.book.proofs.Targets.{fields-refl}
-use Rattle.book.proofs.Ordered.{follows-trans, lot-parts, is-lot, follows-lot, lot-between}
+use Rattle.book.proofs.Ordered.{follows-trans, lot-sym, follows-lot, lot-between}
 
 module _ {A : Type 0} (f : ℕ → A) where
   pub tab-in : (n i k : ℕ) → i ≤ k → k < i + n → f k ∈ tab f n i
@@ -94,8 +94,7 @@ module _ (f : ℕ → Pool) (n : ℕ) (order : inOrder (tab f n 0) ≡ true) (on
       go (yes e) d = (rw e, rw e)
       go (no e) (yes d) = follows-lot (f i) (f j) (follows-of i j d l) s
       go (no e) (no d) =
-          let p = lot-parts (f i) (f j) s in
-          let w = follows-lot (f j) (f i) (follows-of j i (omega (arith, e, d)) h) (is-lot (f j) (f i) (sym (p .0)) (sym (p .1))) in
+          let w = follows-lot (f j) (f i) (follows-of j i (omega (arith, e, d)) h) (lot-sym (f i) (f j) s) in
           (sym (w .0), sym (w .1))
 
   -- no two records of a message have equal fields

@@ -16,10 +16,10 @@ use Rattle.book.specs.Records.{kindNumber}
 use Rattle.book.specs.Soundness.{inOrder, fieldsOnce}
 use Rattle.book.specs.Checks.{isTaken}
 use Rattle.book.proofs.ByRecord.{firstOrdinal}
-use Rattle.listed.proofs.Indexed.{tab-in, tab-from, lot-alike}
 use Rattle.book.proofs.Ordered.{is-lot}
 use Rattle.book.proofs.ListLaws.{keep-member}
 use Rattle.book.proofs.Targets.{under-one}
+use Rattle.listed.proofs.Indexed.{tab-in, tab-from, lot-alike}
 use Rattle.listed.proofs.Taken.{fieldsAt, Within, taken-in, taken-out, map-from}
 
 first-of : (x : Pool) (xs : List Pool) → x ∈ xs → (y : Pool) × (y ∈ xs) × (firstOrdinal xs ≡ y .ordinal)

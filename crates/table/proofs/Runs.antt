@@ -16,6 +16,7 @@ use Rattle.lists.specs.Lists.{between}
 use Rattle.book.specs.Records.{kindGood, goodWeight, sameLot, LiveLot, livePools, joinLot, liveLots, liveWeight, liveMillions, ofTrade, weightOfRecords, tradeWeight, standingMillions}
 use Rattle.book.specs.Soundness.{kindFine, recordFine, follows, inOrder}
 use Rattle.book.proofs.ListLaws.{sum-keep}
+use Rattle.book.proofs.LiveLots.{alone, joined}
 use Rattle.book.proofs.Ordered.{lot-parts, lot-sym, follows-lot, follows-trade}
 use Rattle.table.specs.Runs.{runSum, weightShare, millionsShare, shareOf}
 
@@ -25,12 +26,6 @@ above v r e =
     let rest = leb 1 (r .ordinal) && (leb (r .current) elevenDigitsMax && kindFine r) in
     let p = and-left (between 1 (v .last) (r .message)) rest (and-right (ltb (r .trade) (v .count)) (between 1 (v .last) (r .message) && rest) e) in
     leb-true 1 (r .message) (and-left (leb 1 (r .message)) (leb (r .message) (v .last)) p)
-
-abbrev alone : Pool → LiveLot
-alone r = record { first = r; rest = [] }
-
-abbrev joined : Pool → LiveLot → LiveLot
-joined r l = record { first = r; rest = livePools l }
 
 -- a record is the first of the lots that it has joined
 first-lot : (r : Pool) (ls : List LiveLot) → (xs : List Pool) × ((ks : List LiveLot) × (joinLot r ls ≡ record { first = r; rest = xs } ∷ ks))
