@@ -17,11 +17,12 @@ senderChecks = take 18 (drop 1 checks)
 abbrev pub noCheck : Check
 noCheck = check reason.Opening every (λ (c : Call). false)
 
--- the check with a number, one of those before 25, which gives its verdict itself
+-- the check with a number
 abbrev pub withNumber : ℕ → List Check → Check
 withNumber n [] = noCheck
 withNumber n (k ∷ ks) = cond (eqb n (numberOf (k .reason))) k (withNumber n ks)
 
+-- one of those before 25, which gives its verdict itself
 unfoldable pub numbered : ℕ → Check
 numbered n = withNumber n (take 17 senderChecks)
 
