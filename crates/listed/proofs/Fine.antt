@@ -35,7 +35,7 @@ use Rattle.listed.specs.declared.Listed.{Listed}
 use Rattle.listed.specs.declared.Alike.{Alike}
 use Rattle.listed.specs.Marks.{Rows, entriesFrom, markAll, unmarked, evenAt, marksEven}
 use Rattle.listed.specs.Lots.{numbersOf, alikePool, alikeAll, noneAlike}
-use Rattle.listed.specs.Listing.{Findable, Decides, Judgeable, judgedBy}
+use Rattle.listed.specs.Listing.{Findable, rowIn, marksIn, Decides, Judgeable, judgedBy}
 use Rattle.listed.proofs.Indexed.{all-each, each-all}
 use Rattle.listed.proofs.Marking.{markAt}
 use Rattle.listed.proofs.Evenness.{Even}
@@ -84,6 +84,7 @@ module _ (body : List ℕ) (ns ks : List (List ℕ)) (live : ℕ) (given : Finda
       record {
         fine = λ c. none ∙ sym by-record;
         marks = λ c f. absurd (false≢true f);
+        whole = λ c f. absurd (false≢true f);
       }
 
   -- found
@@ -212,13 +213,14 @@ module _ (body : List ℕ) (ns ks : List (List ℕ)) (live : ℕ) (given : Finda
     all-live = sym (found-live body ns ks live (given .within) (given .ordered) p finds) ∙ found
 
     pub decided : (r : Listed) → r ≡ judgedBy (isCc (typeOf body)) row ns (target-run .start) (target-run .stop) (details body) → Decides body ns ks live r
-    unfolding judgedBy listed
+    unfolding judgedBy listed marksIn
     decided r e =
         record {
           fine = λ c. ap (λ (s : Listed). s .fine) e ∙ shown (typeOf body) refl c all-live .0 ∙ sym by-record;
           marks = λ c g i h.
               ap (λ (s : Listed). eqb (markAt s i) 0) e
               ∙ shown (typeOf body) refl c all-live .1 (and-left (marksFor (isCc (typeOf body)) .fine) (evenFor (isCc (typeOf body)) && (not (isCc (typeOf body)) || alikeLots)) (sym (ap (λ (s : Listed). s .fine) e) ∙ g)) i h;
+          whole = λ c g. ap (λ (s : Listed). s .marks) e ∙ ap (λ (xs : List Pool). markAll unmarked (entriesFrom (isCc (typeOf body)) (rowIn body xs) 1 (details body)) .marks) (sym rows-tab);
         }
 
   -- ---- the code's run

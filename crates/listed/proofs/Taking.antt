@@ -18,7 +18,7 @@ use Rattle.table.proofs.Rows.{length-table}
 use Rattle.places.proofs.Cells.{getD-zeros}
 use Rattle.places.proofs.Seeking.{lists-nothing}
 use Rattle.listed.specs.declared.Listed.{Listed}
-use Rattle.listed.specs.Listing.{Findable, Decides, withoutMarks, Takes}
+use Rattle.listed.specs.Listing.{Findable, Decides, withoutMarks, marksTaken, Takes}
 
 module _ (k : MessageType) (body : List ℕ) (cc dk : Bool) (ek : k ≡ typeOf body) (ec : cc ≡ isCc k) (ed : dk ≡ isDk k) where
   either : (cc || dk) ≡ ccOrDk (typeOf body)
@@ -26,7 +26,7 @@ module _ (k : MessageType) (body : List ℕ) (cc dk : Bool) (ek : k ≡ typeOf b
 
   -- a type that takes nothing off
   pub takes-none : not (cc || dk) ≡ true → (rs : List Pool) (r : Listed) → r ≡ withoutMarks true → Takes body rs r
-  unfolding withoutMarks
+  unfolding withoutMarks marksTaken
   takes-none e rs r er =
       let n : ccOrDk (typeOf body) ≡ false = sym either ∙ not-true (cc || dk) e in
       let l : listed body ≡ [] = lists-nothing (typeOf body) body refl n in
@@ -34,6 +34,7 @@ module _ (k : MessageType) (body : List ℕ) (cc dk : Bool) (ek : k ≡ typeOf b
         size = rw er (length-replicate {A = ℕ} recordsMax 0);
         fine = rw (er, n);
         marked = λ f i g. rw (er, l, and-false, getD-zeros recordsMax i);
+        whole = λ f. rw (er, n);
         none = λ f. clash (ap (λ (x : Listed). x .fine) er) f;
       }
 
@@ -50,15 +51,18 @@ module _ (k : MessageType) (body : List ℕ) (cc dk : Bool) (ek : k ≡ typeOf b
           size = rw er (length-replicate {A = ℕ} recordsMax 0);
           fine = rw (er, asked, q);
           marked = λ g. clash g (ap (λ (x : Listed). x .fine) er);
+          whole = λ g. clash g (ap (λ (x : Listed). x .fine) er);
           none = λ g. er;
         }
 
     pub takes-some : not (d .fine) ≡ false → length (d .marks) ≡ recordsMax → Takes body (take n (tableOf ns ks)) d
+    unfolding marksTaken
     takes-some f l =
         let size : length (take n (tableOf ns ks)) ≡ n = length-take-le n (tableOf ns ks) (rw (length-table ns ks) (given .within)) in
         record {
           size = l;
           fine = rw asked (decides .fine asked);
           marked = λ g i h. decides .marks asked g i (omega (arith, size, h));
+          whole = λ g. rw asked (decides .whole asked g);
           none = λ g. clash (not-false (d .fine) f) g;
         }

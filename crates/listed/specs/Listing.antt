@@ -2,7 +2,7 @@
 use Prim.Native.Nat.{ℕ, _≤_, _<_}
 use mathlib.Core.Path.{_≡_}
 use mathlib.Core.List.{List}
-use mathlib.Core.Bool.{Bool, true, false, not, _&&_, _||_}
+use mathlib.Core.Bool.{Bool, true, false, cond, not, _&&_, _||_}
 use lib.ListN.{length, getD, take, replicate}
 use lib.Dec.{eqb}
 use Rattle.layout.specs.declared.Detail.{Detail}
@@ -10,12 +10,14 @@ use Rattle.layout.specs.Details.{details, poolCount, detailAt, placeOf}
 use Rattle.terminator.specs.Terminators.{isCanceled}
 use Rattle.terminator.specs.Lots.{formedFor}
 use Rattle.book.specs.declared.Pool.{Pool}
-use Rattle.book.specs.Records.{noPool}
-use Rattle.book.specs.Messages.{typeOf, targetOf, listed}
+use Rattle.book.specs.Records.{fieldsOf, liveFields, sameFields, noPool}
+use Rattle.book.specs.Messages.{typeOf, targetOf, under, listed}
 use Rattle.book.specs.Opening.{recordsMax}
 use Rattle.book.specs.Soundness.{inOrder, fieldsOnce}
 use Rattle.book.specs.Checks.{isCc, ccOrDk, isTaken, listedFine}
 use Rattle.table.specs.Rows.{tableOf}
+use Rattle.places.specs.Runs.{ahead}
+use Rattle.places.specs.Finding.{lists}
 use Rattle.listed.specs.declared.Listed.{Listed}
 use Rattle.listed.specs.Marks.{entriesFrom, markAll, unmarked, marksEven}
 use Rattle.listed.specs.Lots.{numbersOf, alikeAll, noneAlike}
@@ -29,11 +31,20 @@ pub record Findable (body : List ℕ) (ns ks : List (List ℕ)) (live : ℕ) : T
   pub once : fieldsOnce (take live (tableOf ns ks)) ≡ true
   pub formed : isCc (typeOf body) ≡ true → formedFor true (details body) ≡ true
 
--- of a CC or DK: whether it passes 37 and, where it does, a mark on each live record that it takes off and on no other
+-- the row of a pool that a message lists: the first live record under the target with its fields
+abbrev pub rowIn : List ℕ → List Pool → Detail → ℕ
+rowIn body rs d = cond (lists (typeOf body) d) (ahead (λ (r : Pool). under (targetOf body) r && sameFields (liveFields r) (fieldsOf d)) rs) 0
+
+-- the marks of a CC or DK: each listed pool marks the row of its record with the number of its lot
+unfoldable pub marksIn : List ℕ → List Pool → List ℕ
+marksIn body rs = markAll unmarked (entriesFrom (isCc (typeOf body)) (rowIn body rs) 1 (details body)) .marks
+
+-- of a CC or DK: whether it passes 37 and, where it does, its marks: one on each live record that it takes off and on no other
 pub record Decides (body : List ℕ) (ns ks : List (List ℕ)) (live : ℕ) (r : Listed) : Type 0 where
   pub fine : ccOrDk (typeOf body) ≡ true → r .fine ≡ listedFine body (take live (tableOf ns ks))
   pub marks : ccOrDk (typeOf body) ≡ true → r .fine ≡ true → (i : ℕ) → i < live
       → eqb (getD (r .marks) i 0) 0 ≡ not (isTaken (targetOf body) (listed body) (getD (take live (tableOf ns ks)) i noPool))
+  pub whole : ccOrDk (typeOf body) ≡ true → r .fine ≡ true → r .marks ≡ marksIn body (take live (tableOf ns ks))
 
 -- what the marks ask: the target's rows stand in the table, the cells of the pools hold rows, and those of a CC's canceled pools rows of the table
 pub record Judgeable (cc : Bool) (body : List ℕ) (ns : List (List ℕ)) (at : List ℕ) (start stop : ℕ) : Type 0 where
@@ -58,9 +69,14 @@ judgedBy cc row ns start stop ds =
 unfoldable pub withoutMarks : Bool → Listed
 withoutMarks fine = record { fine = fine; marks = replicate recordsMax 0 }
 
+-- the marks of a message of any type: one that is no CC or DK has none
+unfoldable pub marksTaken : List ℕ → List Pool → List ℕ
+marksTaken body rs = cond (ccOrDk (typeOf body)) (marksIn body rs) (replicate recordsMax 0)
+
 -- what a message takes off: whether it passes 37, if that is for its type, and the marks of the records; none where it does not pass
 pub record Takes (body : List ℕ) (rs : List Pool) (r : Listed) : Type 0 where
   pub size : length (r .marks) ≡ recordsMax
   pub fine : r .fine ≡ (not (ccOrDk (typeOf body)) || listedFine body rs)
   pub marked : r .fine ≡ true → (i : ℕ) → i < length rs → eqb (getD (r .marks) i 0) 0 ≡ not (isTaken (targetOf body) (listed body) (getD rs i noPool))
+  pub whole : r .fine ≡ true → r .marks ≡ marksTaken body rs
   pub none : r .fine ≡ false → r ≡ withoutMarks false

@@ -19,11 +19,12 @@ never c = false
 abbrev pub noCheck : Check
 noCheck = check 41 reason.Opening every never
 
--- the check with a number, one of those before 25, which gives its verdict itself
+-- the check with a number
 abbrev pub withNumber : ℕ → List Check → Check
 withNumber n [] = noCheck
 withNumber n (k ∷ ks) = cond (eqb n (k .number)) k (withNumber n ks)
 
+-- one of those before 25, which gives its verdict itself
 unfoldable pub numbered : ℕ → Check
 numbered n = withNumber n (take 17 senderChecks)
 

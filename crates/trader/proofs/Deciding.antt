@@ -4,7 +4,7 @@ use native.Mathlib.Omega.{arith}
 use mathlib.Core.Path.{_≡_, refl, sym, ap, _∙_}
 use mathlib.Core.List.{List, map}
 use mathlib.Core.Bool.{Bool, true, false, cond, not, _&&_, _||_, true≢false}
-use lib.ListN.{length, take, drop, getD, length-map, length-replicate}
+use lib.ListN.{length, take, drop, getD, length-map}
 use lib.Dec.{leb, ltb}
 use lib.Seq.{length-take-le, getD-take}
 use borrow.Author.Tests.{leb-true, lt-ltb, le-ltb, not-true, not-false}
@@ -62,7 +62,7 @@ refused-by ks book ns ks′ body room d r ed f =
       trade = λ p. fails-not (sym e ∙ p);
       off = λ p. fails-not (sym e ∙ p);
       brought = λ p. fails-not (sym e ∙ p);
-      size = rw ed (length-replicate {A = ℕ} recordsMax 0);
+      marks = λ p. fails-not (sym e ∙ p);
       marked = λ p. fails-not (sym e ∙ p);
     }
 
@@ -221,7 +221,7 @@ module _ (book : Book) (ns ks : List (List ℕ)) (body : List ℕ) (y : Ready bo
                   trade = λ z. concerned-is;
                   off = λ z. off-is;
                   brought = λ z. eb;
-                  size = tk .size;
+                  marks = λ z. tk .whole (not-false (t .fine) h37);
                   marked = λ z. tk .marked (not-false (t .fine) h37);
                 }
 
@@ -235,6 +235,6 @@ decided-late book ns ks body room d e m =
       trade = m .trade;
       off = m .off;
       brought = m .brought;
-      size = m .size;
+      marks = m .marks;
       marked = m .marked;
     }

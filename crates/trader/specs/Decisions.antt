@@ -17,6 +17,7 @@ use Rattle.book.specs.Opening.{recordsMax}
 use Rattle.book.specs.Soundness.{isSound}
 use Rattle.book.specs.Checks.{Call, Check, live, checks, firstFailing, isCc, onOrCc, concerned, isTaken, taken}
 use Rattle.table.specs.Rows.{tableOf}
+use Rattle.listed.specs.Listing.{marksTaken}
 use Rattle.trader.specs.declared.Decision.{Decision}
 
 -- 30 to 40: what comes after 42 and the eighteen checks of operator, line and sender
@@ -37,12 +38,13 @@ pub record Ready (book : Book) (numbers keys : List (List ℕ)) (body : List ℕ
 unfoldable pub refusedWith : Reason → Decision
 refusedWith r = record { verdict = Fails r; trade = 0; off = 0; brought = 0; marks = replicate recordsMax 0 }
 
--- a decision by some checks: the first of them that fails; where none does, the trade concerned, the weights and the marks of what is taken off
+-- a decision by some checks: the first of them that fails; where none does, the trade concerned, the weights and the marks of what is taken off,
+-- one on each live record that is
 pub record DecidedBy (ks : List Check) (c : Call) (d : Decision) : Type 0 where
   pub verdict : d .verdict ≡ firstFailing ks c
   pub refused : (r : Reason) → d .verdict ≡ Fails r → d ≡ refusedWith r
   pub trade : d .verdict ≡ Passes → d .trade ≡ concerned c
   pub off : d .verdict ≡ Passes → d .off ≡ weightOfRecords (taken c)
   pub brought : d .verdict ≡ Passes → d .brought ≡ broughtWeight (c .body)
-  pub size : length (d .marks) ≡ recordsMax
+  pub marks : d .verdict ≡ Passes → d .marks ≡ marksTaken (c .body) (live c)
   pub marked : d .verdict ≡ Passes → (i : ℕ) → i < length (live c) → eqb (getD (d .marks) i 0) 0 ≡ not (isTaken (targetOf (c .body)) (listed (c .body)) (getD (live c) i noPool))
