@@ -154,9 +154,6 @@ module _ (n last : ℕ) (tgt : Field) (hs : List Brought) (lots : Lots n last hs
       some [] e = absurd (false≢true e)
       some (l ∷ ls) e = (fieldsOf (l .last), Memᴰ·append-left (fieldsOfLots ls) (last-fields l))
 
-      formed : groupFormed g ≡ true
-      formed = and-left (groupFormed g) (all groupFormed gs) ne
-
       cs : List Fields
       cs = fieldsOfLots (g .canceled)
 

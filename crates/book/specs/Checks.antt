@@ -76,6 +76,7 @@ abbrev pub outputShort : Call → Bool
 outputShort c = ltb (c .room) roomLeast
 
 -- ---- 10 to 25: the line and the sender's system
+-- not digits, or a number that fails a test
 abbrev pub notNumber : (ℕ → Bool) → Field → Bool
 notNumber p (Number n) = not (p n)
 notNumber p NotDigits = true
@@ -84,11 +85,12 @@ notNumber p NotDigits = true
 abbrev pub lengthWrong : List ℕ → Bool
 lengthWrong body = not (lengthFits body)
 
--- 11: not digits, or a number that the line refuses
+-- not digits, or a number that the line refuses
 abbrev pub isNoSequence : Field → Bool
 isNoSequence (Number n) = isRefused n
 isNoSequence NotDigits = true
 
+-- 11: sequence not digits, or 999999
 abbrev pub sequenceFails : List ℕ → Bool
 sequenceFails body = isNoSequence (numberIn body columns.sequence)
 
@@ -101,10 +103,11 @@ isDuplicate Duplicate = true
 isDuplicate Expected = false
 isDuplicate Gap = false
 
--- 12: the sequence is the last one received
+-- whether the sequence is the last one received
 abbrev pub repeatsLast : Line → List ℕ → Bool
 repeatsLast line body = isDuplicate (arrivalOf line (arrived body))
 
+-- 12: duplicate sequence
 abbrev pub sequenceRepeats : Call → Bool
 sequenceRepeats c = repeatsLast (c .book .line) (c .body)
 
@@ -123,7 +126,7 @@ typeUnknown body = isOther (typeOf body)
 abbrev pub versionWrong : List ℕ → Bool
 versionWrong body = not (same (bytesIn body columns.version) version)
 
--- 15: the three fillers, and Pos Dup: "X" or blank
+-- the three fillers are blank, and Pos Dup is "X" or blank
 abbrev pub blankIn : List ℕ → Column → Bool
 blankIn body c = allBlank body (c .at) (c .width)
 
@@ -136,10 +139,11 @@ posDupFine s = same s possiblyDuplicate || same s (blanks (columns.posDup .width
 abbrev pub fillersFine : List ℕ → Bool
 fillersFine body = (blankIn body columns.fillerOne && (blankIn body columns.fillerTwo && blankIn body columns.fillerThree)) && posDupFine (bytesIn body columns.posDup)
 
+-- 15: header filler not blank, or Pos Dup not X or blank
 abbrev pub fillersFail : List ℕ → Bool
 fillersFail body = not (fillersFine body)
 
--- 16: par and price above 0, GDMM at most the ceiling
+-- par and price are above 0, GDMM is at most the ceiling
 abbrev pub atMost : ℕ → ℕ → Bool
 atMost most n = leb n most
 
@@ -148,10 +152,11 @@ amountsWrong ceiling body =
     notNumber (leb 1) (numberIn body columns.par)
     || (notNumber (leb 1) (numberIn body columns.price) || notNumber (atMost ceiling) (numberIn body columns.gdmm))
 
+-- 16: par or price not digits or 0, GDMM not digits or over the ceiling
 abbrev pub amountsFail : Values → List ℕ → Bool
 amountsFail v body = amountsWrong (v .limits .ceiling) body
 
--- 17: the book's subscriber and connection, a submitter that is seller or buyer of some trade, and one of the two contras
+-- the book's subscriber and connection, a submitter that is seller or buyer of some trade, and one of the two contras
 abbrev pub isSide : List ℕ → Trade → Bool
 isSide body t = same (bytesIn body columns.submitter) (t .seller) || same (bytesIn body columns.submitter) (t .buyer)
 
@@ -162,6 +167,7 @@ partiesFine v body =
     && (any (isSide body) (tradesOf v)
     && (same (bytesIn body columns.contra) ftba || same (bytesIn body columns.contra) fsti)))
 
+-- 17: subscriber or connection not the book's, submitter in no trade, contra neither FTBA nor FSTI
 abbrev pub partiesFail : Values → List ℕ → Bool
 partiesFail v body = not (partiesFine v body)
 
@@ -210,6 +216,7 @@ settlementFails v body = notNumber (isBusinessDate (holidaysOf v)) (numberIn bod
 abbrev pub reasonFails : List ℕ → Bool
 reasonFails body = notNumber (leb 1) (numberIn body columns.reason)
 
+-- a trade ID whose form is whole
 abbrev pub isWhole : TradeId → Bool
 isWhole (Whole place n) = true
 isWhole Broken = false
@@ -268,7 +275,7 @@ isDk Dk = true
 isDk Cx = false
 isDk Other = false
 
--- 31: the named trade is one whose terms agree and, on a CC or DK, the target's
+-- the named trade is one whose terms agree and, on a CC or DK, the target's
 abbrev pub namedFine : List ℕ → List Trade → ℕ → ℕ → Bool
 namedFine body ts target i = ltb i (length ts) && (agrees body (tradeAt ts i) && (isOn (typeOf body) || eqb i target))
 
@@ -277,15 +284,17 @@ idFails body ts target (Whole place n) = not (namedFine body ts target (namedTra
 idFails body ts target Broken = true
 idFails body ts target Absent = isStipulated body
 
+-- 31: TRID begun but not whole, or naming no trade with agreeing terms or another than the target's; on FSTI, absent
 abbrev pub tradeIdFails : Call → Bool
 tradeIdFails c = idFails (c .body) (trades c) (targetTrade (c .body) (live c)) (idIn (c .body))
 
--- 32: without a trade ID, some trade's terms agree with an ON's, and the target's with a CC's or DK's
+-- without a trade ID, some trade's terms agree with an ON's, and the target's with a CC's or DK's
 abbrev pub termsFail : List ℕ → List Trade → ℕ → TradeId → Bool
 termsFail body ts target (Whole place n) = false
 termsFail body ts target Broken = false
 termsFail body ts target Absent = cond (isOn (typeOf body)) (not (any (agrees body) ts)) (not (agrees body (tradeAt ts target)))
 
+-- 32: no trade, or not the target's trade, agrees
 abbrev pub termsDiffer : Call → Bool
 termsDiffer c = termsFail (c .body) (trades c) (targetTrade (c .body) (live c)) (idIn (c .body))
 
@@ -356,22 +365,25 @@ listedFine body rs =
     exactLots (targetOf body) (listed body) rs
     && (not (isCc (typeOf body)) || all (oneLot (targetOf body) rs) (canceledLots (details body)))
 
+-- 37: listed pools not exactly some live lots of the target
 abbrev pub listedFail : Call → Bool
 listedFail c = not (listedFine (c .body) (live c))
 
--- 38: the trade's open par, with what the message takes off, holds what it brings
+-- the trade's open par, with what the message takes off, holds what it brings
 abbrev pub parFine : Call → Bool
 parFine c =
     ltb (concerned c) (length (trades c))
     && leb (broughtWeight (c .body)) (tradeAt (trades c) (concerned c) .left + weightOfRecords (taken c))
 
+-- 38: the trade's open par plus the weight taken off is under the weight brought
 abbrev pub parShort : Call → Bool
 parShort c = not (parFine c)
 
--- 40: the live pools less those listed, plus the new ones, fit the table
+-- the live pools less those listed, plus the new ones, fit the table
 abbrev pub tableFine : Call → Bool
 tableFine c = leb (length (live c) + length (newPools (details (c .body)))) (length (c .table) + length (listed (c .body)))
 
+-- 40: live pools after the message exceed the table
 abbrev pub tableFull : Call → Bool
 tableFull c = not (tableFine c)
 

@@ -12,12 +12,18 @@ pub const RECORDS_MAX: usize = 4096;
 // Eleven digits: message IDs, and par in cents.
 pub const ELEVEN_DIGITS_MAX: u64 = 99999999999;
 
+// The highest least face, in dollars: no original face is higher.
+pub const FACE_MAX: u64 = faces::ORIGINAL_MOST;
+
+// The most characters of a trade's ID.
+pub const ID_MAX: usize = trade_id::ID_LENGTH_MAX;
+
 // The room that 44 asks for: a TX and an AA.
 pub const ROOM_LEAST: usize = acknowledgment::TX_LENGTH + acknowledgment::AA_LENGTH;
 
 // A trade. Only the first length bytes of id are its ID; price has nine decimals, par and left are cents, left is the open par.
 pub struct Trade {
-    pub id: [u8; trade_id::ID_LENGTH_MAX],
+    pub id: [u8; ID_MAX],
     pub length: usize,
     pub seller: [u8; 4],
     pub buyer: [u8; 4],

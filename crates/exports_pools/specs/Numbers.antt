@@ -6,6 +6,7 @@ use lib.ListN.{length, drop}
 use lib.Dec.{eqb}
 use Rattle.numbers.specs.Bit.{bit}
 use Rattle.layout.specs.declared.Detail.{Detail}
+use Rattle.layout.specs.Columns.{terminator}
 use Rattle.layout.specs.Details.{details, poolCount}
 use Rattle.terminator.specs.declared.Terminator.{Terminator}
 use Rattle.terminator.specs.declared.Terminator.the-variants.{Middle, BadMiddle, GoodEnd, OddEnd, BadEnd, Wrong}
@@ -30,7 +31,7 @@ terminatorNumbers Wrong = 5 ∷ 0 ∷ []
 
 -- the terminator in bytes of any length: what is not four bytes is wrong
 unfoldable pub terminatorIn : List ℕ → Terminator
-terminatorIn s = cond (eqb (length s) 4) (terminatorOf s) Wrong
+terminatorIn s = cond (eqb (length s) (terminator .width)) (terminatorOf s) Wrong
 
 -- ---- the lot that begins at a pool, by six numbers: whether there is one, its position one, its kind, its millions, its last pool by index, its weight in cents
 -- the kinds in their order

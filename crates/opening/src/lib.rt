@@ -11,6 +11,7 @@ ghost use lib.ListN.{length, take, drop};
 ghost use lib.Dec.{eqb};
 ghost use Rattle.lists.specs.Lists.{between, any, all, same};
 ghost use Rattle.calendar.specs.Calendar.{isDate};
+ghost use Rattle.trade_id.specs.SpecialInstructions.{idLengthMax};
 ghost use Rattle.book.specs.Messages.{ftba, fsti};
 ghost use Rattle.book.specs.Trades.{tradeName};
 ghost use Rattle.book.specs.Opening.{
@@ -37,11 +38,6 @@ const CEILING_MAX: u64 = 9999;
 const VARIANCE_MAX: u64 = 1000000;
 
 const POOLS_A_MILLION_MAX: u64 = 250;
-
-// Dollars.
-const FACE_MAX: u64 = 50000000;
-
-const ID_MAX: usize = 16;
 
 const ACCOUNT_LENGTH: usize = 4;
 
@@ -111,7 +107,7 @@ fn limits_fine(l: Limits) -> bool
     (l.ceiling <= CEILING_MAX)
         & ((l.variance <= VARIANCE_MAX)
             & (((1 <= l.pools) & (l.pools <= POOLS_A_MILLION_MAX))
-                & ((1 <= l.least) & (l.least <= FACE_MAX))))
+                & ((1 <= l.least) & (l.least <= book::FACE_MAX))))
 }
 
 // 41: an account, a subscriber or a connection of codes 33 to 126.
@@ -137,7 +133,7 @@ fn id_fine(t: Trade) -> bool
     if length < 1 {
         return false;
     }
-    if ID_MAX < length {
+    if book::ID_MAX < length {
         return false;
     }
     if !fields::all_visible(&id, 0, length) {
@@ -188,10 +184,10 @@ fn trades_fine(trades: [Trade; 64], count: usize, holidays: &[u32]) -> bool
 
 // How many bytes a trade's ID has, also where length says more than there are.
 fn name_length(t: Trade) -> usize
-    ensures { λ r. ⌜ (r ≤ 16) × (take r (t .id) ≡ tradeName t) ⌝ }
+    ensures { λ r. ⌜ (r ≤ idLengthMax) × (take r (t .id) ≡ tradeName t) ⌝ }
 {
-    if ID_MAX < t.length {
-        return ID_MAX;
+    if book::ID_MAX < t.length {
+        return book::ID_MAX;
     }
     t.length
 }
@@ -225,7 +221,7 @@ fn named_from(trades: [Trade; 64], count: usize, from: usize, t: Trade) -> bool
 
 // The mark of an ID: its bytes as the digits of one number.
 fn mark(id: &[u8]) -> u64
-    requires { ⌜ length (now id) ≤ 16 ⌝ }
+    requires { ⌜ length (now id) ≤ idLengthMax ⌝ }
     ensures { λ r. ⌜ r ≡ markOf (now (id .entry)) ⌝ }
 {
     let mut m: u64 = 0;

@@ -47,7 +47,7 @@ fn is_named_by(body: &[u8], place: usize, length: usize, t: Trade) -> bool
     ensures { λ r. ⌜ r ≡ isNamedBy (now (body .entry)) (Whole place length) t ⌝ }
 {
     let id = t.id;
-    let n = header::lesser(t.length, trade_id::ID_LENGTH_MAX);
+    let n = header::lesser(t.length, book::ID_MAX);
     if n != length {
         return false;
     }
