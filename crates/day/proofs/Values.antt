@@ -1,9 +1,9 @@
 -- The machine values of what the day passes by value: the day, the day on its way and the place of a frame; and of a book, of what a frame call gave back, and of the time bytes 000000.
 --     DayR, GoingR, PlaceR     their types in the program logic
 --     dayVal, goingVal, placeVal       their machine values
---     day-typed, going-typed, place-typed, book-typed-at       each value has its MIR type
---     book-is, stepped-is, going-is, place-is      what a call returned is that value
---     book-its, stepped-its, going-its, place-its      and what it says of the thing holds of that value
+--     day-typed, going-typed, place-typed       each value has its MIR type
+--     book-is, stepped-is, day-is, going-is, place-is      what a call returned is that value
+--     book-its, stepped-its, day-its, going-its, place-its      and what it says of the thing holds of that value
 --     day-of       what whoever holds a day on its way knows of the day
 -- Assumes nothing.
 use Prim.Native.Nat.{ℕ}
@@ -27,8 +27,6 @@ use Rattle.staged.proofs.Values.{BookR, bookVal, bookVals, book-tells, SteppedR
 use Rattle.day.specs.declared.Day.{Day}
 use Rattle.day.specs.declared.Going.{Going}
 use Rattle.day.specs.declared.Place.{Place}
-use Rattle.book.proofs.Book as B
-use Rattle.book.proofs.Book.Laws as B′
 use Rattle.engine.proofs.Stepped as S
 use Rattle.engine.proofs.Stepped.Laws as S′
 use Rattle.day.proofs.Day as D
@@ -39,9 +37,6 @@ use Rattle.day.proofs.Place as P
 use Rattle.day.proofs.Place.Laws as P′
 
 -- ---- the book, as a call returned it
-pub book-typed-at : {M : Type 1} (𝓤 : URA M) (H : Heap 𝓤) (A : Atoms 𝓤) (W : Given 𝓤 H A) (b : Book) (w : Val) → Is BookR b (w ∷ []) → Holds (hasTy B′.mir w) × WT w
-book-typed-at 𝓤 H A W b w g = LL.lawful B.the-type B′.the-laws 𝓤 H A W .typed b (w ∷ []) g .0
-
 pub book-is : (b : Book) (w : Val) → Is BookR b (w ∷ []) → w ≡ bookVal b
 book-is b w g = ap only (book-tells b (w ∷ []) g)
 
@@ -79,8 +74,14 @@ dayVals = LL.vals D.the-type D′.the-laws
 pub day-makes : {M : Type 1} (𝓤 : URA M) (H : Heap 𝓤) (A : Atoms 𝓤) → Makes 𝓤 H A DayR (Is DayR)
 day-makes 𝓤 H A = LL.makes D.the-type D′.the-plain 𝓤 H A
 
-pub day-typed : {M : Type 1} (𝓤 : URA M) (H : Heap 𝓤) (A : Atoms 𝓤) (W : Given 𝓤 H A) (d : Day) → Is DayR d (dayVals d) → Holds (hasTy D′.mir (dayVal d)) × WT (dayVal d)
-day-typed 𝓤 H A W d g = LL.lawful D.the-type D′.the-laws 𝓤 H A W .typed d (dayVals d) g .0
+pub day-typed : {M : Type 1} (𝓤 : URA M) (H : Heap 𝓤) (A : Atoms 𝓤) (W : Given 𝓤 H A) (d : Day) (w : Val) → Is DayR d (w ∷ []) → Holds (hasTy D′.mir w) × WT w
+day-typed 𝓤 H A W d w g = LL.lawful D.the-type D′.the-laws 𝓤 H A W .typed d (w ∷ []) g .0
+
+pub day-is : (d : Day) (w : Val) → Is DayR d (w ∷ []) → w ≡ dayVal d
+day-is d w g = ap only (LL.tells D.the-type D′.the-laws d (w ∷ []) g)
+
+pub day-its : (d : Day) (w : Val) → Is DayR d (w ∷ []) → Is DayR d (dayVals d)
+day-its d w g = subst (Is DayR d) (LL.tells D.the-type D′.the-laws d (w ∷ []) g) g
 
 -- ---- the day on its way
 abbrev pub GoingR : RattleType

@@ -1,5 +1,4 @@
 mod Reading
-mod Passing
 mod Calling
 mod Opening
 mod Saying

@@ -4,14 +4,28 @@ use mathlib.Core.List.{List, map}
 use mathlib.Core.Bool.{Bool, true, false, not}
 use Prim.Native.Nat.{ℕ}
 use native.Mathlib.Omega.{arith}
-use lib.ListN.{length, take, drop}
+use lib.ListN.{length, take, drop, replicate}
 use borrow.Author.Tests.{eq-eqb, ne-eqb, not-true, not-false}
 use Rattle.lists.specs.Lists.{part, all}
 use Rattle.lists.proofs.Parts.{length-part}
 use Rattle.image.proofs.Told.{image-rest}
+use Rattle.sequence.specs.declared.Line.{Line}
+use Rattle.sequence.specs.Sequence.{outbound, startLine}
 use Rattle.book.specs.declared.Trade.{Trade}
 use Rattle.book.specs.declared.Book.{Book}
 use Rattle.image.specs.Images.{bookWords, restWords, rowsOf, restOf, tradeFits, restFits, isImage, tradeIn, bookFrom, bookIn}
+use Rattle.image_reading.specs.declared.Read.{Read}
+use Rattle.image_reading.specs.Reading.{blank, noBook, readBook}
+
+-- a book of no trades, by its trades and its line
+pub none-given : (t : Trade) (l : Line) → t ≡ blank → l ≡ startLine
+    → record {
+      values = record { trades = replicate 64 t; count = 0; holidays = replicate 32 0; days = 0; subscriber = replicate 4 0; connection = replicate 4 0; limits = record { ceiling = 0; variance = 0; pools = 0; least = 0 }; last = 0; outbound = outbound 0 };
+      line = l;
+      live = 0;
+    }
+    ≡ noBook
+none-given t l e f = rw (e, f)
 
 module _ (ws : List ℕ) where
   -- the words after the trades as a slice
@@ -47,8 +61,24 @@ module _ (ws : List ℕ) where
 
   -- ---- what is read
   module _ (b : Bool) (e : b ≡ isImage ws) where
-    pub is-damaged : not b ≡ true → false ≡ isImage ws
-    is-damaged n = sym (not-true b n) ∙ e
-
     pub is-fine : not b ≡ false → true ≡ isImage ws
     is-fine n = sym (not-false b n) ∙ e
+
+    pub reads-none : not b ≡ true → (k : Book) → k ≡ noBook → record { fine = false; book = k } ≡ readBook ws
+    unfolding readBook
+    reads-none n k f = rw (f, sym e ∙ not-true b n)
+
+    pub reads-book : not b ≡ false → (k : Book) → k ≡ bookIn ws → record { fine = true; book = k } ≡ readBook ws
+    unfolding readBook
+    reads-book n k f = rw (f, sym (is-fine n))
+
+  -- what whoever reads words knows of what is read
+  pub read-fine : (r : Read) → r ≡ readBook ws → r .fine ≡ isImage ws
+  unfolding readBook
+  read-fine r e = ap (λ (x : Read). x .fine) e
+
+  pub read-whole : (r : Read) → r ≡ readBook ws → r .fine ≡ true → r .book ≡ bookIn ws
+  unfolding readBook
+  read-whole r e f =
+      let g : isImage ws ≡ true = sym (read-fine r e) ∙ f in
+      ap (λ (x : Read). x .book) e ∙ rw g

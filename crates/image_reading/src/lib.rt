@@ -30,6 +30,7 @@ ghost use Rattle.image.specs.Images.{
   bookFrom,
   bookIn,
 };
+ghost use Rattle.image_reading.specs.Reading.{blank, noBook, readBook};
 
 // Widths of the arrays, in words.
 const ID_WIDTH: usize = 16;
@@ -157,7 +158,10 @@ fn trades_fit(words: &[u64]) -> bool
     true
 }
 
-fn no_trade() -> Trade {
+// A trade of zeros.
+fn no_trade() -> Trade
+    ensures { λ r. ⌜ r ≡ blank ⌝ }
+{
     Trade {
         id: [0; 16],
         length: 0,
@@ -282,7 +286,10 @@ fn book_in(words: &[u64]) -> Book
     read_rest(trades, &words[image::REST..image::BOOK_WORDS])
 }
 
-fn no_book() -> Book {
+// A book of no trades.
+fn no_book() -> Book
+    ensures { λ r. ⌜ r ≡ noBook ⌝ }
+{
     let none = no_trade();
     let trades = [none; 64];
     let values = Values {
@@ -310,7 +317,7 @@ fn no_book() -> Book {
 
 // Reads a book back. Words that are no book's are told.
 pub fn read_book(words: &[u64]) -> Read
-    ensures { λ r. ⌜ (r .fine ≡ isImage (now (words .entry))) × (r .fine ≡ true → r .book ≡ bookIn (now (words .entry))) ⌝ }
+    ensures { λ r. ⌜ r ≡ readBook (now (words .entry)) ⌝ }
 {
     if !is_image(words) {
         return Read {

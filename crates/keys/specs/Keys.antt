@@ -1,6 +1,8 @@
 -- Rows of matched fields: the bytes of a detail's, and the bucket that a row falls into.
-use Prim.Native.Nat.{ℕ, _+_, _*_, _%_}
+use Prim.Native.Nat.{ℕ, zero, suc, _+_, _*_, _%_}
 use mathlib.Core.List.{List, _++_}
+use mathlib.Core.Bool.{Bool, true, _&&_}
+use lib.Dec.{eqb}
 use lib.ListN.{getD}
 use Rattle.layout.specs.declared.Detail.{Detail}
 
@@ -11,12 +13,22 @@ keyWidth = 22
 abbrev pub keyOf : Detail → List ℕ
 keyOf d = d .lot ++ (d .pool ++ d .original)
 
+-- so many bytes more of two rows are equal, from a place on, after others that were compared
+abbrev pub alikeToo : List ℕ → List ℕ → Bool → ℕ → ℕ → Bool
+alikeToo a b t zero i = t
+alikeToo a b t (suc n) i = alikeToo a b (t && eqb (getD a i 0) (getD b i 0)) n (i + 1)
+
+-- the n bytes of two rows from a place are equal
+abbrev pub alike : List ℕ → List ℕ → ℕ → ℕ → Bool
+alike a b at zero = true
+alike a b at (suc n) = alikeToo a b (eqb (getD a at 0) (getD b at 0)) n (at + 1)
+
 -- every bucket is below this number
 abbrev pub bucketCount : ℕ
 bucketCount = 4096
 
 -- the eight bytes from a place as one number, the first byte the lowest
-unfoldable pub wordAt : List ℕ → ℕ → ℕ
+abbrev pub wordAt : List ℕ → ℕ → ℕ
 wordAt s at =
     getD s at 0
     + getD s (at + 1) 0 * 256

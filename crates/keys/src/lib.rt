@@ -4,7 +4,7 @@ ghost use mathlib.Core.Path.{_≡_};
 ghost use Prim.Native.Nat.{_+_, _*_, _≤_, _<_};
 ghost use lib.ListN.{length};
 ghost use Rattle.lists.specs.Lists.{same};
-ghost use Rattle.keys.specs.Keys.{keyOf, wordAt, bucketOf, keyWidth, bucketCount};
+ghost use Rattle.keys.specs.Keys.{keyOf, alike, wordAt, bucketOf, keyWidth, bucketCount};
 
 // Every bucket is below this number.
 pub const BUCKETS: usize = 4096;
@@ -16,36 +16,13 @@ pub fn key_of(d: Detail) -> [u8; 22]
     let l = d.lot;
     let p = d.pool;
     let o = d.original;
-    [
-        l[0],
-        l[1],
-        l[2],
-        l[3],
-        l[4],
-        l[5],
-        p[0],
-        p[1],
-        p[2],
-        p[3],
-        p[4],
-        p[5],
-        p[6],
-        o[0],
-        o[1],
-        o[2],
-        o[3],
-        o[4],
-        o[5],
-        o[6],
-        o[7],
-        o[8],
-    ]
+    table::key_of(l, p, o)
 }
 
-// Whether two slices of twenty-two bytes are equal, without a branch.
-fn same_bytes(a: &[u8], b: &[u8]) -> bool
+// Whether the bytes of two Lot-IDs are equal, without a branch.
+fn same_lot(a: &[u8], b: &[u8]) -> bool
     requires { ⌜ (length (now a) ≡ keyWidth) × (length (now b) ≡ keyWidth) ⌝ }
-    ensures { λ r. ⌜ r ≡ same (now (a .entry)) (now (b .entry)) ⌝ }
+    ensures { λ r. ⌜ r ≡ alike (now (a .entry)) (now (b .entry)) 0 6 ⌝ }
 {
     (a[0] == b[0])
         & (a[1] == b[1])
@@ -53,14 +30,28 @@ fn same_bytes(a: &[u8], b: &[u8]) -> bool
         & (a[3] == b[3])
         & (a[4] == b[4])
         & (a[5] == b[5])
-        & (a[6] == b[6])
+}
+
+// Of two pool numbers.
+fn same_pool(a: &[u8], b: &[u8]) -> bool
+    requires { ⌜ (length (now a) ≡ keyWidth) × (length (now b) ≡ keyWidth) ⌝ }
+    ensures { λ r. ⌜ r ≡ alike (now (a .entry)) (now (b .entry)) 6 7 ⌝ }
+{
+    (a[6] == b[6])
         & (a[7] == b[7])
         & (a[8] == b[8])
         & (a[9] == b[9])
         & (a[10] == b[10])
         & (a[11] == b[11])
         & (a[12] == b[12])
-        & (a[13] == b[13])
+}
+
+// Of two original faces.
+fn same_original(a: &[u8], b: &[u8]) -> bool
+    requires { ⌜ (length (now a) ≡ keyWidth) × (length (now b) ≡ keyWidth) ⌝ }
+    ensures { λ r. ⌜ r ≡ alike (now (a .entry)) (now (b .entry)) 13 9 ⌝ }
+{
+    (a[13] == b[13])
         & (a[14] == b[14])
         & (a[15] == b[15])
         & (a[16] == b[16])
@@ -69,6 +60,14 @@ fn same_bytes(a: &[u8], b: &[u8]) -> bool
         & (a[19] == b[19])
         & (a[20] == b[20])
         & (a[21] == b[21])
+}
+
+// Whether two slices of twenty-two bytes are equal.
+fn same_bytes(a: &[u8], b: &[u8]) -> bool
+    requires { ⌜ (length (now a) ≡ keyWidth) × (length (now b) ≡ keyWidth) ⌝ }
+    ensures { λ r. ⌜ r ≡ same (now (a .entry)) (now (b .entry)) ⌝ }
+{
+    same_lot(a, b) & same_pool(a, b) & same_original(a, b)
 }
 
 // Whether two rows are equal.

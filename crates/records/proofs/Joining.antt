@@ -38,7 +38,6 @@ tab-none (suc n) i f g =
     ∙ exchange (eqb (f i) 0) (eqb (g i) 0) (same (tab f n (i + 1)) (replicate n 0)) (same (tab g n (i + 1)) (replicate n 0))
 
 bytes-none : (n : ℕ) (a b : List ℕ) → length a ≡ n → length b ≡ n → same (joinBytes n a b) (replicate n 0) ≡ (same a (replicate n 0) && same b (replicate n 0))
-unfolding joinBytes
 bytes-none n a b la lb =
     tab-none n 0 (λ (k : ℕ). getD a k 0) (λ (k : ℕ). getD b k 0)
     ∙ (λ i. same (sym (table-of 0 a n la) i) (replicate n 0) && same (sym (table-of 0 b n lb) i) (replicate n 0))

@@ -7,7 +7,7 @@ use Rattle.lists.specs.Lists.{tab}
 use Rattle.book.specs.declared.Pool.{Pool}
 
 -- the bits of two fields of n bytes
-unfoldable pub joinBytes : ℕ → List ℕ → List ℕ → List ℕ
+abbrev pub joinBytes : ℕ → List ℕ → List ℕ → List ℕ
 joinBytes n a b = tab (λ (k : ℕ). bitOr (getD a k 0) (getD b k 0)) n 0
 
 -- the bits of two records

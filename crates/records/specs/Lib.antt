@@ -1,3 +1,4 @@
 pub mod Fit
 pub mod Loaded
 pub mod Joined
+pub mod Zeros

@@ -4,12 +4,13 @@ ghost use mathlib.Core.Path.{_≡_};
 ghost use mathlib.Core.Bool.{_&&_};
 ghost use Prim.Native.Nat.{ℕ, _<_, _≤_};
 ghost use lib.ListN.{length, getD, set, drop};
-ghost use Rattle.lists.specs.Lists.{same, all};
+ghost use Rattle.lists.specs.Lists.{all};
 ghost use Rattle.book.specs.Records.{noPool};
 ghost use Rattle.book.specs.Soundness.{isNone};
 ghost use Rattle.table.specs.Rows.{rowOf, keyOf};
 ghost use Rattle.records.specs.Fit.{Fit};
 ghost use Rattle.records.specs.Loaded.{loadTo};
+ghost use Rattle.records.specs.Zeros.{zerosFrom};
 ghost use Rattle.records.specs.Joined.{joinBytes, join};
 
 // Stores a record as the i-th row of numbers and of bytes.
@@ -43,7 +44,7 @@ pub fn load(pools: &[Pool], count: usize, numbers: &mut [[u64; 6]], keys: &mut [
 
 // Whether the matched fields are zeros, without a branch.
 fn fields_none(lot: [u8; 6], pool: [u8; 7], original: [u8; 9]) -> bool
-    ensures { λ r. ⌜ r ≡ (same lot (noPool .lot) && (same pool (noPool .pool) && same original (noPool .original))) ⌝ }
+    ensures { λ r. ⌜ r ≡ (zerosFrom lot 0 5 && (zerosFrom pool 0 6 && zerosFrom original 0 8)) ⌝ }
 {
     let lot_none = (lot[0] == 0)
         & ((lot[1] == 0) & ((lot[2] == 0) & ((lot[3] == 0) & ((lot[4] == 0) & (lot[5] == 0)))));

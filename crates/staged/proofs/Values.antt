@@ -49,8 +49,8 @@ book-tells = LL.tells B.the-type B′.the-laws
 pub book-makes : {M : Type 1} (𝓤 : URA M) (H : Heap 𝓤) (A : Atoms 𝓤) → Makes 𝓤 H A BookR (Is BookR)
 book-makes 𝓤 H A = LL.makes B.the-type B′.the-plain 𝓤 H A
 
-pub book-typed : {M : Type 1} (𝓤 : URA M) (H : Heap 𝓤) (A : Atoms 𝓤) (W : Given 𝓤 H A) (b : Book) → Is BookR b (bookVals b) → Holds (hasTy B′.mir (bookVal b)) × WT (bookVal b)
-book-typed 𝓤 H A W b g = LL.lawful B.the-type B′.the-laws 𝓤 H A W .typed b (bookVals b) g .0
+pub book-typed : {M : Type 1} (𝓤 : URA M) (H : Heap 𝓤) (A : Atoms 𝓤) (W : Given 𝓤 H A) (b : Book) (w : Val) → Is BookR b (w ∷ []) → Holds (hasTy B′.mir w) × WT w
+book-typed 𝓤 H A W b w g = LL.lawful B.the-type B′.the-laws 𝓤 H A W .typed b (w ∷ []) g .0
 
 pub live-fits : (b : Book) → Is BookR b (bookVals b) → b .live < 2 ^ 64
 live-fits b g = LL.owed B.the-type B′.the-laws b (bookVals b) g .1 .1 .0 .1
@@ -112,5 +112,5 @@ time-tells = array-tells u8 (uint-vals w8) (uint-tells w8) 6
 pub time-makes : {M : Type 1} (𝓤 : URA M) (H : Heap 𝓤) (A : Atoms 𝓤) (W : Given 𝓤 H A) → Makes 𝓤 H A TimeR (Is TimeR)
 time-makes 𝓤 H A W = array-makes 𝓤 H A W u8 (uint-makes 𝓤 H A W w8) 6
 
-pub time-typed : {M : Type 1} (𝓤 : URA M) (H : Heap 𝓤) (A : Atoms 𝓤) (W : Given 𝓤 H A) (t : List ℕ) → Is TimeR t (timeVals t) → Holds (hasTy (lone (TimeR .mir)) (timeVal t)) × WT (timeVal t)
-time-typed 𝓤 H A W t g = array-lawful 𝓤 H A W u8 (uint-lawful 𝓤 H A W w8) 6 .typed t (timeVals t) g .0
+pub time-typed : {M : Type 1} (𝓤 : URA M) (H : Heap 𝓤) (A : Atoms 𝓤) (W : Given 𝓤 H A) (t : List ℕ) (w : Val) → Is TimeR t (w ∷ []) → Holds (hasTy (lone (TimeR .mir)) w) × WT w
+time-typed 𝓤 H A W t w g = array-lawful 𝓤 H A W u8 (uint-lawful 𝓤 H A W w8) 6 .typed t (w ∷ []) g .0

@@ -149,8 +149,8 @@ module _ {M : Type 1} (𝓤 : URA M) (H : Heap 𝓤) (A : Atoms 𝓤) (W : Given
     walk gk room room₂ gt room₃ =
         qed W (Tokens ∷ ‵ (owns (BookR ∷ MutSlice (named 0) κ R ∷ ShrSlice (named 1) κ₂ u8 ∷ TimeR ∷ MutSlice (named 2) κ₃ u8 ∷ []) a at) ∷ []) ∵ enter ! (𝓣 .C) (𝓣 .Λ) code.function given _ $
         alloc1 ! (λ l₀. alloc1 ! (λ l₁. alloc1 ! (λ l₂. alloc1 ! (λ l₃. alloc1 ! (λ l₄. alloc1 ! (λ l₅. alloc1 ! (λ l₆. alloc1 ! (λ l₇. alloc1 ! (λ l₈. alloc1 ! (λ l₉. alloc1 ! (λ l₁₀. alloc0 ! $ params1 ! $
-        pass1 ! (init ! 18 refl (book-typed 𝓤 H A W k gk)) $ pass1 ! (init ! 16 refl (tt, (tt, (record { fits = room .0 }, tt)))) $ pass1 ! (init ! 14 refl (tt, (tt, (record { fits = room₂ .0 }, tt)))) $
-        pass1 ! (init ! 12 refl (time-typed 𝓤 H A W time gt)) $ pass1 ! (init ! 10 refl (tt, (tt, (record { fits = room₃ .0 }, tt)))) $ pass0 ! $
+        pass1 ! (init ! 18 refl (book-typed 𝓤 H A W k _ gk)) $ pass1 ! (init ! 16 refl (tt, (tt, (record { fits = room .0 }, tt)))) $ pass1 ! (init ! 14 refl (tt, (tt, (record { fits = room₂ .0 }, tt)))) $
+        pass1 ! (init ! 12 refl (time-typed 𝓤 H A W time _ gt)) $ pass1 ! (init ! 10 refl (tt, (tt, (record { fits = room₃ .0 }, tt)))) $ pass0 ! $
         -- [_10; …; _0; …; the tokens; what the parameters own]
         move ! (23 ∷ []) $ fsplit ! $ drop ! $ fsplit ! $ move ! (1 ∷ []) $ fsplit ! $ move ! (1 ∷ []) $ fsplit ! $ drop ! $ fsplit ! $ move ! (1 ∷ []) $ drop ! $ move ! (25 ∷ 2 ∷ 1 ∷ 0 ∷ []) $
         -- [the tokens; pools; body; output; _10 at 4; …; _0 at 24]

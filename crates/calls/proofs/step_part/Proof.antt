@@ -157,8 +157,8 @@ module _ {M : Type 1} (𝓤 : URA M) (H : Heap 𝓤) (A : Atoms 𝓤) (W : Given
     walk gk room room₂ gs gp gt room₃ within =
         qed W (Tokens ∷ All ∷ []) ∵ enter ! (𝓣 .C) (𝓣 .Λ) code.function (given 𝓤 H A W mem run κs qs a) _ $
         alloc1 ! (λ l₀. alloc1 ! (λ l₁. alloc1 ! (λ l₂. alloc1 ! (λ l₃. alloc1 ! (λ l₄. alloc1 ! (λ l₅. alloc1 ! (λ l₆. alloc1 ! (λ l₇. alloc1 ! (λ l₈. alloc1 ! (λ l₉. alloc1 ! (λ l₁₀. alloc1 ! (λ l₁₁. alloc1 ! (λ l₁₂. alloc1 ! (λ l₁₃. alloc1 ! (λ l₁₄. alloc1 ! (λ l₁₅. alloc1 ! (λ l₁₆. alloc1 ! (λ l₁₇. alloc0 ! $ params1 ! $
-        pass1 ! (init ! 32 refl (book-typed 𝓤 H A W (a .0) gk)) $ pass1 ! (init ! 30 refl (tt, (tt, (record { fits = room .0 }, tt)))) $ pass1 ! (init ! 28 refl (tt, (tt, (record { fits = room₂ .0 }, tt)))) $ pass1 ! (init ! 26 refl (tt, record { fits = gs })) $
-        pass1 ! (init ! 24 refl (tt, record { fits = gp })) $ pass1 ! (init ! 22 refl (time-typed 𝓤 H A W time gt)) $ pass1 ! (init ! 20 refl (tt, (tt, (record { fits = room₃ .0 }, tt)))) $ pass0 ! $
+        pass1 ! (init ! 32 refl (book-typed 𝓤 H A W (a .0) _ gk)) $ pass1 ! (init ! 30 refl (tt, (tt, (record { fits = room .0 }, tt)))) $ pass1 ! (init ! 28 refl (tt, (tt, (record { fits = room₂ .0 }, tt)))) $ pass1 ! (init ! 26 refl (tt, record { fits = gs })) $
+        pass1 ! (init ! 24 refl (tt, record { fits = gp })) $ pass1 ! (init ! 22 refl (time-typed 𝓤 H A W time _ gt)) $ pass1 ! (init ! 20 refl (tt, (tt, (record { fits = room₃ .0 }, tt)))) $ pass0 ! $
         -- [_17; …; _0; …; the tokens; what the parameters own]
         move ! (37 ∷ []) $ fsplit ! $ drop ! $ fsplit ! $ move ! (1 ∷ []) $ fsplit ! $ move ! (1 ∷ []) $ fsplit ! $ drop ! $ fsplit ! $ drop ! $ fsplit ! $ drop ! $ fsplit ! $ move ! (1 ∷ []) $ drop ! $ move ! (39 ∷ 2 ∷ 1 ∷ 0 ∷ []) $
         -- [the tokens; pools; tape; output; _17 at 4; …; _0 at 38]

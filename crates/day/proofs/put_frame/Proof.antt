@@ -55,8 +55,8 @@ use Rattle.day.specs.declared.Going.{Going}
 use Rattle.day.specs.declared.Place.{Place}
 use Rattle.day.specs.Turns.{placeAfter, countedOf, turn}
 use Rattle.day.proofs.Turning.{outgoing, outgoing-are, outgoing-long, turned}
-use Rattle.staged.proofs.Values.{BookR, bookVals, book-makes, SteppedR, steppedVals, stepped-makes, stepped-typed, TimeR, timeVals, time-makes, time-typed}
-use Rattle.day.proofs.Values.{book-typed-at, book-is, book-its, stepped-is, stepped-its, midnight, midnight-is, GoingR, goingVal, goingVals, going-tells, going-makes, going-typed, going-is, going-its, PlaceR, placeVals, place-makes, place-typed, place-is, place-its}
+use Rattle.staged.proofs.Values.{BookR, bookVals, book-makes, book-typed, SteppedR, steppedVals, stepped-makes, stepped-typed, TimeR, timeVals, time-makes, time-typed}
+use Rattle.day.proofs.Values.{book-is, book-its, stepped-is, stepped-its, midnight, midnight-is, GoingR, goingVal, goingVals, going-tells, going-makes, going-typed, going-is, going-its, PlaceR, placeVals, place-makes, place-typed, place-is, place-its}
 use Rattle.day.proofs.frame_after as fa
 use Rattle.day.proofs.frame_after.Symbol as after-def
 use Rattle.day.proofs.frame_after.Symbol.{name as #day·frame-after}
@@ -293,7 +293,7 @@ module _ {M : Type 1} (𝓤 : URA M) (H : Heap 𝓤) (A : Atoms 𝓤) (W : Given
         calls-at ! (fmOf 𝓤 H (W .laws) 𝓣) (BookOf 𝓤 H A mem run) known-book to-book (and-then ! (load ! (from ! (stop !)) (look ! 31 refl)) (no-more !)) (λ w₁.
         use1 W (later (some (λ (r₁ : Book). (‵ ftrue ⊛ ‵ (BookR .own r₁ (w₁ ∷ []))) ⊛ raw (ensured 𝓤 H A bo.ended (bo.clauses 𝓤 H A mem run) tt (g, tt) tt r₁)))) (id⊢ 𝓤 _) $ await ! tt $ pick ! (λ r₁.
         split ! $ move ! (1 ∷ []) $ use1 W (raw (fact 𝓤 (r₁ ≡ bk))) (said-book r₁) $ heard ! (r₁ ≡ bk) (λ e₁. split ! $ drop ! $ rewrite ! 0 (λ (z : Book). ‵ (BookR .own z (w₁ ∷ []))) e₁ refl $
-        peeks ! BookR (Is BookR) (shows 𝓤 H A BookR) bk (w₁ ∷ []) (λ gb. land ! (from ! (stop !)) (init ! 23 refl (book-typed-at 𝓤 H A W bk w₁ gb)) $ rewrite ! 23 (λ (u : Val). ‵ (fat fullShare (τ 5) l₅ 0 u)) (book-is bk w₁ gb) refl $ drop ! $
+        peeks ! BookR (Is BookR) (shows 𝓤 H A BookR) bk (w₁ ∷ []) (λ gb. land ! (from ! (stop !)) (init ! 23 refl (book-typed 𝓤 H A W bk w₁ gb)) $ rewrite ! 23 (λ (u : Val). ‵ (fat fullShare (τ 5) l₅ 0 u)) (book-is bk w₁ gb) refl $ drop ! $
         use0 W (raw (StartOf 𝓤 H A mem run .pre to-start)) (goes-start (place-its place w gp)) $
         calls-at ! (fmOf 𝓤 H (W .laws) 𝓣) (StartOf 𝓤 H A mem run) known-start to-start (and-then ! (load ! (from ! (stop !)) (look ! 25 refl)) (no-more !)) (λ w₅.
         use1 W (later (some (λ (j : ℕ). (‵ ftrue ⊛ ‵ (usize .own j (w₅ ∷ []))) ⊛ raw (ensured 𝓤 H A so.ended (so.clauses 𝓤 H A mem run) tt (place, tt) tt j)))) (id⊢ 𝓤 _) $ await ! tt $ pick ! (λ j₅.
@@ -308,7 +308,7 @@ module _ {M : Type 1} (𝓤 : URA M) (H : Heap 𝓤) (A : Atoms 𝓤) (W : Given
         assigns ! (rep ! 217 (lit ! tt)) (from ! (stop !)) (init ! 16 refl (typed-zeros 𝓤 H A W 217)) $
         assigns ! (addr ! (from ! (fld ! refl (hop ! (look-in ! 28 (sub ! 0 refl (whole !))) (stop !))))) (from ! (stop !)) (init ! 12 refl (tt, tt)) $
         assigns ! (agg ! (and-then ! (load ! (from ! (stop !)) (look ! 12 refl)) (and-then ! (load ! (from ! (fld ! refl (stop !))) (look-in ! 28 (sub ! 1 refl (whole !)))) (no-more !)))) (from ! (stop !)) (init ! 10 refl (tt, (tt, (record { fits = room .0 }, tt)))) $
-        assigns ! (rep ! 6 (lit ! tt)) (from ! (stop !)) (init ! 8 refl (time-typed 𝓤 H A W midnight midnight-is)) $
+        assigns ! (rep ! 6 (lit ! tt)) (from ! (stop !)) (init ! 8 refl (time-typed 𝓤 H A W midnight _ midnight-is)) $
         assigns ! (addr ! (from ! (stop !))) (from ! (stop !)) (init ! 6 refl (tt, tt)) $
         assigns ! (agg ! (and-then ! (load ! (from ! (stop !)) (look ! 6 refl)) (and-then ! (lit ! tt) (no-more !)))) (from ! (stop !)) (init ! 4 refl (tt, (tt, (record { fits = lit< tt }, tt)))) $
         -- the array's elements are lent, for ν

@@ -56,13 +56,14 @@ use Rattle.opened.specs.declared.Opened.{Opened}
 use Rattle.figures.specs.declared.Figures.{Figures}
 use Rattle.day.specs.declared.Day.{Day}
 use Rattle.day.specs.Days.{Passes}
-use Rattle.staged.proofs.Values.{BookR, bookVals, book-makes}
-use Rattle.day.proofs.Values.{book-typed-at, book-is, book-its}
+use Rattle.staged.proofs.Values.{BookR, bookVals, book-makes, book-typed}
+use Rattle.day.proofs.Values.{book-is, book-its, DayR, dayVals, day-makes, day-typed, day-is, day-its}
+use Rattle.open_table.proofs.MachineValues.{ValuesR, valuesVal, valuesVals, values-tells, values-makes, values-typed, OpenedR, openedVals, opened-makes, opened-typed, opened-is, opened-its}
 use Rattle.table_figures.proofs.MachineValues.{FiguresR, figuresVals, figures-makes, figures-typed, figures-is, figures-its}
 use Rattle.daytape.specs.declared.Report.{Report}
 use Rattle.daytape.specs.Program.{reportOf, ReportsOver}
 use Rattle.daytape.proofs.Given.{noPools, no-pools-are, no-pools-long, reports}
-use Rattle.daytape.proofs.MachineValues.{ValuesR, valuesVal, valuesVals, values-tells, values-makes, values-typed, OpenedR, openedVals, opened-makes, opened-typed, opened-is, opened-its, DayR, dayVals, day-makes, day-typed, day-is, day-its, ReportR, reportVal, reportVals, report-makes, report-typed, report-is, report-its}
+use Rattle.daytape.proofs.MachineValues.{ReportR, reportVal, reportVals, report-makes, report-typed, report-is, report-its}
 use Rattle.daytape.proofs.no_pool as np
 use Rattle.daytape.proofs.no_pool.Symbol as none-def
 use Rattle.daytape.proofs.no_pool.Symbol.{name as #daytape·no-pool}
@@ -260,7 +261,7 @@ module _ {M : Type 1} (𝓤 : URA M) (H : Heap 𝓤) (A : Atoms 𝓤) (W : Given
     walk gv room₂ =
         qed W (Token ∷ ‵ (owns (ValuesR ∷ ShrSlice (named 0) κ u8 ∷ []) a at) ∷ []) ∵ enter ! (𝓣 .C) (𝓣 .Λ) code.function (valuesVal v ∷ s₂ ∷ []) _ $
         alloc1 ! (λ l₀. alloc1 ! (λ l₁. alloc1 ! (λ l₂. alloc1 ! (λ l₃. alloc1 ! (λ l₄. alloc1 ! (λ l₅. alloc1 ! (λ l₆. alloc1 ! (λ l₇. alloc1 ! (λ l₈. alloc1 ! (λ l₉. alloc1 ! (λ l₁₀. alloc1 ! (λ l₁₁. alloc1 ! (λ l₁₂. alloc1 ! (λ l₁₃. alloc1 ! (λ l₁₄. alloc1 ! (λ l₁₅. alloc0 ! $ params1 ! $
-        pass1 ! (init ! 28 refl (values-typed 𝓤 H A W v gv)) $ pass1 ! (init ! 26 refl (tt, (tt, (record { fits = room₂ .0 }, tt)))) $ pass0 ! $
+        pass1 ! (init ! 28 refl (values-typed 𝓤 H A W v _ gv)) $ pass1 ! (init ! 26 refl (tt, (tt, (record { fits = room₂ .0 }, tt)))) $ pass0 ! $
         -- [_15; …; _0; …; the token; what the parameters own]
         move ! (33 ∷ []) $ fsplit ! $ drop ! $ fsplit ! $ move ! (1 ∷ []) $ drop ! $ move ! (33 ∷ []) $
         -- [the token; tape; _15 at 2; …; _4 at 24; _3 at 26; _2 at 28; _1 at 30; _0 at 32]
@@ -290,7 +291,7 @@ module _ {M : Type 1} (𝓤 : URA M) (H : Heap 𝓤) (A : Atoms 𝓤) (W : Given
         calls-at ! (fmOf 𝓤 H (W .laws) 𝓣) (BookOpened 𝓤 H A mem run) known-opened (to-opened r₁) (and-then ! (load ! (from ! (stop !)) (look ! 24 refl)) (no-more !)) (λ w₂.
         use1 W (later (some (λ (b : Book). (‵ ftrue ⊛ ‵ (BookR .own b (w₂ ∷ []))) ⊛ raw (ensured 𝓤 H A bo.ended (bo.clauses 𝓤 H A mem run) tt (r₁, tt) tt b)))) (id⊢ 𝓤 _) $ await ! tt $ pick ! (λ b.
         split ! $ move ! (1 ∷ []) $ use1 W (raw (fact 𝓤 (b ≡ r₁ .book))) (said-opened r₁ b) $ heard ! (b ≡ r₁ .book) (λ e₂. split ! $ drop ! $
-        peeks ! BookR (Is BookR) (shows 𝓤 H A BookR) b (w₂ ∷ []) (λ gb. land ! (from ! (stop !)) (init ! 22 refl (book-typed-at 𝓤 H A W b w₂ gb)) $ rewrite ! 22 (λ (u : Val). ‵ (fat fullShare (τ 6) l₆ 0 u)) (book-is b w₂ gb) refl $ drop ! $
+        peeks ! BookR (Is BookR) (shows 𝓤 H A BookR) b (w₂ ∷ []) (λ gb. land ! (from ! (stop !)) (init ! 22 refl (book-typed 𝓤 H A W b w₂ gb)) $ rewrite ! 22 (λ (u : Val). ‵ (fat fullShare (τ 6) l₆ 0 u)) (book-is b w₂ gb) refl $ drop ! $
         assigns ! (addr ! (from ! (stop !))) (from ! (stop !)) (init ! 9 refl (tt, tt)) $
         assigns ! (agg ! (and-then ! (load ! (from ! (stop !)) (look ! 9 refl)) (and-then ! (lit ! tt) (no-more !)))) (from ! (stop !)) (init ! 7 refl (tt, (tt, (record { fits = lit< tt }, tt)))) $
         -- `run_day`: the records are lent as a `&mut`, for ν₂
@@ -313,7 +314,7 @@ module _ {M : Type 1} (𝓤 : URA M) (H : Heap 𝓤) (A : Atoms 𝓤) (W : Given
         calls-at ! (fmOf 𝓤 H (W .laws) 𝓣) (BookAfter 𝓤 H A mem run) known-after (to-after d) (and-then ! (load ! (from ! (stop !)) (look ! 20 refl)) (no-more !)) (λ w₄.
         use1 W (later (some (λ (b₂ : Book). (‵ ftrue ⊛ ‵ (BookR .own b₂ (w₄ ∷ []))) ⊛ raw (ensured 𝓤 H A ba.ended (ba.clauses 𝓤 H A mem run) tt (d, tt) tt b₂)))) (id⊢ 𝓤 _) $ await ! tt $ pick ! (λ b₂.
         split ! $ move ! (1 ∷ []) $ use1 W (raw (fact 𝓤 (b₂ ≡ d .book))) (said-after d b₂) $ heard ! (b₂ ≡ d .book) (λ e₄. split ! $ drop ! $
-        peeks ! BookR (Is BookR) (shows 𝓤 H A BookR) b₂ (w₄ ∷ []) (λ gb₂. land ! (from ! (stop !)) (init ! 18 refl (book-typed-at 𝓤 H A W b₂ w₄ gb₂)) $ rewrite ! 18 (λ (u : Val). ‵ (fat fullShare (τ 8) l₈ 0 u)) (book-is b₂ w₄ gb₂) refl $ drop ! $
+        peeks ! BookR (Is BookR) (shows 𝓤 H A BookR) b₂ (w₄ ∷ []) (λ gb₂. land ! (from ! (stop !)) (init ! 18 refl (book-typed 𝓤 H A W b₂ w₄ gb₂)) $ rewrite ! 18 (λ (u : Val). ‵ (fat fullShare (τ 8) l₈ 0 u)) (book-is b₂ w₄ gb₂) refl $ drop ! $
         assigns ! (addr ! (from ! (stop !))) (from ! (stop !)) (init ! 5 refl (tt, tt)) $
         assigns ! (agg ! (and-then ! (load ! (from ! (stop !)) (look ! 5 refl)) (and-then ! (lit ! tt) (no-more !)))) (from ! (stop !)) (init ! 3 refl (tt, (tt, (record { fits = lit< tt }, tt)))) $
         -- `table_figures`: the records are lent as a `&`, for μ

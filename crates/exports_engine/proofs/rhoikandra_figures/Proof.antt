@@ -43,9 +43,8 @@ use Rattle.image.specs.Images.{isImage}
 use Rattle.padded.specs.Calls.{Says}
 use Rattle.exports_engine.specs.Reading.{Reads}
 use Rattle.exports_engine.specs.Figures.{figuresNumbers, figuresIn}
-use Rattle.staged.proofs.Values.{BookR, book-makes}
+use Rattle.staged.proofs.Values.{BookR, book-makes, book-typed}
 use Rattle.table_figures.proofs.MachineValues.{FiguresR, figures-makes, figures-typed}
-use Rattle.exports_engine.proofs.Passing.{book-typed-at}
 use Rattle.exports_engine.proofs.Saying.{figures-said}
 use Rattle.exports_engine.proofs.book_of as bo
 use Rattle.exports_engine.proofs.book_of.Symbol as book-def
@@ -194,7 +193,7 @@ module _ {M : Type 1} (𝓤 : URA M) (H : Heap 𝓤) (A : Atoms 𝓤) (W : Given
         calls-at ! (fmOf 𝓤 H (W .laws) 𝓣) (BookOf 𝓤 H A mem run) known-book to-book (and-then ! (load ! (from ! (stop !)) (look ! 21 refl)) (no-more !)) (λ w.
         use1 W (later (some (λ (k : Book). (First ⊛ ‵ (BookR .own k (w ∷ []))) ⊛ raw (ensured 𝓤 H A bo.ended (bo.clauses 𝓤 H A mem run) (κ, tt) (x, tt) tt k)))) (id⊢ 𝓤 _) $ await ! tt $ pick ! (λ k.
         split ! $ move ! (1 ∷ []) $ use1 W (raw (fact 𝓤 (Reads (isImage ws) ws k))) (said-book k) $ heard ! (Reads (isImage ws) ws k) (λ e. split ! $ move ! (1 ∷ []) $
-        peeks ! BookR (Is BookR) (shows 𝓤 H A BookR) k (w ∷ []) (λ is. land ! (from ! (stop !)) (init ! 14 refl (book-typed-at 𝓤 H A W w k is)) $ drop ! $
+        peeks ! BookR (Is BookR) (shows 𝓤 H A BookR) k (w ∷ []) (λ is. land ! (from ! (stop !)) (init ! 14 refl (book-typed 𝓤 H A W k w is)) $ drop ! $
         -- [the first token; image; the other tokens; pools; out; _9 at 5; …]: `table_figures` has a copy of the records
         move ! (2 ∷ []) $ split ! $ move ! (4 ∷ []) $ use1 W (Pools ⊛ Pools) (shr-slice-copy 𝓤 H A W (named 1) κ₂ R .twice y (s₂ ∷ [])) $ split ! $ move ! (2 ∷ 0 ∷ []) $ use2 W (raw (TableFigures 𝓤 H A mem run .pre (to-figures k w))) (goes-figures k w is gv) $
         -- [what `table_figures` asks; pools; the third token; the first token; image; out; _9 at 6; …; _5 at 14; …; _3 at 18; …; _2 at 20; …]

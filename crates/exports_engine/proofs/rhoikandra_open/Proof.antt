@@ -44,8 +44,7 @@ use Rattle.records.proofs.Row.{R}
 use Rattle.padded.specs.Calls.{Opens}
 use Rattle.exports_engine.specs.Reading.{ReadsValues}
 use Rattle.exports_engine.specs.Opening.{OpensTo, Opening}
-use Rattle.open_table.proofs.MachineValues.{ValuesR, OpenedR, values-makes, opened-makes}
-use Rattle.exports_engine.proofs.Passing.{values-typed-at, opened-typed-at}
+use Rattle.open_table.proofs.MachineValues.{ValuesR, OpenedR, values-makes, opened-makes, values-typed, opened-typed}
 use Rattle.exports_engine.proofs.Opening.{opening-made}
 use Rattle.exports_engine.proofs.values_of as vo
 use Rattle.exports_engine.proofs.values_of.Symbol as values-def
@@ -187,7 +186,7 @@ module _ {M : Type 1} (𝓤 : URA M) (H : Heap 𝓤) (A : Atoms 𝓤) (W : Given
         calls-at ! (fmOf 𝓤 H (W .laws) 𝓣) (ValuesOf 𝓤 H A mem run) known-values (to-values ν δ) (and-then ! (load ! (from ! (stop !)) (look ! 12 refl)) (no-more !)) (λ w.
         use1 W (later (some (λ (v : Values). ((‵ (flft (ν ∷ []) fullShare) ⊛ ‵ ftrue) ⊛ ‵ (ValuesR .own v (w ∷ []))) ⊛ raw (ensured 𝓤 H A vo.ended (vo.clauses 𝓤 H A mem run) (ν ∷ [], tt) (x δ, tt) tt v)))) (id⊢ 𝓤 _) $ await ! tt $ pick ! (λ v.
         split ! $ move ! (1 ∷ []) $ use1 W (raw (fact 𝓤 (ReadsValues ws v))) (said-values ν δ v) $ heard ! (ReadsValues ws v) (λ e. split ! $ move ! (1 ∷ []) $
-        peeks ! ValuesR (Is ValuesR) (shows 𝓤 H A ValuesR) v (w ∷ []) (λ is. land ! (from ! (stop !)) (init ! 19 refl (values-typed-at 𝓤 H A W w v is)) $ drop ! $
+        peeks ! ValuesR (Is ValuesR) (shows 𝓤 H A ValuesR) v (w ∷ []) (λ is. land ! (from ! (stop !)) (init ! 19 refl (values-typed 𝓤 H A W v w is)) $ drop ! $
         split ! $ lft-end ! tt $ move ! (0 ∷ 2 ∷ []) $ use2 W (later (Image ⊛ ‵ (flft κ q))) (shared-back u64 κ (ν ∷ []) q γ b o 𝓤 H A W (named 0) (named 0) ws room) $ await ! tt $ split ! $ move ! (2 ∷ []) $ drop ! $
         -- [image; its token; the second token; pools; _10 at 4; …; _8 at 8; _7 at 10; …; _2 at 20; …]
         assigns ! (addr ! (from ! (fld ! refl (hop ! (look-in ! 20 (sub ! 0 refl (whole !))) (stop !))))) (from ! (stop !)) (init ! 10 refl (tt, tt)) $
@@ -199,7 +198,7 @@ module _ {M : Type 1} (𝓤 : URA M) (H : Heap 𝓤) (A : Atoms 𝓤) (W : Given
         split ! $ move ! (1 ∷ []) $ use1 W (some (λ (zs : Unit {0} × (List Pool × Unit {0})). ‵ (lasts ot.ended (κ₂, tt) (v, (y, tt)) zs) ⊛ raw (fact 𝓤 (Opens v ys r (zs .1 .0))))) (id⊢ 𝓤 _) $ pick ! (λ zs.
         split ! $ move ! (1 ∷ []) $ heard ! (Opens v ys r (zs .1 .0)) (λ e₂. fsplit ! $ drop ! $ fsplit ! $ fsplit ! $ move ! (1 ∷ []) $ feqL ! (λ len₂.
         -- [the last records; true; the second token and the result; image; its token; _10 at 5; …; _4 at 17; …]
-        move ! (1 ∷ []) $ drop ! $ move ! (1 ∷ []) $ split ! $ move ! (1 ∷ []) $ peeks ! OpenedR (Is OpenedR) (shows 𝓤 H A OpenedR) r (w₂ ∷ []) (λ is₂. land ! (from ! (stop !)) (init ! 17 refl (opened-typed-at 𝓤 H A W w₂ r is₂)) $ drop ! $
+        move ! (1 ∷ []) $ drop ! $ move ! (1 ∷ []) $ split ! $ move ! (1 ∷ []) $ peeks ! OpenedR (Is OpenedR) (shows 𝓤 H A OpenedR) r (w₂ ∷ []) (λ is₂. land ! (from ! (stop !)) (init ! 17 refl (opened-typed 𝓤 H A W r w₂ is₂)) $ drop ! $
         -- [the second token; the last records; image; its token; _10 at 4; _9 at 6; …; _1 at 22; …]
         assigns ! (addr ! (from ! (fld ! refl (hop ! (look-in ! 22 (sub ! 0 refl (whole !))) (stop !))))) (from ! (stop !)) (init ! 6 refl (tt, tt)) $
         assigns ! (agg ! (and-then ! (load ! (from ! (stop !)) (look ! 6 refl)) (and-then ! (load ! (from ! (fld ! refl (stop !))) (look-in ! 22 (sub ! 1 refl (whole !)))) (no-more !)))) (from ! (stop !)) (init ! 4 refl (tt, (tt, (record { fits = room .0 }, tt)))) $

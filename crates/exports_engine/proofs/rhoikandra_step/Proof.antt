@@ -44,8 +44,7 @@ use Rattle.records.proofs.Row.{R}
 use Rattle.padded.specs.Calls.{Framed}
 use Rattle.exports_engine.specs.Reading.{Reads}
 use Rattle.exports_engine.specs.Calls.{timeWidth, callable, Finishes, Calls}
-use Rattle.staged.proofs.Values.{BookR, SteppedR, TimeR, book-makes, stepped-makes, time-makes, stepped-typed}
-use Rattle.exports_engine.proofs.Passing.{book-typed-at, time-typed-at}
+use Rattle.staged.proofs.Values.{BookR, SteppedR, TimeR, book-makes, stepped-makes, time-makes, book-typed, stepped-typed, time-typed}
 use Rattle.exports_engine.proofs.Calling.{called}
 use Rattle.exports_engine.proofs.start as sa
 use Rattle.exports_engine.proofs.start.Symbol as start-def
@@ -273,7 +272,7 @@ module _ {M : Type 1} (𝓤 : URA M) (H : Heap 𝓤) (A : Atoms 𝓤) (W : Given
         calls-at ! (fmOf 𝓤 H (W .laws) 𝓣) (Start 𝓤 H A mem run) known-start (to-start ν δ) (and-then ! (load ! (from ! (stop !)) (look ! 29 refl)) (and-then ! (load ! (from ! (stop !)) (look ! 43 refl)) (no-more !))) (λ w.
         use1 W (later (some (λ (k : Book). ((N ν δ ⊛ K₄ ⊛ ‵ ftrue) ⊛ ‵ (BookR .own k (w ∷ []))) ⊛ raw (ensured 𝓤 H A sa.ended (sa.clauses 𝓤 H A mem run) (ν ∷ [], (κ₄, tt)) (x₁ δ, (x₄, tt)) tt k)))) (id⊢ 𝓤 _) $ await ! tt $ pick ! (λ k.
         split ! $ move ! (1 ∷ []) $ use1 W (raw (fact 𝓤 (Reads (callable ws ts) ws k))) (said-start ν δ k) $ heard ! (Reads (callable ws ts) ws k) (λ e. split ! $ move ! (1 ∷ []) $
-        peeks ! BookR (Is BookR) (shows 𝓤 H A BookR) k (w ∷ []) (λ is. land ! (from ! (stop !)) (init ! 38 refl (book-typed-at 𝓤 H A W w k is)) $ drop ! $
+        peeks ! BookR (Is BookR) (shows 𝓤 H A BookR) k (w ∷ []) (λ is. land ! (from ! (stop !)) (init ! 38 refl (book-typed 𝓤 H A W k w is)) $ drop ! $
         split ! $ lft-end ! tt $ move ! (0 ∷ 3 ∷ []) $ use2 W (later (Image ⊛ K₁)) (shared-back u64 κ₁ (ν ∷ []) q₁ γ₁ b₁ o₁ 𝓤 H A W (named 0) (named 0) ws room₁) $ await ! tt $ split ! $
         -- [image; token 1; token 4; time; tokens 2, 3, 5, 6; pools; body; out; said; _20 at 12; …]: `six_of` has a copy of the time bytes
         move ! (3 ∷ []) $ use1 W (Time ⊛ Time) (shr-slice-copy 𝓤 H A W (named 3) κ₄ u8 .twice x₄ (s₄ ∷ [])) $ split ! $ move ! (4 ∷ 0 ∷ []) $ use2 W (raw (SixOf 𝓤 H A mem run .pre to-six)) goes-six $
@@ -281,7 +280,7 @@ module _ {M : Type 1} (𝓤 : URA M) (H : Heap 𝓤) (A : Atoms 𝓤) (W : Given
         calls-at ! (fmOf 𝓤 H (W .laws) 𝓣) (SixOf 𝓤 H A mem run) known-six to-six (and-then ! (load ! (from ! (stop !)) (look ! 44 refl)) (no-more !)) (λ w₂.
         use1 W (later (some (λ (six : List ℕ). ((K₄ ⊛ ‵ ftrue) ⊛ ‵ (TimeR .own six (w₂ ∷ []))) ⊛ raw (ensured 𝓤 H A so.ended (so.clauses 𝓤 H A mem run) (κ₄, tt) (x₄, tt) tt six)))) (id⊢ 𝓤 _) $ await ! tt $ pick ! (λ six.
         split ! $ move ! (1 ∷ []) $ use1 W (raw (fact 𝓤 (Sixes six))) (said-six six) $ heard ! (Sixes six) (λ e₂. split ! $ move ! (1 ∷ []) $
-        peeks ! TimeR (Is TimeR) (shows 𝓤 H A TimeR) six (w₂ ∷ []) (λ is₂. land ! (from ! (stop !)) (init ! 37 refl (time-typed-at 𝓤 H A W w₂ six is₂)) $ drop ! $
+        peeks ! TimeR (Is TimeR) (shows 𝓤 H A TimeR) six (w₂ ∷ []) (λ is₂. land ! (from ! (stop !)) (init ! 37 refl (time-typed 𝓤 H A W six w₂ is₂)) $ drop ! $
         -- [token 4; time; image; tokens 1, 2, 3, 5, 6; pools; body; out; said; _20 at 12; …]
         assigns ! (addr ! (from ! (fld ! refl (hop ! (look-in ! 48 (sub ! 0 refl (whole !))) (stop !))))) (from ! (stop !)) (init ! 28 refl (tt, tt)) $
         assigns ! (agg ! (and-then ! (load ! (from ! (stop !)) (look ! 28 refl)) (and-then ! (load ! (from ! (fld ! refl (stop !))) (look-in ! 48 (sub ! 1 refl (whole !)))) (no-more !)))) (from ! (stop !)) (init ! 26 refl (tt, (tt, (record { fits = room₂ .0 }, tt)))) $

@@ -1,4 +1,5 @@
 -- The book that was read where the time bytes are six, and else one that is refused.
+use Rattle.image_reading.proofs.Whole.{read-fine, read-whole}
 use Rattle.exports_engine.proofs.Reading.{starts-given}
 use borrow.Author.Needs.{needs}
 use Rattle.exports_engine.proofs.start.Statement.{statement}
@@ -13,7 +14,7 @@ refused-unless-requires c κs = search needs
 returns : tie.Need-returns
 returns c =
     let read = c .before .before .before in
-    starts-given (read .before .before .before .args .image .now) _ (c .refused-unless .result) (read .before .before .before .args .time .now) _ (read .read-book .ensures .0) (c .refused-unless .ensures) (read .read-book .ensures .1)
+    starts-given (read .before .before .before .args .image .now) _ (c .refused-unless .result) (read .before .before .before .args .time .now) _ (read-fine _ _ (read .read-book .ensures)) (c .refused-unless .ensures) (read-whole _ _ (read .read-book .ensures))
 
 pub start-spec : {M : Type 1} → statement M
 start-spec = tie.close (tie.spec read-book-requires refused-unless-requires returns)

@@ -138,7 +138,7 @@ module _ {M : Type 1} (𝓤 : URA M) (H : Heap 𝓤) (A : Atoms 𝓤) (W : Given
     walk gv room =
         qed W (Tokens ∷ ‵ (owns (ValuesR ∷ MutSlice (named 0) κ R ∷ []) a at) ∷ []) ∵ enter ! (𝓣 .C) (𝓣 .Λ) code.function (valuesVal v ∷ s ∷ []) _ $
         alloc1 ! (λ l₀. alloc1 ! (λ l₁. alloc1 ! (λ l₂. alloc1 ! (λ l₃. alloc1 ! (λ l₄. alloc1 ! (λ l₅. alloc1 ! (λ l₆. alloc1 ! (λ l₇. alloc1 ! (λ l₈. alloc0 ! $ params1 ! $
-        pass1 ! (init ! 14 refl (values-typed 𝓤 H A W v gv)) $ pass1 ! (init ! 12 refl (tt, (tt, (record { fits = room .0 }, tt)))) $ pass0 ! $
+        pass1 ! (init ! 14 refl (values-typed 𝓤 H A W v _ gv)) $ pass1 ! (init ! 12 refl (tt, (tt, (record { fits = room .0 }, tt)))) $ pass0 ! $
         -- [_8; …; _0; …; the tokens; what the parameters own]
         move ! (19 ∷ []) $ fsplit ! $ drop ! $ fsplit ! $ move ! (1 ∷ []) $ drop ! $ move ! (19 ∷ []) $
         -- [the token; pools; _8 at 2; …; _5 at 8; _4 at 10; _3 at 12; _2 at 14; _1 at 16; _0 at 18]
@@ -161,7 +161,7 @@ module _ {M : Type 1} (𝓤 : URA M) (H : Heap 𝓤) (A : Atoms 𝓤) (W : Given
         -- [the last table; the token and the result; _8 at 2; …]
         move ! (1 ∷ []) $ split ! $ move ! (1 ∷ []) $ peeks ! Nothing (Is Nothing) (shows 𝓤 H A Nothing) t (w₂ ∷ []) (λ u. land ! (from ! (stop !)) (init ! 7 refl (nothing-lawful 𝓤 H A W .typed t _ u .0)) $ drop ! $
         -- [the token; the last table; _8 at 2; …; _0 at 18]
-        assigns ! (of-opd ! (load ! (from ! (fld ! refl (stop !))) (look-in ! 12 (sub ! 0 refl (whole !))))) (from ! (stop !)) (init ! 18 refl (opened-typed 𝓤 H A W (c .opened) (opened-of c w gc))) $
+        assigns ! (of-opd ! (load ! (from ! (fld ! refl (stop !))) (look-in ! 12 (sub ! 0 refl (whole !))))) (from ! (stop !)) (init ! 18 refl (opened-typed 𝓤 H A W (c .opened) _ (opened-of c w gc))) $
         returns ! (look ! 18 refl) $ forget ! 2 refl $ forget ! 4 refl $ forget ! 6 refl $ forget ! 8 refl $ forget ! 10 refl $ forget ! 12 refl $ forget ! 14 refl $ forget ! 16 refl $ forget ! 18 refl $
         move ! (18 ∷ 19 ∷ []) $ free1 ! $ move ! (16 ∷ 17 ∷ []) $ free1 ! $ move ! (14 ∷ 15 ∷ []) $ free1 ! $ move ! (12 ∷ 13 ∷ []) $ free1 ! $ move ! (10 ∷ 11 ∷ []) $ free1 ! $ move ! (8 ∷ 9 ∷ []) $ free1 ! $
         move ! (6 ∷ 7 ∷ []) $ free1 ! $ move ! (4 ∷ 5 ∷ []) $ free1 ! $ move ! (2 ∷ 3 ∷ []) $ free1 ! $ free0 ! $ by ! (exits (c .opened) (zs .0) (opened-of c w gc) lp (opens v ys c told (zs .0) e)))))))))))))))))))))

@@ -451,9 +451,9 @@ module _ {M : Type 1} (𝓤 : URA M) (H : Heap 𝓤) (A : Atoms 𝓤) (W : Given
         qed W ((‵ (flft κ q) ⊛ ‵ (flft κ₂ q₂) ⊛ ‵ (flft κ₃ q₃) ⊛ Rest) ∷ ‵ (owns (BookR ∷ MutSlice (named 0) κ R ∷ MutSlice (named 1) κ₂ N ∷ MutSlice (named 2) κ₃ K ∷ ShrSlice (named 3) κ₄ u8 ∷ usize ∷ usize ∷ TimeR ∷ MutSlice (named 4) κ₅ u8 ∷ []) a at) ∷ []) ∵
         enter ! (𝓣 .C) (𝓣 .Λ) code.function given _ $
         alloc1 ! (λ l₀. alloc1 ! (λ l₁. alloc1 ! (λ l₂. alloc1 ! (λ l₃. alloc1 ! (λ l₄. alloc1 ! (λ l₅. alloc1 ! (λ l₆. alloc1 ! (λ l₇. alloc1 ! (λ l₈. alloc1 ! (λ l₉. alloc1 ! (λ l₁₀. alloc1 ! (λ l₁₁. alloc1 ! (λ l₁₂. alloc1 ! (λ l₁₃. alloc1 ! (λ l₁₄. alloc1 ! (λ l₁₅. alloc1 ! (λ l₁₆. alloc1 ! (λ l₁₇. alloc1 ! (λ l₁₈. alloc1 ! (λ l₁₉. alloc1 ! (λ l₂₀. alloc1 ! (λ l₂₁. alloc1 ! (λ l₂₂. alloc1 ! (λ l₂₃. alloc1 ! (λ l₂₄. alloc1 ! (λ l₂₅. alloc1 ! (λ l₂₆. alloc1 ! (λ l₂₇. alloc1 ! (λ l₂₈. alloc1 ! (λ l₂₉. alloc1 ! (λ l₃₀. alloc1 ! (λ l₃₁. alloc0 ! $ params1 ! $
-        pass1 ! (init ! 60 refl (book-typed 𝓤 H A W k gk)) $ pass1 ! (init ! 58 refl (tt, (tt, (record { fits = room .0 }, tt)))) $ pass1 ! (init ! 56 refl (tt, (tt, (record { fits = room₂ .0 }, tt)))) $
+        pass1 ! (init ! 60 refl (book-typed 𝓤 H A W k _ gk)) $ pass1 ! (init ! 58 refl (tt, (tt, (record { fits = room .0 }, tt)))) $ pass1 ! (init ! 56 refl (tt, (tt, (record { fits = room₂ .0 }, tt)))) $
         pass1 ! (init ! 54 refl (tt, (tt, (record { fits = room₃ .0 }, tt)))) $ pass1 ! (init ! 52 refl (tt, (tt, (record { fits = room₄ .0 }, tt)))) $ pass1 ! (init ! 50 refl (tt, record { fits = gs })) $ pass1 ! (init ! 48 refl (tt, record { fits = gp })) $
-        pass1 ! (init ! 46 refl (time-typed 𝓤 H A W time gt)) $ pass1 ! (init ! 44 refl (tt, (tt, (record { fits = room₅ .0 }, tt)))) $ pass0 ! $
+        pass1 ! (init ! 46 refl (time-typed 𝓤 H A W time _ gt)) $ pass1 ! (init ! 44 refl (tt, (tt, (record { fits = room₅ .0 }, tt)))) $ pass0 ! $
         -- [_31; …; _0; …; the tokens; what the parameters own]
         move ! (65 ∷ []) $ fsplit ! $ drop ! $ fsplit ! $ move ! (1 ∷ []) $ fsplit ! $ move ! (1 ∷ []) $ fsplit ! $ move ! (1 ∷ []) $ fsplit ! $ move ! (1 ∷ []) $ fsplit ! $ drop ! $ fsplit ! $ drop ! $ fsplit ! $ drop ! $ fsplit ! $ move ! (1 ∷ []) $ drop ! $
         -- [output; tape; keys; numbers; pools; _31 at 5; …; the tokens at 69]

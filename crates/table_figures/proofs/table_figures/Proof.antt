@@ -239,7 +239,7 @@ module _ {M : Type 1} (𝓤 : URA M) (H : Heap 𝓤) (A : Atoms 𝓤) (W : Given
     walk gk room gt =
         qed W ((‵ (flft κ q) ⊛ ‵ ftrue) ∷ ‵ (owns (BookR ∷ ShrSlice (named 0) κ R ∷ usize ∷ []) a at) ∷ []) ∵ enter ! (𝓣 .C) (𝓣 .Λ) code.function given _ $
         alloc1 ! (λ l₀. alloc1 ! (λ l₁. alloc1 ! (λ l₂. alloc1 ! (λ l₃. alloc1 ! (λ l₄. alloc1 ! (λ l₅. alloc1 ! (λ l₆. alloc1 ! (λ l₇. alloc1 ! (λ l₈. alloc1 ! (λ l₉. alloc1 ! (λ l₁₀. alloc1 ! (λ l₁₁. alloc1 ! (λ l₁₂. alloc1 ! (λ l₁₃. alloc1 ! (λ l₁₄. alloc1 ! (λ l₁₅. alloc1 ! (λ l₁₆. alloc1 ! (λ l₁₇. alloc0 ! $ params1 ! $
-        pass1 ! (init ! 32 refl (book-typed 𝓤 H A W k gk)) $ pass1 ! (init ! 30 refl (tt, (tt, (record { fits = room .0 }, tt)))) $ pass1 ! (init ! 28 refl (tt, record { fits = gt })) $ pass0 ! $
+        pass1 ! (init ! 32 refl (book-typed 𝓤 H A W k _ gk)) $ pass1 ! (init ! 30 refl (tt, (tt, (record { fits = room .0 }, tt)))) $ pass1 ! (init ! 28 refl (tt, record { fits = gt })) $ pass0 ! $
         -- [_17; …; _0; …; the tokens; what the parameters own]
         move ! (37 ∷ []) $ fsplit ! $ drop ! $ fsplit ! $ move ! (1 ∷ []) $ drop ! $ move ! (37 ∷ []) $ split ! $ move ! (1 ∷ []) $ drop ! $
         -- [the token; pools; _17 at 2; …; _8 at 20; _7 at 22; _6 at 24; _5 at 26; _4 at 28; _3 at 30; _2 at 32; _1 at 34; _0 at 36]
