@@ -1,20 +1,8 @@
-//! Links the proved leaves, which the toolchain writes as static libraries.
+//! Links the proved leaves that only the comparison calls.
 
-use std::path::Path;
-
-const FOLDER: &str = "../target/staticlib";
-const LIBRARIES: [&str; 5] = ["exports_line", "exports_terms", "exports_pools", "exports_output", "exports_tally"];
+#[path = "../rhoikandra/link.rs"]
+mod link;
 
 fn main() {
-    let folder = Path::new(env!("CARGO_MANIFEST_DIR")).join(FOLDER);
-    println!("cargo:rustc-link-search=native={}", folder.display());
-    for library in LIBRARIES {
-        let archive = folder.join(format!("lib{library}.a"));
-        println!("cargo:rerun-if-changed={}", archive.display());
-        if !archive.is_file() {
-            eprintln!("{} is not there: run `rt staticlib {library}` first", archive.display());
-            std::process::exit(1);
-        }
-        println!("cargo:rustc-link-lib=static={library}");
-    }
+    link::archives(&["compare_line", "compare_terms", "compare_pools", "compare_output", "compare_tally"]);
 }

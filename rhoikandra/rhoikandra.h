@@ -1,5 +1,4 @@
-/* The proved allocation book for C programs. Link target/staticlib/libexports_engine.a, which
-   `rt staticlib exports_engine` writes, for the tally libexports_tally.a beside it, and for frames libexports_line.a. */
+/* The proved allocation book for C programs. Link target/staticlib/librhoikandra.a, which `rt staticlib rhoikandra` writes. */
 #ifndef RHOIKANDRA_H
 #define RHOIKANDRA_H
 

@@ -31,13 +31,6 @@ mod exported {
         pub fn rhoikandra_trade_id(special: *const u8, len: usize, out: *mut u64, out_len: usize);
         pub fn rhoikandra_prices_agree(a: u64, b: u64) -> bool;
 
-        pub fn rhoikandra_frame(
-            tape: *const u8,
-            len: usize,
-            at: usize,
-            out: *mut u64,
-            out_len: usize,
-        ) -> usize;
         pub fn rhoikandra_line(
             any: bool,
             last: u32,
@@ -69,14 +62,6 @@ mod exported {
         );
 
         pub fn rhoikandra_tally_raise(rows: *mut [u32; 3], len: usize, kind: u64, outcome: u64);
-        pub fn rhoikandra_tally(
-            rows: *mut [u32; 3],
-            len: usize,
-            body: *const u8,
-            body_len: usize,
-            said: *const u64,
-            said_len: usize,
-        );
         pub fn rhoikandra_put_aa(
             out: *mut u8,
             out_len: usize,
@@ -101,6 +86,7 @@ mod exported {
 }
 
 use exported::*;
+use rhoikandra::exported::{rhoikandra_frame, rhoikandra_tally};
 
 // Every call below is safe: the leaves ask nothing of their callers, read only what a slice
 // lends, and write only within one that is lent for writing.

@@ -4,33 +4,8 @@ use compare::engine::{held, told};
 use reference::answer::{Answer, UNSOUND_BOOK};
 use reference::desk::{pool, Desk};
 use reference::opening::TABLE_MAX;
+use rhoikandra::exported::{rhoikandra_figures, rhoikandra_step};
 use rhoikandra::{Book, Pool, OUTPUT_LENGTH};
-
-extern "C" {
-    fn rhoikandra_step(
-        words: *mut u64,
-        words_len: usize,
-        pools: *mut Pool,
-        pools_len: usize,
-        body: *const u8,
-        body_len: usize,
-        time: *const u8,
-        time_len: usize,
-        out: *mut u8,
-        out_len: usize,
-        said: *mut u64,
-        said_len: usize,
-    );
-    fn rhoikandra_figures(
-        words: *const u64,
-        words_len: usize,
-        pools: *const Pool,
-        pools_len: usize,
-        trade: usize,
-        out: *mut u64,
-        out_len: usize,
-    );
-}
 
 const TRADES_MAX: usize = 64;
 

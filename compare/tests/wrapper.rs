@@ -33,9 +33,7 @@ fn three_messages_from_c() {
         .args(["-Wall", "-Wextra", "-Werror", "-O2", "-o"])
         .arg(&program)
         .arg(top.join("rhoikandra/examples/three_messages.c"))
-        .arg(top.join("target/staticlib/libexports_engine.a"))
-        .arg(top.join("target/staticlib/libexports_tally.a"))
-        .arg(top.join("target/staticlib/libexports_line.a"))
+        .arg(top.join("target/staticlib/librhoikandra.a"))
         .status();
     assert!(built.expect("cargo links by cc too").success());
     let printed = String::from_utf8(Command::new(program).output().unwrap().stdout).unwrap();

@@ -1,4 +1,4 @@
-//! The exported functions of the proved engine. A lent slice is a pointer and a length.
+//! The proved calls as C has them, in `rhoikandra.h` too: a lent slice is a pointer and a length. They ask nothing of the slices but that they are there.
 
 use crate::Pool;
 

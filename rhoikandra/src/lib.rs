@@ -3,7 +3,7 @@
 //! A [`Book`] is all that the engine keeps: words and the records of its table. It may be cloned, written to disk and
 //! handed back later. One that was damaged meanwhile is refused with 42 by the next call, and nothing moves.
 
-mod exported;
+pub mod exported;
 pub mod numbers;
 mod opening;
 

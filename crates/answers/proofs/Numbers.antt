@@ -3,12 +3,13 @@ use Prim.Native.Nat.{ℕ}
 use mathlib.Core.Path.{_≡_, refl}
 use mathlib.Core.Bool.{Bool, true, false, not, _&&_, _||_}
 use lib.Dec.{leb}
-use Rattle.tally.specs.declared.MessageType.{MessageType}
+use Rattle.message_type.specs.declared.MessageType.{MessageType}
 use Rattle.book.specs.declared.Reason.{Reason}
 use Rattle.book.specs.declared.Reason.the-variants as reason
 use Rattle.book.specs.declared.Answer.the-variants.{Rejected, Dked}
 use Rattle.book.specs.Reasons.{numberOf}
-use Rattle.book.specs.Checks.{isDk, refusal}
+use Rattle.book.specs.Checks.{refusal}
+use Rattle.message_type.specs.Questions.{isDk}
 use Rattle.book.specs.Step.{isSilentFor}
 
 outside : (r : Reason) → (leb (numberOf r) 11 || leb 41 (numberOf r)) ≡ isSilentFor r

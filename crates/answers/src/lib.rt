@@ -1,11 +1,12 @@
 // An answer in numbers: the paper's number of a reason, the code and the ID of an AA, and which answers go out at all.
 use book::Answer;
 use book::Reason;
-use tally::MessageType;
+use message_type::MessageType;
 use tally::Outcome;
 ghost use mathlib.Core.Path.{_≡_};
 ghost use Rattle.book.specs.Reasons.{numberOf, codeOf, idOf, isAccepted};
-ghost use Rattle.book.specs.Checks.{isDk, refusal};
+ghost use Rattle.book.specs.Checks.{refusal};
+ghost use Rattle.message_type.specs.Questions.{isDk};
 ghost use Rattle.book.specs.Step.{isSilentFor, isSilent, outcomeOf};
 
 // The numbers of the trader, 30 to 38.
@@ -78,24 +79,12 @@ pub fn id_of(answer: Answer) -> u64
     }
 }
 
-fn is_dk(kind: MessageType) -> bool
-    ensures { λ r. ⌜ r ≡ isDk kind ⌝ }
-{
-    match kind {
-        MessageType::On => false,
-        MessageType::Cc => false,
-        MessageType::Dk => true,
-        MessageType::Cx => false,
-        MessageType::Other => false,
-    }
-}
-
 // A trader's number is DKed, but on a DK rejected; every other is rejected.
 pub fn refusal(kind: MessageType, reason: Reason) -> Answer
     ensures { λ r. ⌜ r ≡ refusal kind reason ⌝ }
 {
     let number = number_of(reason);
-    let dk = is_dk(kind);
+    let dk = message_type::is_dk(kind);
     if ((TRADER_FIRST <= number) & (number <= TRADER_LAST)) & !dk {
         return Answer::Dked(reason);
     }

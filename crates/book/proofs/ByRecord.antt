@@ -10,7 +10,8 @@ use Rattle.terminator.specs.Lots.{Lot, lotKind, lotMillions}
 use Rattle.book.specs.declared.Pool.{Pool}
 use Rattle.book.specs.Records.{Fields, liveFields, sameFields, distinct, kindNumber, sameLot}
 use Rattle.book.specs.Messages.{typeOf, targetOf, under, listed}
-use Rattle.book.specs.Checks.{isCc, isTaken, lotFields, canceledLots}
+use Rattle.book.specs.Checks.{isTaken, lotFields, canceledLots}
+use Rattle.message_type.specs.Questions.{isCc}
 
 abbrev pub allLive : Field → List Fields → List Pool → Bool
 allLive tgt fs rs = all (λ (f : Fields). any (λ (r : Pool). under tgt r && sameFields (liveFields r) f) rs) fs

@@ -13,8 +13,8 @@ use Rattle.lists.specs.Lists.{keep, any, all, sumOf}
 use Rattle.lists.proofs.Tests.{_∈_, and-left, and-right, both, clash, implied, any-in, sum-same, take-map}
 use Rattle.layout.specs.Details.{details}
 use Rattle.terminator.specs.Lots.{Lot, poolsOf, lotWeight, lotMillions}
-use Rattle.tally.specs.declared.MessageType.{MessageType}
-use Rattle.tally.specs.declared.MessageType.the-variants.{On, Cc, Dk, Cx, Other}
+use Rattle.message_type.specs.declared.MessageType.{MessageType}
+use Rattle.message_type.specs.declared.MessageType.the-variants.{On, Cc, Dk, Cx, Other}
 use Rattle.book.specs.declared.Trade.{Trade}
 use Rattle.book.specs.declared.Values.{Values}
 use Rattle.book.specs.declared.Pool.{Pool}
@@ -24,8 +24,9 @@ use Rattle.book.specs.Messages.{typeOf, targetOf, listed, brought}
 use Rattle.book.specs.Trades.{tradesOf, broughtWeight}
 use Rattle.book.specs.Opening.{atPar, opened}
 use Rattle.book.specs.Soundness.{liveOf, parsFrom}
-use Rattle.book.specs.Checks.{Call, live, trades, isOther, isCc, isCx, onOrCc, ccOrDk, concernedFor, concerned, tradeAt, noTrade, taken, canceledLots, lotFields, answerOf}
-use Rattle.book.specs.Step.{withLeft, tradesMoved, liveMoved, tableMoved, bookAfter, tableAfter}
+use Rattle.book.specs.Checks.{Call, live, trades, concernedFor, concerned, tradeAt, noTrade, taken, canceledLots, lotFields, answerOf}
+use Rattle.message_type.specs.Questions.{isOther, isCc, isCx, onOrCc, ccOrDk}
+use Rattle.book.specs.Step.{withOpenPar, tradesMoved, liveMoved, tableMoved, bookAfter, tableAfter}
 use Rattle.book.specs.History.{Brought, History, isTarget, touches, stands, tradeShare, standingWeight, millionsByOns, millionsByDks, atOpening, lotsAfter, feed, takesOffFor, takesOff}
 use Rattle.book.specs.Promise.{State, openedState, Demand3}
 use Rattle.book.proofs.ByRecord.{exactByRecord, oneByRecord}
@@ -40,7 +41,7 @@ use Rattle.book.proofs.Stepping.{on-move, on-lots, dk-move, dk-lots, cc
 
 -- a state in step with the history of the same calls
 abbrev pub InStep : Values → State → History → Type 0
-InStep v s h = Beside v (s .book .values .last) (tradesOf (s .book .values)) (liveOf (s .book) (s .table)) h
+InStep v s h = Beside v (s .book .values .lastMessageId) (tradesOf (s .book .values)) (liveOf (s .book) (s .table)) h
 
 -- ---- an accepted call is a move
 
@@ -58,12 +59,12 @@ canceled-exact c e f =
     (by-record c (ap ccOrDk e) f))
     (ap isCc e)
 
-module _ (v : Values) (c : Call) (h : History) (w : Beside v (c .book .values .last) (trades c) (live c) h) where
+module _ (v : Values) (c : Call) (h : History) (w : Beside v (c .book .values .lastMessageId) (trades c) (live c) h) where
   -- the flags of a message's lots, its move, and that the history makes the same lots of it
   pub record Moves (byOn byDk : Bool) : Type 0 where
     pub moves : Move (trades c) (live c) (h .lots) (concerned c) (targetOf (c .body)) (listed (c .body)) (brought (c .body)) byOn byDk
-    pub makes : movedLots (h .last) (h .lots) (concerned c) (targetOf (c .body)) (listed (c .body)) (brought (c .body)) byOn byDk
-        ≡ lotsAfter (typeOf (c .body)) v (h .last + 1) (c .body) (h .lots)
+    pub makes : movedLots (h .lastMessageId) (h .lots) (concerned c) (targetOf (c .body)) (listed (c .body)) (brought (c .body)) byOn byDk
+        ≡ lotsAfter (typeOf (c .body)) v (h .lastMessageId + 1) (c .body) (h .lots)
 
   concerned-as : (k : MessageType) → typeOf (c .body) ≡ k → concerned c ≡ concernedFor k (c .body) (trades c) (live c)
   unfolding concerned
@@ -71,28 +72,28 @@ module _ (v : Values) (c : Call) (h : History) (w : Beside v (c .book .values .l
 
   range : onOrCc (typeOf (c .body)) ≡ true → Fine c → concerned c < length (trades c)
   range e f = ltb-true (concerned c) (length (trades c))
-      (and-left (ltb (concerned c) (length (trades c))) (leb (broughtWeight (c .body)) (tradeAt (trades c) (concerned c) .left + weightOfRecords (taken c))) (f .parEnough e))
+      (and-left (ltb (concerned c) (length (trades c))) (leb (broughtWeight (c .body)) (tradeAt (trades c) (concerned c) .openPar + weightOfRecords (taken c))) (f .parEnough e))
 
-  room : onOrCc (typeOf (c .body)) ≡ true → Fine c → broughtWeight (c .body) ≤ tradeAt (trades c) (concerned c) .left + weightOfRecords (taken c)
-  room e f = leb-true (broughtWeight (c .body)) (tradeAt (trades c) (concerned c) .left + weightOfRecords (taken c))
-      (and-right (ltb (concerned c) (length (trades c))) (leb (broughtWeight (c .body)) (tradeAt (trades c) (concerned c) .left + weightOfRecords (taken c))) (f .parEnough e))
+  room : onOrCc (typeOf (c .body)) ≡ true → Fine c → broughtWeight (c .body) ≤ tradeAt (trades c) (concerned c) .openPar + weightOfRecords (taken c)
+  room e f = leb-true (broughtWeight (c .body)) (tradeAt (trades c) (concerned c) .openPar + weightOfRecords (taken c))
+      (and-right (ltb (concerned c) (length (trades c))) (leb (broughtWeight (c .body)) (tradeAt (trades c) (concerned c) .openPar + weightOfRecords (taken c))) (f .parEnough e))
 
   moves-on : typeOf (c .body) ≡ On → Fine c → Moves true false
   unfolding broughtWeight
   moves-on e f =
       record {
-        moves = on-move v (c .book .values .last) (trades c) (live c) h w (c .body) e (isCc (typeOf (c .body))) (f .formed (ap onOrCc e)) (f .repeated (ap onOrCc e))
+        moves = on-move v (c .book .values .lastMessageId) (trades c) (live c) h w (c .body) e (isCc (typeOf (c .body))) (f .formed (ap onOrCc e)) (f .repeated (ap onOrCc e))
             (concerned c) (range (ap onOrCc e) f) (room (ap onOrCc e) f);
-        makes = rw (concerned-as On e, e) (on-lots v (c .book .values .last) (trades c) (live c) h w (c .body) e);
+        makes = rw (concerned-as On e, e) (on-lots v (c .book .values .lastMessageId) (trades c) (live c) h w (c .body) e);
       }
 
   moves-dk : typeOf (c .body) ≡ Dk → Fine c → Moves false true
   moves-dk e f =
       record {
         moves = rw (concerned-as Dk e)
-            (dk-move v (c .book .values .last) (trades c) (live c) h w (c .body) (f .targetLive (ap ccOrDk e)) (listed-exact c (ap ccOrDk e) f) e);
+            (dk-move v (c .book .values .lastMessageId) (trades c) (live c) h w (c .body) (f .targetLive (ap ccOrDk e)) (listed-exact c (ap ccOrDk e) f) e);
         makes = rw (concerned-as Dk e, e)
-            (dk-lots v (c .book .values .last) (trades c) (live c) h w (c .body) (f .targetLive (ap ccOrDk e)) (listed-exact c (ap ccOrDk e) f) e);
+            (dk-lots v (c .book .values .lastMessageId) (trades c) (live c) h w (c .body) (f .targetLive (ap ccOrDk e)) (listed-exact c (ap ccOrDk e) f) e);
       }
 
   moves-cc : typeOf (c .body) ≡ Cc → Fine c → Moves false false
@@ -100,11 +101,11 @@ module _ (v : Values) (c : Call) (h : History) (w : Beside v (c .book .values .l
   moves-cc e f =
       record {
         moves = rw (concerned-as Cc e)
-            (cc-move v (c .book .values .last) (trades c) (live c) h w (c .body) (f .targetLive (ap ccOrDk e)) (listed-exact c (ap ccOrDk e) f) e
+            (cc-move v (c .book .values .lastMessageId) (trades c) (live c) h w (c .body) (f .targetLive (ap ccOrDk e)) (listed-exact c (ap ccOrDk e) f) e
             (isCc (typeOf (c .body))) (f .formed (ap onOrCc e)) (f .repeated (ap onOrCc e)) (f .balanced (ap isCc e)) (canceled-exact c e f)
             (rw (concerned-as Cc e) at (room (ap onOrCc e) f)));
         makes = rw (concerned-as Cc e, e)
-            (cc-lots v (c .book .values .last) (trades c) (live c) h w (c .body) (f .targetLive (ap ccOrDk e)) (listed-exact c (ap ccOrDk e) f) e
+            (cc-lots v (c .book .values .lastMessageId) (trades c) (live c) h w (c .body) (f .targetLive (ap ccOrDk e)) (listed-exact c (ap ccOrDk e) f) e
             (isCc (typeOf (c .body))) (f .formed (ap onOrCc e)) (f .grouped (ap isCc e)));
       }
 
@@ -122,7 +123,7 @@ module _ (v : Values) (c : Call) (h : History) (w : Beside v (c .book .values .l
 -- ---- every call
 
 carry : (v : Values) (last : ℕ) (ts : List Trade) (rs : List Pool) (id : ℕ) (xs ys : List Brought) → xs ≡ ys
-    → Beside v last ts rs (record { last = id; lots = xs }) → Beside v last ts rs (record { last = id; lots = ys })
+    → Beside v last ts rs (record { lastMessageId = id; lots = xs }) → Beside v last ts rs (record { lastMessageId = id; lots = ys })
 carry v last ts rs id xs ys p w = rw p at w
 
 take-bound : {A : Type 0} (i n : ℕ) (xs : List A) → i < length (take n xs) → i < n
@@ -130,31 +131,31 @@ take-bound i n xs lt = omega (arith, length-take n xs, min-le-left n (length xs)
 
 -- the concerned trade after the call
 abbrev newTrade : Call → Trade
-newTrade c = withLeft (tradeAt (trades c) (concerned c)) ((tradeAt (trades c) (concerned c) .left + weightOfRecords (taken c)) - broughtWeight (c .body))
+newTrade c = withOpenPar (tradeAt (trades c) (concerned c)) ((tradeAt (trades c) (concerned c) .openPar + weightOfRecords (taken c)) - broughtWeight (c .body))
 
-moved : (v : Values) (c : Call) (h : History) → Beside v (c .book .values .last) (trades c) (live c) h → isAccepted (answerOf c) ≡ true
-    → Beside v (c .book .values .last + 1) (take (c .book .values .count) (set (c .book .values .trades) (concerned c) (newTrade c))) (liveMoved c)
-    (record { last = h .last + 1; lots = lotsAfter (typeOf (c .body)) v (h .last + 1) (c .body) (h .lots) })
+moved : (v : Values) (c : Call) (h : History) → Beside v (c .book .values .lastMessageId) (trades c) (live c) h → isAccepted (answerOf c) ≡ true
+    → Beside v (c .book .values .lastMessageId + 1) (take (c .book .values .tradeCount) (set (c .book .values .trades) (concerned c) (newTrade c))) (liveMoved c)
+    (record { lastMessageId = h .lastMessageId + 1; lots = lotsAfter (typeOf (c .body)) v (h .lastMessageId + 1) (c .body) (h .lots) })
 unfolding liveMoved broughtWeight
 moved v c h w a =
     let (byOn, (byDk, m)) = accepted-moves v c h w a in
-    rw (take-set-lt (c .book .values .count) (c .book .values .trades) (concerned c) (newTrade c) (take-bound (concerned c) (c .book .values .count) (c .book .values .trades) (m .moves .range)))
-    (carry v (c .book .values .last + 1) (movedTrades (trades c) (live c) (concerned c) (targetOf (c .body)) (listed (c .body)) (brought (c .body)))
-    (movedRecords (c .book .values .last) (live c) (concerned c) (targetOf (c .body)) (listed (c .body)) (brought (c .body))) (h .last + 1)
-    (movedLots (h .last) (h .lots) (concerned c) (targetOf (c .body)) (listed (c .body)) (brought (c .body)) byOn byDk)
-    (lotsAfter (typeOf (c .body)) v (h .last + 1) (c .body) (h .lots)) (m .makes)
-    (move v (c .book .values .last) (trades c) (live c) h w (concerned c) (targetOf (c .body)) (listed (c .body)) (brought (c .body)) byOn byDk (m .moves)))
+    rw (take-set-lt (c .book .values .tradeCount) (c .book .values .trades) (concerned c) (newTrade c) (take-bound (concerned c) (c .book .values .tradeCount) (c .book .values .trades) (m .moves .range)))
+    (carry v (c .book .values .lastMessageId + 1) (movedTrades (trades c) (live c) (concerned c) (targetOf (c .body)) (listed (c .body)) (brought (c .body)))
+    (movedRecords (c .book .values .lastMessageId) (live c) (concerned c) (targetOf (c .body)) (listed (c .body)) (brought (c .body))) (h .lastMessageId + 1)
+    (movedLots (h .lastMessageId) (h .lots) (concerned c) (targetOf (c .body)) (listed (c .body)) (brought (c .body)) byOn byDk)
+    (lotsAfter (typeOf (c .body)) v (h .lastMessageId + 1) (c .body) (h .lots)) (m .makes)
+    (move v (c .book .values .lastMessageId) (trades c) (live c) h w (concerned c) (targetOf (c .body)) (listed (c .body)) (brought (c .body)) byOn byDk (m .moves)))
 
-pub call-in-step : (v : Values) (c : Call) (h : History) → Beside v (c .book .values .last) (trades c) (live c) h
-    → Beside v (bookAfter c .values .last) (tradesOf (bookAfter c .values)) (liveOf (bookAfter c) (tableAfter c)) (feed v h (c .body) (isAccepted (answerOf c)))
+pub call-in-step : (v : Values) (c : Call) (h : History) → Beside v (c .book .values .lastMessageId) (trades c) (live c) h
+    → Beside v (bookAfter c .values .lastMessageId) (tradesOf (bookAfter c .values)) (liveOf (bookAfter c) (tableAfter c)) (feed v h (c .body) (isAccepted (answerOf c)))
 unfolding bookAfter tableAfter feed tradesMoved tableMoved
 call-in-step v c h w = go (isAccepted (answerOf c)) refl
   where
     go : (a : Bool) → isAccepted (answerOf c) ≡ a
-        → Beside v (cond a (c .book .values .last + 1) (c .book .values .last))
-        (take (c .book .values .count) (cond a (set (c .book .values .trades) (concerned c) (newTrade c)) (c .book .values .trades)))
+        → Beside v (cond a (c .book .values .lastMessageId + 1) (c .book .values .lastMessageId))
+        (take (c .book .values .tradeCount) (cond a (set (c .book .values .trades) (concerned c) (newTrade c)) (c .book .values .trades)))
         (take (cond a (length (liveMoved c)) (c .book .live)) (cond a (liveMoved c ++ replicate (length (c .table) - length (liveMoved c)) noPool) (c .table)))
-        (cond a (record { last = h .last + 1; lots = lotsAfter (typeOf (c .body)) v (h .last + 1) (c .body) (h .lots) }) h)
+        (cond a (record { lastMessageId = h .lastMessageId + 1; lots = lotsAfter (typeOf (c .body)) v (h .lastMessageId + 1) (c .body) (h .lots) }) h)
     go true e = rw (take-append-seam (liveMoved c) (replicate (length (c .table) - length (liveMoved c)) noPool)) (moved v c h w e)
     go false e = w
 
@@ -166,8 +167,8 @@ opened-in-step v table =
     record {
       last = refl;
       table = refl;
-      terms = rw (take-map atPar (v .count) (v .trades)) (at-par-blind atPar (λ t. refl) (tradesOf v));
-      pars = λ t lt. rw (take-map atPar (v .count) (v .trades)) (omega (arith, ap (λ (x : Trade). x .left) (List·getD-map atPar (tradesOf v) t noTrade)));
+      terms = rw (take-map atPar (v .tradeCount) (v .trades)) (at-par-blind atPar (λ t. refl) (tradesOf v));
+      pars = λ t lt. rw (take-map atPar (v .tradeCount) (v .trades)) (omega (arith, ap (λ (x : Trade). x .openPar) (List·getD-map atPar (tradesOf v) t noTrade)));
       lots = record { fine = λ g m. absurd (List·Memᴰ·not-nil m); apart = tt; pair = λ g k m n e. absurd (List·Memᴰ·not-nil m) };
       millions = λ t. refl;
     }
@@ -205,11 +206,11 @@ in-step-demand v s h w =
     }
 
 -- the open pars agree with the table: what the soundness of a book asks of them
-pars-from : (i : ℕ) (ts : List Trade) (rs : List Pool) → ((j : ℕ) → j < length ts → tradeAt ts j .left + tradeWeight (i + j) rs ≡ tradeAt ts j .par) → parsFrom i ts rs ≡ true
+pars-from : (i : ℕ) (ts : List Trade) (rs : List Pool) → ((j : ℕ) → j < length ts → tradeAt ts j .openPar + tradeWeight (i + j) rs ≡ tradeAt ts j .par) → parsFrom i ts rs ≡ true
 pars-from i [] rs k = refl
 pars-from i (t ∷ ts) rs k =
-    both (eqb (t .left + tradeWeight i rs) (t .par)) (parsFrom (i + 1) ts rs)
-    (eq-eqb (t .left + tradeWeight i rs) (t .par) (rw add-zero at (k 0 (omega arith))))
+    both (eqb (t .openPar + tradeWeight i rs) (t .par)) (parsFrom (i + 1) ts rs)
+    (eq-eqb (t .openPar + tradeWeight i rs) (t .par) (rw add-zero at (k 0 (omega arith))))
     (pars-from (i + 1) ts rs (λ j lt. let e : i + 1 + j ≡ i + suc j = omega arith in rw e (k (suc j) (omega arith))))
 
 pub in-step-pars : (v : Values) (s : State) (h : History) → InStep v s h → parsHold s ≡ true
@@ -223,13 +224,13 @@ in-step-pars v s h w =
     ∙ ap (λ (t : Trade). t .par) (List·getD-map atPar (tradesOf v) j noTrade) in
     rw zero-add (omega (arith, par, standing-weight v s h w j, w .pars j (omega (arith, same-count v ts (w .terms))))))
 
-module _ (v : Values) (c : Call) (h : History) (w : Beside v (c .book .values .last) (trades c) (live c) h) (a : isAccepted (answerOf c) ≡ true) where
+module _ (v : Values) (c : Call) (h : History) (w : Beside v (c .book .values .lastMessageId) (trades c) (live c) h) (a : isAccepted (answerOf c) ≡ true) where
   exact-flat : ccOrDk (typeOf (c .body)) ≡ true → Exact (targetOf (c .body)) (listed (c .body)) (flat stands (h .lots))
   exact-flat e = rw (w .table) at (exact (targetOf (c .body)) (listed (c .body)) (live c) (listed-exact c e (fine c a)))
 
   touched-stands : ccOrDk (typeOf (c .body)) ≡ true → (g : Brought) → g ∈ h .lots → touches (targetOf (c .body)) (listed (c .body)) g ≡ true → g .offs ≡ 0
   touched-stands e g m q =
-      eqb-true (g .offs) 0 (first-time (targetOf (c .body)) (listed (c .body)) (h .lots) (length (tradesOf v)) (h .last) (w .lots) (exact-flat e .live) g m q)
+      eqb-true (g .offs) 0 (first-time (targetOf (c .body)) (listed (c .body)) (h .lots) (length (tradesOf v)) (h .lastMessageId) (w .lots) (exact-flat e .live) g m q)
 
   pub taken-stands : (g : Brought) → g ∈ h .lots → takesOff (c .body) g ≡ true → g .offs ≡ 0
   unfolding takesOff

@@ -80,7 +80,7 @@ brought-before v table o ps = traced-brought-before v table o (afterAll (openedS
 
 -- a refused call moves no trade, no live pool and no message ID: trades, last ID, live count and table are as they were
 pub refused-keeps : (s : State) (p : Put) → isAccepted (answerOf (callOf s p)) ≡ false
-    → (after s p .book .values .trades ≡ s .book .values .trades) × (after s p .book .values .last ≡ s .book .values .last)
+    → (after s p .book .values .trades ≡ s .book .values .trades) × (after s p .book .values .lastMessageId ≡ s .book .values .lastMessageId)
     × (after s p .book .live ≡ s .book .live) × (after s p .table ≡ s .table)
 unfolding after bookAfter tableAfter
 refused-keeps s p e = (rw e, rw e, rw e, rw e)

@@ -125,20 +125,20 @@ trade n par =
       settlement = 7142026;
       price = 98500000000;
       par = par;
-      left = 0;
+      openPar = 0;
     }
 
 unfoldable pub values : ℕ → Values
 values last =
     record {
       trades = trade 1 200000000 ∷ trade 2 500000000 ∷ [];
-      count = 2;
+      tradeCount = 2;
       holidays = [];
-      days = 0;
+      holidayCount = 0;
       subscriber = subscriber;
       connection = connection;
-      limits = record { ceiling = 2500; variance = 10000; pools = 3; least = 1000 };
-      last = last;
+      limits = record { ceiling = 2500; variance = 10000; poolsAMillion = 3; least = 1000 };
+      lastMessageId = last;
       outbound = outbound 0;
     }
 

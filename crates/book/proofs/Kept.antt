@@ -19,17 +19,17 @@ use Rattle.book.specs.declared.Values.{Values}
 use Rattle.book.specs.Trades.{tradesOf, tradeName}
 use Rattle.book.specs.Opening.{tradesMax, holidaysMax, elevenDigitsMax, holidaysOf, limitsFine, accountFine, tradeFine, namesRepeat, valuesFine}
 use Rattle.book.specs.Checks.{noTrade, tradeAt}
-use Rattle.book.specs.Step.{withLeft}
+use Rattle.book.specs.Step.{withOpenPar}
 use Rattle.book.proofs.ListLaws.{all-of-map}
 
 -- ---- trades
 -- what looks at no open par sees no change where one trade gets another
-module _ {B : Type 0} (f : Trade → B) (blind : (t : Trade) (cents : ℕ) → f (withLeft t cents) ≡ f t) where
-  pub moved-blind : (n : ℕ) (ts : List Trade) (i cents : ℕ) → map f (take n (set ts i (withLeft (tradeAt (take n ts) i) cents))) ≡ map f (take n ts)
+module _ {B : Type 0} (f : Trade → B) (blind : (t : Trade) (cents : ℕ) → f (withOpenPar t cents) ≡ f t) where
+  pub moved-blind : (n : ℕ) (ts : List Trade) (i cents : ℕ) → map f (take n (set ts i (withOpenPar (tradeAt (take n ts) i) cents))) ≡ map f (take n ts)
   moved-blind n ts i cents = go (ltb i n) refl
     where
       moved : Trade
-      moved = withLeft (tradeAt (take n ts) i) cents
+      moved = withOpenPar (tradeAt (take n ts) i) cents
 
       go : (b : Bool) → ltb i n ≡ b → map f (take n (set ts i moved)) ≡ map f (take n ts)
       go true e = ap (map f) (take-set-lt n ts i moved (ltb-true i n e)) ∙ map-set-same f (take n ts) i moved noTrade (blind (tradeAt (take n ts) i) cents)
@@ -64,41 +64,41 @@ abbrev pub exchange : Values → List Trade → ℕ → Outbound → Values
 exchange v ts last o =
     record {
       trades = ts;
-      count = v .count;
+      tradeCount = v .tradeCount;
       holidays = v .holidays;
-      days = v .days;
+      holidayCount = v .holidayCount;
       subscriber = v .subscriber;
       connection = v .connection;
       limits = v .limits;
-      last = last;
+      lastMessageId = last;
       outbound = o;
     }
 
 pub values-stay : (v : Values) (ts : List Trade) (last : ℕ) (o : Outbound) → valuesFine v ≡ true → leb last elevenDigitsMax ≡ true → leb (o .0) outboundMax ≡ true
-    → tradesFine (holidaysOf v) (take (v .count) ts) ≡ tradesFine (holidaysOf v) (tradesOf v) → valuesFine (exchange v ts last o) ≡ true
+    → tradesFine (holidaysOf v) (take (v .tradeCount) ts) ≡ tradesFine (holidaysOf v) (tradesOf v) → valuesFine (exchange v ts last o) ≡ true
 unfolding valuesFine
 values-stay v ts last o e p q r =
-    exchanged (leb (v .count) tradesMax && leb (v .days) holidaysMax) (all isDate (holidaysOf v)) (accountFine (v .subscriber)) (accountFine (v .connection)) (limitsFine (v .limits))
-    (leb (v .last) elevenDigitsMax) (leb (v .outbound .0) outboundMax) (tradesFine (holidaysOf v) (tradesOf v)) e
-    (leb last elevenDigitsMax) (leb (o .0) outboundMax) (tradesFine (holidaysOf v) (take (v .count) ts)) p q r
+    exchanged (leb (v .tradeCount) tradesMax && leb (v .holidayCount) holidaysMax) (all isDate (holidaysOf v)) (accountFine (v .subscriber)) (accountFine (v .connection)) (limitsFine (v .limits))
+    (leb (v .lastMessageId) elevenDigitsMax) (leb (v .outbound .0) outboundMax) (tradesFine (holidaysOf v) (tradesOf v)) e
+    (leb last elevenDigitsMax) (leb (o .0) outboundMax) (tradesFine (holidaysOf v) (take (v .tradeCount) ts)) p q r
 
 module _ (v : Values) (e : valuesFine v ≡ true) where
-  ranges : (leb (v .last) elevenDigitsMax && (leb (v .outbound .0) outboundMax && tradesFine (holidaysOf v) (tradesOf v))) ≡ true
+  ranges : (leb (v .lastMessageId) elevenDigitsMax && (leb (v .outbound .0) outboundMax && tradesFine (holidaysOf v) (tradesOf v))) ≡ true
   unfolding valuesFine
   ranges =
       past (limitsFine (v .limits)) (past (accountFine (v .connection)) (past (accountFine (v .subscriber)) (past (all isDate (holidaysOf v))
-      (past (leb (v .count) tradesMax && leb (v .days) holidaysMax) e))))
+      (past (leb (v .tradeCount) tradesMax && leb (v .holidayCount) holidaysMax) e))))
     where
       past : (a : Bool) {b : Bool} → (a && b) ≡ true → b ≡ true
       past a {b} h = and-right a b h
 
-  pub last-within : leb (v .last) elevenDigitsMax ≡ true
-  last-within = and-left (leb (v .last) elevenDigitsMax) (leb (v .outbound .0) outboundMax && tradesFine (holidaysOf v) (tradesOf v)) ranges
+  pub last-within : leb (v .lastMessageId) elevenDigitsMax ≡ true
+  last-within = and-left (leb (v .lastMessageId) elevenDigitsMax) (leb (v .outbound .0) outboundMax && tradesFine (holidaysOf v) (tradesOf v)) ranges
 
   pub outbound-within : leb (v .outbound .0) outboundMax ≡ true
   outbound-within =
       and-left (leb (v .outbound .0) outboundMax) (tradesFine (holidaysOf v) (tradesOf v))
-      (and-right (leb (v .last) elevenDigitsMax) (leb (v .outbound .0) outboundMax && tradesFine (holidaysOf v) (tradesOf v)) ranges)
+      (and-right (leb (v .lastMessageId) elevenDigitsMax) (leb (v .outbound .0) outboundMax && tradesFine (holidaysOf v) (tradesOf v)) ranges)
 
 -- ---- the outbound number stops at its highest
 pub next-within : (o : Outbound) → leb (o .0) outboundMax ≡ true → leb (nextOutbound o .0) outboundMax ≡ true

@@ -12,13 +12,14 @@ use Rattle.lists.proofs.Tests.{_∈_, and-left, and-right, both, clash, un-true
 use Rattle.fields.specs.declared.Field.{Field}
 use Rattle.layout.specs.Details.{details}
 use Rattle.terminator.specs.Lots.{Lot, lotKind, lotMillions, formedFor}
-use Rattle.tally.specs.declared.MessageType.{MessageType}
-use Rattle.tally.specs.declared.MessageType.the-variants.{On, Cc, Dk, Cx, Other}
+use Rattle.message_type.specs.declared.MessageType.{MessageType}
+use Rattle.message_type.specs.declared.MessageType.the-variants.{On, Cc, Dk, Cx, Other}
 use Rattle.book.specs.declared.Pool.{Pool}
 use Rattle.book.specs.Records.{Fields, fieldsOf, liveFields, sameFields, hasFields, distinct, kindNumber, sameLot, LiveLot, livePools, joinLot, liveLots}
 use Rattle.book.specs.Messages.{typeOf, targetOf, under, listed}
 use Rattle.book.specs.Soundness.{follows, inOrder, fieldsOnce}
-use Rattle.book.specs.Checks.{isCc, isTaken, liveLotFields, fieldsOfLive, eachOnce, isListedIn, exactLots, lotFields, isLot, oneLot, canceledLots, listedFine}
+use Rattle.book.specs.Checks.{isTaken, liveLotFields, fieldsOfLive, eachOnce, isListedIn, exactLots, lotFields, isLot, oneLot, canceledLots, listedFine}
+use Rattle.message_type.specs.Questions.{isCc}
 use Rattle.book.specs.History.{fieldsOfLots}
 use Rattle.book.proofs.ByRecord.{allLive, wholeLots, exactByRecord, firstOrdinal, oneByRecord, listedByRecord}
 use Rattle.book.proofs.ListLaws.{alike, implies, all-same, keep-member, pairwise}

@@ -22,7 +22,7 @@ use Rattle.book.specs.Records.{Fields, distinct, recordsOf, weightOfReco
 use Rattle.book.specs.Trades.{tradesOf, openPars}
 use Rattle.book.specs.Opening.{atPar}
 use Rattle.book.specs.Checks.{isTaken, tradeAt, noTrade}
-use Rattle.book.specs.Step.{withLeft}
+use Rattle.book.specs.Step.{withOpenPar}
 use Rattle.book.specs.History.{Brought, History, touches, once, takeOff, due, bring, stands, tradeShare, standingWeight, millionsByOns, millionsByDks, historySums, fieldsOfLots}
 use Rattle.book.proofs.Laid.{flat, flat-append, flat-bring}
 use Rattle.book.proofs.Taking.{Lots, Exact, standing, gone, left-flat, first-time, lots-take, standing-take, gone-weight, gone-there, gone-elsewhere}
@@ -30,12 +30,12 @@ use Rattle.book.proofs.Bringing.{standing-bring, ons-bring, dks-bring, 
 
 -- the last ID, the trades and the live records of a book, beside the history of the same calls
 pub record Beside (v : Values) (id : ℕ) (ts : List Trade) (rs : List Pool) (h : History) : Type 0 where
-  pub last : id ≡ h .last
+  pub last : id ≡ h .lastMessageId
   pub table : rs ≡ flat stands (h .lots)
   -- the trades are opening's but for their open par
   pub terms : map atPar ts ≡ map atPar (tradesOf v)
-  pub pars : (t : ℕ) → t < length (tradesOf v) → tradeAt ts t .left + standingWeight t (h .lots) ≡ tradeAt (tradesOf v) t .par
-  pub lots : Lots (length (tradesOf v)) (h .last) (h .lots)
+  pub pars : (t : ℕ) → t < length (tradesOf v) → tradeAt ts t .openPar + standingWeight t (h .lots) ≡ tradeAt (tradesOf v) t .par
+  pub lots : Lots (length (tradesOf v)) (h .lastMessageId) (h .lots)
   pub millions : (t : ℕ) → sumOf (tradeShare t (standing lotMillions)) (h .lots) + millionsByDks t (h .lots) ≡ millionsByOns t (h .lots)
 
 pub same-count : (v : Values) (ts : List Trade) → map atPar ts ≡ map atPar (tradesOf v) → length ts ≡ length (tradesOf v)
@@ -56,10 +56,10 @@ sums-at i (t ∷ ts) hs (suc j) lt =
 
 pub same-opens : (v : Values) (last : ℕ) (ts : List Trade) (rs : List Pool) (h : History) → Beside v last ts rs h → historySums 0 (tradesOf v) (h .lots) ≡ openPars ts
 same-opens v last ts rs h w =
-    ext-getD 0 (historySums 0 (tradesOf v) (h .lots)) (openPars ts) (sums-length 0 (tradesOf v) (h .lots) ∙ sym (same-count v ts (w .terms)) ∙ sym (length-map ts (λ (t : Trade). t .left)))
+    ext-getD 0 (historySums 0 (tradesOf v) (h .lots)) (openPars ts) (sums-length 0 (tradesOf v) (h .lots) ∙ sym (same-count v ts (w .terms)) ∙ sym (length-map ts (λ (t : Trade). t .openPar)))
     (λ i lt.
     let l : i < length (tradesOf v) = omega (arith, sums-length 0 (tradesOf v) (h .lots)) in
-    sums-at 0 (tradesOf v) (h .lots) i l ∙ rw zero-add (omega (arith, w .pars i l)) ∙ sym (List·getD-map (λ (t : Trade). t .left) ts i noTrade))
+    sums-at 0 (tradesOf v) (h .lots) i l ∙ rw zero-add (omega (arith, w .pars i l)) ∙ sym (List·getD-map (λ (t : Trade). t .openPar) ts i noTrade))
 
 -- ---- millions when lots are taken off
 
@@ -103,14 +103,14 @@ pub record Move (ts : List Trade) (rs : List Pool) (hs : List Brought) (t : ℕ)
   pub exact : Exact tgt fs rs
   pub range : t < length ts
   pub there : (g : Brought) → g ∈ hs → touches tgt fs g ≡ true → g .trade ≡ t
-  pub room : sumOf lotWeight ls ≤ tradeAt ts t .left + weightOfRecords (keep (isTaken tgt fs) rs)
+  pub room : sumOf lotWeight ls ≤ tradeAt ts t .openPar + weightOfRecords (keep (isTaken tgt fs) rs)
   pub apart : distinct (fieldsOfLots ls) ≡ true
   pub even : (u : ℕ) → cond byDk (sumOf (tradeShare u (gone tgt fs lotMillions)) hs) 0 + cond (eqb t u) (sumOf lotMillions ls) 0
       ≡ sumOf (tradeShare u (gone tgt fs lotMillions)) hs + cond byOn (cond (eqb t u) (sumOf lotMillions ls) 0) 0
 
 -- the trades, the records and the lots that it leaves
 abbrev pub movedTrades : List Trade → List Pool → ℕ → Field → List Fields → List Lot → List Trade
-movedTrades ts rs t tgt fs ls = set ts t (withLeft (tradeAt ts t) ((tradeAt ts t .left + weightOfRecords (keep (isTaken tgt fs) rs)) - sumOf lotWeight ls))
+movedTrades ts rs t tgt fs ls = set ts t (withOpenPar (tradeAt ts t) ((tradeAt ts t .openPar + weightOfRecords (keep (isTaken tgt fs) rs)) - sumOf lotWeight ls))
 
 abbrev pub movedRecords : ℕ → List Pool → ℕ → Field → List Fields → List Lot → List Pool
 movedRecords last rs t tgt fs ls = keep (λ (r : Pool). not (isTaken tgt fs r)) rs ++ recordsOf (last + 1) t 1 ls
@@ -119,12 +119,12 @@ abbrev pub movedLots : ℕ → List Brought → ℕ → Field → List Fields �
 movedLots last hs t tgt fs ls byOn byDk = map (takeOff byDk tgt fs) hs ++ bring (last + 1) byOn 1 (map (due t) ls)
 
 module _ (v : Values) (ts : List Trade) (h : History) (t : ℕ) (tgt : Field) (fs : List Fields) (ls : List Lot) (byOn byDk : Bool)
-    (w : Beside v (h .last) ts (flat stands (h .lots)) h) (mv : Move ts (flat stands (h .lots)) (h .lots) t tgt fs ls byOn byDk) where
+    (w : Beside v (h .lastMessageId) ts (flat stands (h .lots)) h) (mv : Move ts (flat stands (h .lots)) (h .lots) t tgt fs ls byOn byDk) where
   range : t < length (tradesOf v)
   range = omega (arith, mv .range, same-count v ts (w .terms))
 
   move-pars : (u : ℕ) → u < length (tradesOf v)
-      → tradeAt (movedTrades ts (flat stands (h .lots)) t tgt fs ls) u .left + standingWeight u (movedLots (h .last) (h .lots) t tgt fs ls byOn byDk) ≡ tradeAt (tradesOf v) u .par
+      → tradeAt (movedTrades ts (flat stands (h .lots)) t tgt fs ls) u .openPar + standingWeight u (movedLots (h .lastMessageId) (h .lots) t tgt fs ls byOn byDk) ≡ tradeAt (tradesOf v) u .par
   unfolding standingWeight
   move-pars u lu = by (ℕ-discrete u t)
     where
@@ -132,19 +132,19 @@ module _ (v : Values) (ts : List Trade) (h : History) (t : ℕ) (tgt : Field) (f
       W = weightOfRecords (keep (isTaken tgt fs) (flat stands (h .lots)))
 
       X : Trade
-      X = withLeft (tradeAt ts t) ((tradeAt ts t .left + W) - sumOf lotWeight ls)
+      X = withOpenPar (tradeAt ts t) ((tradeAt ts t .openPar + W) - sumOf lotWeight ls)
 
       weighs : W ≡ sumOf (gone tgt fs lotWeight) (h .lots)
-      weighs = gone-weight tgt fs (h .lots) (length (tradesOf v)) (h .last) (w .lots) (mv .exact .whole)
+      weighs = gone-weight tgt fs (h .lots) (length (tradesOf v)) (h .lastMessageId) (w .lots) (mv .exact .whole)
 
-      sums : sumOf (tradeShare u (standing lotWeight)) (map (takeOff byDk tgt fs) (h .lots) ++ bring (h .last + 1) byOn 1 (map (due t) ls))
+      sums : sumOf (tradeShare u (standing lotWeight)) (map (takeOff byDk tgt fs) (h .lots) ++ bring (h .lastMessageId + 1) byOn 1 (map (due t) ls))
           ≡ sumOf (tradeShare u (standing lotWeight)) (map (takeOff byDk tgt fs) (h .lots)) + cond (eqb t u) (sumOf lotWeight ls) 0
       sums =
-          sum-append (tradeShare u (standing lotWeight)) (map (takeOff byDk tgt fs) (h .lots)) (bring (h .last + 1) byOn 1 (map (due t) ls))
-          ∙ ap (λ (x : ℕ). sumOf (tradeShare u (standing lotWeight)) (map (takeOff byDk tgt fs) (h .lots)) + x) (standing-bring (h .last + 1) byOn t lotWeight u 1 ls)
+          sum-append (tradeShare u (standing lotWeight)) (map (takeOff byDk tgt fs) (h .lots)) (bring (h .lastMessageId + 1) byOn 1 (map (due t) ls))
+          ∙ ap (λ (x : ℕ). sumOf (tradeShare u (standing lotWeight)) (map (takeOff byDk tgt fs) (h .lots)) + x) (standing-bring (h .lastMessageId + 1) byOn t lotWeight u 1 ls)
 
       by : Dec (u ≡ t)
-          → tradeAt (set ts t X) u .left + sumOf (tradeShare u (standing lotWeight)) (map (takeOff byDk tgt fs) (h .lots) ++ bring (h .last + 1) byOn 1 (map (due t) ls))
+          → tradeAt (set ts t X) u .openPar + sumOf (tradeShare u (standing lotWeight)) (map (takeOff byDk tgt fs) (h .lots) ++ bring (h .lastMessageId + 1) byOn 1 (map (due t) ls))
           ≡ tradeAt (tradesOf v) u .par
       by (yes e) =
           rw (e, getD-set-same ts t X noTrade (mv .range))
@@ -167,8 +167,8 @@ module _ (v : Values) (ts : List Trade) (h : History) (t : ℕ) (tgt : Field) (f
             gone-elsewhere tgt fs (h .lots) lotWeight t u (mv .there) e,
           ))
 
-  move-millions : (u : ℕ) → sumOf (tradeShare u (standing lotMillions)) (movedLots (h .last) (h .lots) t tgt fs ls byOn byDk)
-      + millionsByDks u (movedLots (h .last) (h .lots) t tgt fs ls byOn byDk) ≡ millionsByOns u (movedLots (h .last) (h .lots) t tgt fs ls byOn byDk)
+  move-millions : (u : ℕ) → sumOf (tradeShare u (standing lotMillions)) (movedLots (h .lastMessageId) (h .lots) t tgt fs ls byOn byDk)
+      + millionsByDks u (movedLots (h .lastMessageId) (h .lots) t tgt fs ls byOn byDk) ≡ millionsByOns u (movedLots (h .lastMessageId) (h .lots) t tgt fs ls byOn byDk)
   unfolding millionsByOns millionsByDks
   move-millions u =
       omega (
@@ -176,32 +176,32 @@ module _ (v : Values) (ts : List Trade) (h : History) (t : ℕ) (tgt : Field) (f
         w .millions u,
         mv .even u,
         standing-take tgt fs (h .lots) lotMillions byDk u,
-        dks-take tgt fs (h .lots) u byDk (first-time tgt fs (h .lots) (length (tradesOf v)) (h .last) (w .lots) (mv .exact .live)),
+        dks-take tgt fs (h .lots) u byDk (first-time tgt fs (h .lots) (length (tradesOf v)) (h .lastMessageId) (w .lots) (mv .exact .live)),
         ons-take tgt fs (h .lots) u byDk,
-        sum-append (tradeShare u (standing lotMillions)) (map (takeOff byDk tgt fs) (h .lots)) (bring (h .last + 1) byOn 1 (map (due t) ls)),
-        sum-append (tradeShare u (λ (g : Brought). g .dks * lotMillions (g .lot))) (map (takeOff byDk tgt fs) (h .lots)) (bring (h .last + 1) byOn 1 (map (due t) ls)),
-        sum-append (tradeShare u (λ (g : Brought). cond (g .byOn) (lotMillions (g .lot)) 0)) (map (takeOff byDk tgt fs) (h .lots)) (bring (h .last + 1) byOn 1 (map (due t) ls)),
-        standing-bring (h .last + 1) byOn t lotMillions u 1 ls,
-        dks-bring (h .last + 1) byOn t u 1 ls,
-        ons-bring (h .last + 1) byOn t u 1 ls,
+        sum-append (tradeShare u (standing lotMillions)) (map (takeOff byDk tgt fs) (h .lots)) (bring (h .lastMessageId + 1) byOn 1 (map (due t) ls)),
+        sum-append (tradeShare u (λ (g : Brought). g .dks * lotMillions (g .lot))) (map (takeOff byDk tgt fs) (h .lots)) (bring (h .lastMessageId + 1) byOn 1 (map (due t) ls)),
+        sum-append (tradeShare u (λ (g : Brought). cond (g .byOn) (lotMillions (g .lot)) 0)) (map (takeOff byDk tgt fs) (h .lots)) (bring (h .lastMessageId + 1) byOn 1 (map (due t) ls)),
+        standing-bring (h .lastMessageId + 1) byOn t lotMillions u 1 ls,
+        dks-bring (h .lastMessageId + 1) byOn t u 1 ls,
+        ons-bring (h .lastMessageId + 1) byOn t u 1 ls,
       )
 
-  move-flat : Beside v (h .last + 1) (movedTrades ts (flat stands (h .lots)) t tgt fs ls) (movedRecords (h .last) (flat stands (h .lots)) t tgt fs ls)
-      (record { last = h .last + 1; lots = movedLots (h .last) (h .lots) t tgt fs ls byOn byDk })
+  move-flat : Beside v (h .lastMessageId + 1) (movedTrades ts (flat stands (h .lots)) t tgt fs ls) (movedRecords (h .lastMessageId) (flat stands (h .lots)) t tgt fs ls)
+      (record { lastMessageId = h .lastMessageId + 1; lots = movedLots (h .lastMessageId) (h .lots) t tgt fs ls byOn byDk })
   move-flat =
       record {
         last = refl;
         table = rw (left-flat tgt fs (h .lots) (mv .exact .whole) byDk, flat-append, flat-bring);
-        terms = map-set-same atPar ts t (withLeft (tradeAt ts t) ((tradeAt ts t .left + weightOfRecords (keep (isTaken tgt fs) (flat stands (h .lots)))) - sumOf lotWeight ls)) noTrade refl ∙ w .terms;
+        terms = map-set-same atPar ts t (withOpenPar (tradeAt ts t) ((tradeAt ts t .openPar + weightOfRecords (keep (isTaken tgt fs) (flat stands (h .lots)))) - sumOf lotWeight ls)) noTrade refl ∙ w .terms;
         pars = move-pars;
-        lots = lots-bring (length (tradesOf v)) (h .last) (map (takeOff byDk tgt fs) (h .lots)) (lots-take tgt fs (h .lots) (length (tradesOf v)) (h .last) (w .lots) (mv .exact .live) byDk) t range byOn ls (mv .apart);
+        lots = lots-bring (length (tradesOf v)) (h .lastMessageId) (map (takeOff byDk tgt fs) (h .lots)) (lots-take tgt fs (h .lots) (length (tradesOf v)) (h .lastMessageId) (w .lots) (mv .exact .live) byDk) t range byOn ls (mv .apart);
         millions = move-millions;
       }
 
 -- a move keeps book and history side by side
 pub move : (v : Values) (last : ℕ) (ts : List Trade) (rs : List Pool) (h : History) → Beside v last ts rs h
     → (t : ℕ) (tgt : Field) (fs : List Fields) (ls : List Lot) (byOn byDk : Bool) → Move ts rs (h .lots) t tgt fs ls byOn byDk
-    → Beside v (last + 1) (movedTrades ts rs t tgt fs ls) (movedRecords last rs t tgt fs ls) (record { last = h .last + 1; lots = movedLots (h .last) (h .lots) t tgt fs ls byOn byDk })
+    → Beside v (last + 1) (movedTrades ts rs t tgt fs ls) (movedRecords last rs t tgt fs ls) (record { lastMessageId = h .lastMessageId + 1; lots = movedLots (h .lastMessageId) (h .lots) t tgt fs ls byOn byDk })
 move v last ts rs h w t tgt fs ls byOn byDk mv =
-    let w₀ : Beside v (h .last) ts (flat stands (h .lots)) h = record { last = refl; table = refl; terms = w .terms; pars = w .pars; lots = w .lots; millions = w .millions } in
+    let w₀ : Beside v (h .lastMessageId) ts (flat stands (h .lots)) h = record { last = refl; table = refl; terms = w .terms; pars = w .pars; lots = w .lots; millions = w .millions } in
     rw (w .table, w .last) (move-flat v ts h t tgt fs ls byOn byDk w₀ (rw (w .table) at mv))

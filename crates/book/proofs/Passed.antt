@@ -10,7 +10,7 @@ use Rattle.layout.specs.Details.{lengthFits, details}
 use Rattle.terminator.specs.Lots.{formedFor}
 use Rattle.terminator.specs.Groups.{groupsFormed, groupsBalanced}
 use Rattle.faces.specs.Faces.{newPools}
-use Rattle.tally.specs.declared.MessageType.{MessageType}
+use Rattle.message_type.specs.declared.MessageType.{MessageType}
 use Rattle.book.specs.declared.Reason.{Reason}
 use Rattle.book.specs.declared.Verdict.{Verdict}
 use Rattle.book.specs.declared.Verdict.the-variants.{Passes, Fails}
@@ -19,7 +19,8 @@ use Rattle.book.specs.Reasons.{numberOf, isAccepted}
 use Rattle.book.specs.Records.{fieldsOf, distinct}
 use Rattle.book.specs.Messages.{typeOf, targetOf, under}
 use Rattle.book.specs.Soundness.{isSound}
-use Rattle.book.specs.Checks.{Call, live, numbersSpent, sequenceFails, sequenceRepeats, typeUnknown, isCc, isDk, isCx, onOrCc, ccOrDk, tradeIdFails, termsDiffer, listedFine, parFine, tableFine, Check, checks, refusal, firstFailing, answerTo, answerOf}
+use Rattle.book.specs.Checks.{Call, live, numbersSpent, sequenceFails, sequenceRepeats, typeUnknown, tradeIdFails, termsDiffer, listedFine, parFine, tableFine, Check, checks, refusal, firstFailing, answerTo, answerOf}
+use Rattle.message_type.specs.Questions.{isCc, isDk, isCx, onOrCc, ccOrDk}
 
 -- the number that a check shows is the paper's for its reason
 pub numbers-shown : all (λ (k : Check). eqb (k .number) (numberOf (k .reason))) checks ≡ true

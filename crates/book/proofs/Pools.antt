@@ -15,7 +15,7 @@ use Rattle.terminator.specs.Terminators.{digitCanceled, isEnd, isWrong, isBad, 
 use Rattle.terminator.specs.Lots.{Lot, poolsOf, lotsFrom, lots, goesOn, lotsFormed, firstOn, firstCc, formedFor}
 use Rattle.terminator.specs.Groups.{Group, groupsFrom, groups, lotCanceled}
 use Rattle.faces.specs.Faces.{newLots, newPools, isNewLot}
-use Rattle.tally.specs.declared.MessageType.{MessageType}
+use Rattle.message_type.specs.declared.MessageType.{MessageType}
 use Rattle.book.specs.Records.{fieldsOf, poolOf, recordsOf}
 use Rattle.book.specs.Messages.{typeOf, listedOf, listed}
 use Rattle.book.specs.Checks.{canceledLots}

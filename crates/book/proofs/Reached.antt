@@ -18,8 +18,8 @@ use Rattle.terminator.specs.Lots.{Lot}
 use Rattle.faces.specs.Faces.{newLots, newPools}
 use Rattle.sequence.specs.Sequence.{outboundMax, soundLine, lineAfter, nextOutbound, outboundSpent}
 use Rattle.sequence.proofs.Soundness.{start-sound, stays-sound}
-use Rattle.tally.specs.declared.MessageType.{MessageType}
-use Rattle.tally.specs.declared.MessageType.the-variants.{On, Cc, Dk, Cx, Other}
+use Rattle.message_type.specs.declared.MessageType.{MessageType}
+use Rattle.message_type.specs.declared.MessageType.the-variants.{On, Cc, Dk, Cx, Other}
 use Rattle.book.specs.declared.Trade.{Trade}
 use Rattle.book.specs.declared.Values.{Values}
 use Rattle.book.specs.declared.Book.{Book}
@@ -31,7 +31,8 @@ use Rattle.book.specs.Messages.{typeOf, targetOf, listedOf, listed, brou
 use Rattle.book.specs.Trades.{tradesOf, tradeName, broughtWeight}
 use Rattle.book.specs.Opening.{recordsMax, elevenDigitsMax, holidaysOf, tradeFine, valuesFine, openingFine, atPar, opened, cleared}
 use Rattle.book.specs.Soundness.{liveOf, recordFine, inOrder, fieldsOnce, isNone, parsFrom, Sound, isSound}
-use Rattle.book.specs.Checks.{Call, live, trades, arrived, concerned, isOn, onOrCc, ccOrDk, isCc, isTaken, taken, tradeAt, answerOf}
+use Rattle.book.specs.Checks.{Call, live, trades, arrived, concerned, isTaken, taken, tradeAt, answerOf}
+use Rattle.message_type.specs.Questions.{isOn, onOrCc, ccOrDk, isCc}
 use Rattle.book.specs.Step.{isSilent, gapAt, lineOf, beforeAa, outboundOf, tradesMoved, liveMoved, tableMoved, accepted, bookAfter, tableAfter}
 use Rattle.book.specs.History.{fieldsOfLots}
 use Rattle.book.specs.Promise.{State, Put, callOf, after, afterAll, openedState}
@@ -87,11 +88,11 @@ pub opened-sound : (v : Values) (table : List Pool) → openingFine v table ≡ 
 unfolding openingFine opened cleared
 opened-sound v table e =
     let fits : valuesFine v ≡ true = and-left (valuesFine v) (leb (length table) recordsMax) e in
-    let same : take (v .count) (map atPar (v .trades)) ≡ map atPar (tradesOf v) = take-map atPar (v .count) (v .trades) in
+    let same : take (v .tradeCount) (map atPar (v .trades)) ≡ map atPar (tradesOf v) = take-map atPar (v .tradeCount) (v .trades) in
     record {
       values =
-          values-stay v (map atPar (v .trades)) (v .last) (v .outbound) fits (last-within v fits) (outbound-within v fits)
-          (trades-alike (holidaysOf v) (take (v .count) (map atPar (v .trades))) (tradesOf v)
+          values-stay v (map atPar (v .trades)) (v .lastMessageId) (v .outbound) fits (last-within v fits) (outbound-within v fits)
+          (trades-alike (holidaysOf v) (take (v .tradeCount) (map atPar (v .trades))) (tradesOf v)
           (ap (map (tradeFine (holidaysOf v))) same ∙ at-par-blind (tradeFine (holidaysOf v)) (λ (t : Trade). refl) (tradesOf v))
           (ap (map tradeName) same ∙ at-par-blind tradeName (λ (t : Trade). refl) (tradesOf v)));
       tableShort = rw (length-replicate (length table) noPool) (and-right (valuesFine v) (leb (length table) recordsMax) e);
@@ -116,7 +117,7 @@ module _ (c : Call) (ok : isAccepted (answerOf c) ≡ true) where
   ds = details (c .body)
 
   abbrev last : ℕ
-  last = c .book .values .last
+  last = c .book .values .lastMessageId
 
   -- new lots, or none
   brought-either : ((onOrCc (typeOf (c .body)) ≡ true) × (brought (c .body) ≡ newLots ds)) ⊎ (brought (c .body) ≡ [])
@@ -214,17 +215,17 @@ module _ (c : Call) (ok : isAccepted (answerOf c) ≡ true) where
   moved-once s = once-after last (concerned c) stays (live c) (brought (c .body)) (old s) (s .once) new-distinct
 
   -- each is fine by itself
-  opened-trade : onOrCc (typeOf (c .body)) ≡ true → ltb (concerned c) (c .book .values .count) ≡ true
+  opened-trade : onOrCc (typeOf (c .body)) ≡ true → ltb (concerned c) (c .book .values .tradeCount) ≡ true
   opened-trade t =
       let h : concerned c < length (trades c) = ltb-true (concerned c) (length (trades c)) (and-left (ltb (concerned c) (length (trades c))) _ (fine c ok .parEnough t)) in
-      lt-ltb (concerned c) (c .book .values .count) (omega (arith, short (c .book .values .count) (c .book .values .trades)))
+      lt-ltb (concerned c) (c .book .values .tradeCount) (omega (arith, short (c .book .values .tradeCount) (c .book .values .trades)))
     where
       short : (n : ℕ) (ts : List Trade) → length (take n ts) ≤ n
       short zero ts = omega arith
       short (suc n) [] = omega arith
       short (suc n) (x ∷ ts) = omega (arith, short n ts)
 
-  moved-records : Sound (c .book) (c .table) → (w : Values) → w .count ≡ c .book .values .count → w .last ≡ last + 1 → all (recordFine w) (liveMoved c) ≡ true
+  moved-records : Sound (c .book) (c .table) → (w : Values) → w .tradeCount ≡ c .book .values .tradeCount → w .lastMessageId ≡ last + 1 → all (recordFine w) (liveMoved c) ≡ true
   unfolding liveMoved
   moved-records s w ec el =
       all-both (recordFine w) (keep stays (live c)) new
@@ -234,7 +235,7 @@ module _ (c : Call) (ok : isAccepted (answerOf c) ≡ true) where
       go : ((onOrCc (typeOf (c .body)) ≡ true) × (brought (c .body) ≡ newLots ds)) ⊎ (brought (c .body) ≡ []) → all (recordFine w) new ≡ true
       go (inl (t, e)) =
           let low : leb 1 (last + 1) ≡ true = le-leb 1 (last + 1) (omega arith) in
-          let high : leb (last + 1) (w .last) ≡ true = le-leb (last + 1) (w .last) (omega arith) in
+          let high : leb (last + 1) (w .lastMessageId) ≡ true = le-leb (last + 1) (w .lastMessageId) (omega arith) in
           ap (λ (ls : List Lot). all (recordFine w) (recordsOf (last + 1) (concerned c) 1 ls)) e
           ∙ records-fine w (last + 1) (concerned c) 1 (newLots ds) (ap (ltb (concerned c)) ec ∙ opened-trade t) (rw (low, high)) (omega arith) (new-ends ds)
       go (inr e) = ap (λ (ls : List Lot). all (recordFine w) (recordsOf (last + 1) (concerned c) 1 ls)) e
@@ -259,7 +260,7 @@ outbound-fits c a e =
 abbrev bookIf : Call → Bool → Book
 bookIf c ok =
     record {
-      values = exchange (c .book .values) (cond ok (tradesMoved c) (c .book .values .trades)) (cond ok (c .book .values .last + 1) (c .book .values .last)) (outboundOf (c .book) (c .body) (answerOf c));
+      values = exchange (c .book .values) (cond ok (tradesMoved c) (c .book .values .trades)) (cond ok (c .book .values .lastMessageId + 1) (c .book .values .lastMessageId)) (outboundOf (c .book) (c .body) (answerOf c));
       line = lineOf (c .book) (c .body) (answerOf c);
       live = cond ok (length (liveMoved c)) (c .book .live);
     }
@@ -270,20 +271,20 @@ tableIf c ok = cond ok (tableMoved c) (c .table)
 moved-values : (c : Call) → isAccepted (answerOf c) ≡ true → Sound (c .book) (c .table) → valuesFine (bookIf c true .values) ≡ true
 unfolding tradesMoved
 moved-values c ok s =
-    values-stay v (tradesMoved c) (v .last + 1) (outboundOf (c .book) (c .body) (answerOf c)) (s .values) (le-leb (v .last + 1) elevenDigitsMax (omega (arith, spare)))
+    values-stay v (tradesMoved c) (v .lastMessageId + 1) (outboundOf (c .book) (c .body) (answerOf c)) (s .values) (le-leb (v .lastMessageId + 1) elevenDigitsMax (omega (arith, spare)))
     (outbound-fits c (answerOf c) (outbound-within v (s .values)))
-    (trades-alike (holidaysOf v) (take (v .count) (tradesMoved c)) (tradesOf v)
-    (moved-blind (tradeFine (holidaysOf v)) (λ (t : Trade) (cents : ℕ). refl) (v .count) (v .trades) (concerned c) left)
-    (moved-blind tradeName (λ (t : Trade) (cents : ℕ). refl) (v .count) (v .trades) (concerned c) left))
+    (trades-alike (holidaysOf v) (take (v .tradeCount) (tradesMoved c)) (tradesOf v)
+    (moved-blind (tradeFine (holidaysOf v)) (λ (t : Trade) (cents : ℕ). refl) (v .tradeCount) (v .trades) (concerned c) left)
+    (moved-blind tradeName (λ (t : Trade) (cents : ℕ). refl) (v .tradeCount) (v .trades) (concerned c) left))
   where
     v : Values
     v = c .book .values
 
-    spare : v .last < elevenDigitsMax
-    spare = leb-false elevenDigitsMax (v .last) (neither-left (leb elevenDigitsMax (v .last)) (outboundSpent (v .outbound)) (fine c ok .notSpent))
+    spare : v .lastMessageId < elevenDigitsMax
+    spare = leb-false elevenDigitsMax (v .lastMessageId) (neither-left (leb elevenDigitsMax (v .lastMessageId)) (outboundSpent (v .outbound)) (fine c ok .notSpent))
 
     left : ℕ
-    left = (tradeAt (trades c) (concerned c) .left + weightOfRecords (taken c)) - broughtWeight (c .body)
+    left = (tradeAt (trades c) (concerned c) .openPar + weightOfRecords (taken c)) - broughtWeight (c .body)
 
 moved-zeros : (c : Call) → all isNone (drop (length (liveMoved c)) (tableMoved c)) ≡ true
 unfolding tableMoved
@@ -305,7 +306,7 @@ refused-sound : (c : Call) → Sound (c .book) (c .table) → Sound (bookIf c fa
 refused-sound c s =
     record {
       values =
-          values-stay (c .book .values) (c .book .values .trades) (c .book .values .last) (outboundOf (c .book) (c .body) (answerOf c)) (s .values) (last-within (c .book .values) (s .values))
+          values-stay (c .book .values) (c .book .values .trades) (c .book .values .lastMessageId) (outboundOf (c .book) (c .body) (answerOf c)) (s .values) (last-within (c .book .values) (s .values))
           (outbound-fits c (answerOf c) (outbound-within (c .book .values) (s .values))) refl;
       tableShort = s .tableShort;
       inbound = line-sound c (answerOf c) (s .inbound);

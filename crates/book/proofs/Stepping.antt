@@ -16,8 +16,8 @@ use Rattle.layout.specs.Details.{details}
 use Rattle.terminator.specs.Lots.{Lot, poolsOf, lotWeight, lotMillions, formedFor}
 use Rattle.terminator.specs.Groups.{groups, groupsFormed, groupsBalanced}
 use Rattle.faces.specs.Faces.{newPools}
-use Rattle.tally.specs.declared.MessageType.{MessageType}
-use Rattle.tally.specs.declared.MessageType.the-variants.{On, Cc, Dk, Cx, Other}
+use Rattle.message_type.specs.declared.MessageType.{MessageType}
+use Rattle.message_type.specs.declared.MessageType.the-variants.{On, Cc, Dk, Cx, Other}
 use Rattle.trade_id.specs.declared.TradeId.{TradeId}
 use Rattle.trade_id.specs.declared.TradeId.the-variants.{Whole, Broken, Absent}
 use Rattle.book.specs.declared.Trade.{Trade}
@@ -90,7 +90,7 @@ brought-as body k e = ap (λ (x : MessageType). broughtBy x (details body)) e
 module _ (v : Values) (last : ℕ) (ts : List Trade) (rs : List Pool) (h : History) (w : Beside v last ts rs h) (body : List ℕ) where
   -- an ON
   pub on-move : typeOf body ≡ On → (cc : Bool) → formedFor cc (details body) ≡ true → distinct (map fieldsOf (newPools (details body))) ≡ true
-      → (t : ℕ) → t < length ts → sumOf lotWeight (brought body) ≤ tradeAt ts t .left + weightOfRecords (keep (isTaken (targetOf body) (listed body)) rs)
+      → (t : ℕ) → t < length ts → sumOf lotWeight (brought body) ≤ tradeAt ts t .openPar + weightOfRecords (keep (isTaken (targetOf body) (listed body)) rs)
       → Move ts rs (h .lots) t (targetOf body) (listed body) (brought body) true false
   on-move e cc fo di t lt le =
       record {
@@ -103,7 +103,7 @@ module _ (v : Values) (last : ℕ) (ts : List Trade) (rs : List Pool) (h : Histo
       }
 
   pub on-lots : typeOf body ≡ On
-      → movedLots (h .last) (h .lots) (tradeOfOn body ts (openPars ts)) (targetOf body) (listed body) (brought body) true false ≡ lotsAfter On v (h .last + 1) body (h .lots)
+      → movedLots (h .lastMessageId) (h .lots) (tradeOfOn body ts (openPars ts)) (targetOf body) (listed body) (brought body) true false ≡ lotsAfter On v (h .lastMessageId + 1) body (h .lots)
   on-lots e =
       rw (same-opens v last ts rs h w, same-trade body (openPars ts) (tradesOf v) ts (sym (w .terms)), listed-as body On e, take-none (targetOf body) (h .lots))
 
@@ -111,14 +111,14 @@ module _ (v : Values) (last : ℕ) (ts : List Trade) (rs : List Pool) (h : Histo
   module _ (un : any (under (targetOf body)) rs ≡ true) (ex : exactByRecord (targetOf body) (listed body) rs ≡ true) where
     target-there : (g : Brought) → g ∈ h .lots → isTarget (targetOf body) (g .id) ≡ true → g .trade ≡ targetTrade body rs
     unfolding targetTrade
-    target-there = rw (w .table) (target-trade (length (tradesOf v)) (h .last) (targetOf body) (h .lots) (w .lots) (rw (w .table) at un))
+    target-there = rw (w .table) (target-trade (length (tradesOf v)) (h .lastMessageId) (targetOf body) (h .lots) (w .lots) (rw (w .table) at un))
 
     listed-there : (g : Brought) → g ∈ h .lots → touches (targetOf body) (listed body) g ≡ true → g .trade ≡ targetTrade body rs
     listed-there g m q = target-there g m (touches-target (targetOf body) (listed body) g q)
 
     target-opened : targetTrade body rs < length ts
     unfolding targetTrade
-    target-opened = rw (same-count v ts (w .terms), w .table) (target-range (length (tradesOf v)) (h .last) (targetOf body) (h .lots) (w .lots) (rw (w .table) at un))
+    target-opened = rw (same-count v ts (w .terms), w .table) (target-range (length (tradesOf v)) (h .lastMessageId) (targetOf body) (h .lots) (w .lots) (rw (w .table) at un))
 
     -- a DK
     pub dk-move : typeOf body ≡ Dk → Move ts rs (h .lots) (targetTrade body rs) (targetOf body) (listed body) (brought body) false true
@@ -133,7 +133,7 @@ module _ (v : Values) (last : ℕ) (ts : List Trade) (rs : List Pool) (h : Histo
         }
 
     pub dk-lots : typeOf body ≡ Dk
-        → movedLots (h .last) (h .lots) (targetTrade body rs) (targetOf body) (listed body) (brought body) false true ≡ lotsAfter Dk v (h .last + 1) body (h .lots)
+        → movedLots (h .lastMessageId) (h .lots) (targetTrade body rs) (targetOf body) (listed body) (brought body) false true ≡ lotsAfter Dk v (h .lastMessageId + 1) body (h .lots)
     dk-lots e = rw (brought-as body Dk e) (append-nil (map (takeOff true (targetOf body) (listed body)) (h .lots)))
 
     -- a CC
@@ -146,7 +146,7 @@ module _ (v : Values) (last : ℕ) (ts : List Trade) (rs : List Pool) (h : Histo
       unfolding groupsBalanced
       cc-gone ba on =
           rw listed-canceled
-          (gone-canceled (length (tradesOf v)) (h .last) (targetOf body) (h .lots) (w .lots) (canceledLots (details body))
+          (gone-canceled (length (tradesOf v)) (h .lastMessageId) (targetOf body) (h .lots) (w .lots) (canceledLots (details body))
           (rw (w .table, listed-canceled) at (exact (targetOf body) (listed body) rs ex .live)) (rw listed-canceled at (exact (targetOf body) (listed body) rs ex .distinct)) (rw (w .table) at on))
           ∙ ap (sumOf lotMillions) (sym (groups-canceled (details body)))
           ∙ groups-even (groups (details body)) ba
@@ -154,7 +154,7 @@ module _ (v : Values) (last : ℕ) (ts : List Trade) (rs : List Pool) (h : Histo
 
       pub cc-move : distinct (map fieldsOf (newPools (details body))) ≡ true → groupsBalanced (details body) ≡ true
           → all (oneByRecord (targetOf body) rs) (canceledLots (details body)) ≡ true
-          → sumOf lotWeight (brought body) ≤ tradeAt ts (targetTrade body rs) .left + weightOfRecords (keep (isTaken (targetOf body) (listed body)) rs)
+          → sumOf lotWeight (brought body) ≤ tradeAt ts (targetTrade body rs) .openPar + weightOfRecords (keep (isTaken (targetOf body) (listed body)) rs)
           → Move ts rs (h .lots) (targetTrade body rs) (targetOf body) (listed body) (brought body) false false
       cc-move di ba on le =
           record {
@@ -178,11 +178,11 @@ module _ (v : Values) (last : ℕ) (ts : List Trade) (rs : List Pool) (h : Histo
       cc-due : groupsFormed (details body) ≡ true → dueByGroups (targetOf body) (h .lots) (groups (details body)) ≡ map (due (targetTrade body rs)) (brought body)
       unfolding groupsFormed
       cc-due gf =
-          due-there (length (tradesOf v)) (h .last) (targetOf body) (h .lots) (w .lots) (targetTrade body rs) target-there
+          due-there (length (tradesOf v)) (h .lastMessageId) (targetOf body) (h .lots) (w .lots) (targetTrade body rs) target-there
           (listed body) (rw (w .table) at (exact (targetOf body) (listed body) rs ex .live)) (groups (details body)) gf
           (λ f m. rw (listed-canceled, ← groups-canceled (details body)) m)
           ∙ ap (map (due (targetTrade body rs))) (groups-new (details body) ∙ sym (brought-as body Cc e))
 
       pub cc-lots : groupsFormed (details body) ≡ true
-          → movedLots (h .last) (h .lots) (targetTrade body rs) (targetOf body) (listed body) (brought body) false false ≡ lotsAfter Cc v (h .last + 1) body (h .lots)
+          → movedLots (h .lastMessageId) (h .lots) (targetTrade body rs) (targetOf body) (listed body) (brought body) false false ≡ lotsAfter Cc v (h .lastMessageId + 1) body (h .lots)
       cc-lots gf = rw (cc-due gf)

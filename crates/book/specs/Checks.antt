@@ -24,10 +24,11 @@ use Rattle.sequence.specs.declared.Arrival.the-variants.{Refused, Duplicate, Ex
 use Rattle.sequence.specs.declared.Line.{Line}
 use Rattle.sequence.specs.Sequence.{inbound, isRefused, arrivalOf, outboundSpent}
 use Rattle.acknowledgment.specs.Frames.{version, txLength, aaLength}
-use Rattle.tally.specs.declared.MessageType.{MessageType}
-use Rattle.tally.specs.declared.MessageType.the-variants.{On, Cc, Dk, Cx, Other}
+use Rattle.message_type.specs.declared.MessageType.{MessageType}
+use Rattle.message_type.specs.declared.MessageType.the-variants.{On, Cc, Dk, Cx, Other}
 use Rattle.trade_id.specs.declared.TradeId.{TradeId}
 use Rattle.trade_id.specs.declared.TradeId.the-variants.{Whole, Broken, Absent}
+use Rattle.message_type.specs.Questions.{isOn, isCc, isDk, isCx, isOther, onOrCc, ccOrDk}
 use Rattle.book.specs.declared.Trade.{Trade}
 use Rattle.book.specs.declared.Values.{Values}
 use Rattle.book.specs.declared.Book.{Book}
@@ -65,7 +66,7 @@ unsound c = not (isSound (c .book) (c .table))
 
 -- 43: the last ID is the highest, or the last outbound number over 999997
 abbrev pub numbersSpent : Values → Bool
-numbersSpent v = leb elevenDigitsMax (v .last) || outboundSpent (v .outbound)
+numbersSpent v = leb elevenDigitsMax (v .lastMessageId) || outboundSpent (v .outbound)
 
 -- 44 asks for room for a TX and an AA
 abbrev pub roomLeast : ℕ
@@ -110,13 +111,6 @@ repeatsLast line body = isDuplicate (arrivalOf line (arrived body))
 -- 12: duplicate sequence
 abbrev pub sequenceRepeats : Call → Bool
 sequenceRepeats c = repeatsLast (c .book .line) (c .body)
-
-abbrev pub isOther : MessageType → Bool
-isOther On = false
-isOther Cc = false
-isOther Dk = false
-isOther Cx = false
-isOther Other = true
 
 -- 13: none of the four types
 abbrev pub typeUnknown : List ℕ → Bool
@@ -170,20 +164,6 @@ partiesFine v body =
 -- 17: subscriber or connection not the book's, submitter in no trade, contra neither FTBA nor FSTI
 abbrev pub partiesFail : Values → List ℕ → Bool
 partiesFail v body = not (partiesFine v body)
-
-abbrev pub isCc : MessageType → Bool
-isCc On = false
-isCc Cc = true
-isCc Dk = false
-isCc Cx = false
-isCc Other = false
-
-abbrev pub isCx : MessageType → Bool
-isCx On = false
-isCx Cc = false
-isCx Dk = false
-isCx Cx = true
-isCx Other = false
 
 -- 18: every CX fails
 abbrev pub always : Call → Bool
@@ -241,7 +221,7 @@ targetTrade body rs = firstUnder (keep (under (targetOf body)) rs)
 
 -- a trade by its index; the one past the end is empty
 abbrev pub noTrade : Trade
-noTrade = record { id = []; length = 0; seller = []; buyer = []; contra = []; cusip = []; settlement = 0; price = 0; par = 0; left = 0 }
+noTrade = record { id = []; length = 0; seller = []; buyer = []; contra = []; cusip = []; settlement = 0; price = 0; par = 0; openPar = 0 }
 
 abbrev pub tradeAt : List Trade → ℕ → Trade
 tradeAt ts i = getD ts i noTrade
@@ -260,20 +240,6 @@ concernedFor Other body ts rs = targetTrade body rs
 
 unfoldable pub concerned : Call → ℕ
 concerned c = concernedFor (typeOf (c .body)) (c .body) (trades c) (live c)
-
-abbrev pub isOn : MessageType → Bool
-isOn On = true
-isOn Cc = false
-isOn Dk = false
-isOn Cx = false
-isOn Other = false
-
-abbrev pub isDk : MessageType → Bool
-isDk On = false
-isDk Cc = false
-isDk Dk = true
-isDk Cx = false
-isDk Other = false
 
 -- the named trade is one whose terms agree and, on a CC or DK, the target's
 abbrev pub namedFine : List ℕ → List Trade → ℕ → ℕ → Bool
@@ -308,7 +274,7 @@ newFacesFail v body = facesFail (v .limits .least) (details body)
 
 -- 35: a new good lot's faces or pools
 abbrev pub newLotsFail : Values → List ℕ → Bool
-newLotsFail v body = lotsFail (v .limits .variance) (v .limits .pools) (details body)
+newLotsFail v body = lotsFail (v .limits .variance) (v .limits .poolsAMillion) (details body)
 
 -- 36: matched fields twice among the new pools
 abbrev pub newPoolsRepeat : List ℕ → Bool
@@ -373,7 +339,7 @@ listedFail c = not (listedFine (c .body) (live c))
 abbrev pub parFine : Call → Bool
 parFine c =
     ltb (concerned c) (length (trades c))
-    && leb (broughtWeight (c .body)) (tradeAt (trades c) (concerned c) .left + weightOfRecords (taken c))
+    && leb (broughtWeight (c .body)) (tradeAt (trades c) (concerned c) .openPar + weightOfRecords (taken c))
 
 -- 38: the trade's open par plus the weight taken off is under the weight brought
 abbrev pub parShort : Call → Bool
@@ -410,12 +376,6 @@ ofBoth p c = p (c .book .values) (c .body)
 
 abbrev pub every : MessageType → Bool
 every t = true
-
-abbrev pub onOrCc : MessageType → Bool
-onOrCc t = isOn t || isCc t
-
-abbrev pub ccOrDk : MessageType → Bool
-ccOrDk t = isCc t || isDk t
 
 unfoldable pub checks : List Check
 checks =
@@ -461,7 +421,7 @@ firstFailing (k ∷ ks) c = cond (k .types (typeOf (c .body)) && k .fails c) (Fa
 
 -- it decides; where none fails, the message gets the next ID
 abbrev pub answerTo : Call → Verdict → Answer
-answerTo c Passes = Accepted (c .book .values .last + 1)
+answerTo c Passes = Accepted (c .book .values .lastMessageId + 1)
 answerTo c (Fails r) = refusal (typeOf (c .body)) r
 
 unfoldable pub answerOf : Call → Answer

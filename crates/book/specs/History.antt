@@ -11,8 +11,8 @@ use Rattle.layout.specs.declared.Detail.{Detail}
 use Rattle.layout.specs.Details.{details}
 use Rattle.terminator.specs.Lots.{Lot, poolsOf, lotMillions, lotWeight}
 use Rattle.terminator.specs.Groups.{Group, groups}
-use Rattle.tally.specs.declared.MessageType.{MessageType}
-use Rattle.tally.specs.declared.MessageType.the-variants.{On, Cc, Dk, Cx, Other}
+use Rattle.message_type.specs.declared.MessageType.{MessageType}
+use Rattle.message_type.specs.declared.MessageType.the-variants.{On, Cc, Dk, Cx, Other}
 use Rattle.book.specs.declared.Trade.{Trade}
 use Rattle.book.specs.declared.Values.{Values}
 use Rattle.book.specs.Records.{Fields, fieldsOf, hasFields}
@@ -32,12 +32,12 @@ pub record Brought : Type 0 where
 
 -- the last message ID, and the lots brought, in the order of their coming
 pub record History : Type 0 where
-  pub last : ℕ
+  pub lastMessageId : ℕ
   pub lots : List Brought
 
 -- opening's last ID, and no lots
 abbrev pub atOpening : Values → History
-atOpening v = record { last = v .last; lots = [] }
+atOpening v = record { lastMessageId = v .lastMessageId; lots = [] }
 
 -- ---- taking off
 abbrev pub isTarget : Field → ℕ → Bool
@@ -132,7 +132,7 @@ lotsAfter Other v id body hs = hs
 -- a refused call changes nothing; an accepted message gets the next ID
 unfoldable pub feed : Values → History → List ℕ → Bool → History
 feed v h body isAccepted =
-    cond isAccepted (record { last = h .last + 1; lots = lotsAfter (typeOf body) v (h .last + 1) body (h .lots) }) h
+    cond isAccepted (record { lastMessageId = h .lastMessageId + 1; lots = lotsAfter (typeOf body) v (h .lastMessageId + 1) body (h .lots) }) h
 
 -- what the history is fed for one call
 pub record Fed : Type 0 where

@@ -13,8 +13,8 @@ use Rattle.layout.specs.Details.{details}
 use Rattle.terminator.specs.Terminators.{isCanceled}
 use Rattle.terminator.specs.Lots.{Lot}
 use Rattle.faces.specs.Faces.{newLots}
-use Rattle.tally.specs.declared.MessageType.{MessageType}
-use Rattle.tally.specs.declared.MessageType.the-variants.{On, Cc, Dk, Cx, Other}
+use Rattle.message_type.specs.declared.MessageType.{MessageType}
+use Rattle.message_type.specs.declared.MessageType.the-variants.{On, Cc, Dk, Cx, Other}
 use Rattle.trade_id.specs.declared.TradeId.{TradeId}
 use Rattle.trade_id.specs.SpecialInstructions.{tradeIdOf}
 use Rattle.book.specs.declared.Pool.{Pool}

@@ -49,10 +49,10 @@ poolsAMillionMax = 250
 
 -- the holidays that are opened
 abbrev pub holidaysOf : Values → List ℕ
-holidaysOf v = take (v .days) (v .holidays)
+holidaysOf v = take (v .holidayCount) (v .holidays)
 
 abbrev pub limitsFine : Limits → Bool
-limitsFine l = leb (l .ceiling) ceilingMax && (leb (l .variance) varianceMax && (between 1 poolsAMillionMax (l .pools) && between 1 originalMost (l .least)))
+limitsFine l = leb (l .ceiling) ceilingMax && (leb (l .variance) varianceMax && (between 1 poolsAMillionMax (l .poolsAMillion) && between 1 originalMost (l .least)))
 
 -- an account, a subscriber and a connection: four characters of codes 33 to 126
 abbrev pub accountFine : List ℕ → Bool
@@ -79,11 +79,11 @@ namesRepeat (n ∷ ns) = any (same n) ns || namesRepeat ns
 -- opening's rules but for the table's length
 unfoldable pub valuesFine : Values → Bool
 valuesFine v =
-    (leb (v .count) tradesMax && leb (v .days) holidaysMax)
+    (leb (v .tradeCount) tradesMax && leb (v .holidayCount) holidaysMax)
     && (all isDate (holidaysOf v)
     && (accountFine (v .subscriber) && (accountFine (v .connection)
     && (limitsFine (v .limits)
-    && (leb (v .last) elevenDigitsMax && (leb (v .outbound .0) outboundMax
+    && (leb (v .lastMessageId) elevenDigitsMax && (leb (v .outbound .0) outboundMax
     && (all (tradeFine (holidaysOf v)) (tradesOf v) && not (namesRepeat (map tradeName (tradesOf v))))))))))
 
 -- 41 passes: values in range, and a table that is not too long
@@ -103,7 +103,7 @@ atPar t =
       settlement = t .settlement;
       price = t .price;
       par = t .par;
-      left = t .par;
+      openPar = t .par;
     }
 
 -- the values with other trades
@@ -111,13 +111,13 @@ abbrev pub withTrades : Values → List Trade → Values
 withTrades v ts =
     record {
       trades = ts;
-      count = v .count;
+      tradeCount = v .tradeCount;
       holidays = v .holidays;
-      days = v .days;
+      holidayCount = v .holidayCount;
       subscriber = v .subscriber;
       connection = v .connection;
       limits = v .limits;
-      last = v .last;
+      lastMessageId = v .lastMessageId;
       outbound = v .outbound;
     }
 

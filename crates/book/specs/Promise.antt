@@ -48,9 +48,9 @@ openedState v table = record { book = opened v; table = cleared table }
 -- ---- the claim on a book, its table and the history of the same calls
 pub record Demand3 (v : Values) (s : State) (h : History) : Type 0 where
   -- each trade's open par is its opening par less the weights of the lots brought to it and not taken off
-  pub historySum : (t : ℕ) → t < length (tradesOf v) → tradeAt (tradesOf (s .book .values)) t .left + standingWeight t (h .lots) ≡ tradeAt (tradesOf v) t .par
+  pub historySum : (t : ℕ) → t < length (tradesOf v) → tradeAt (tradesOf (s .book .values)) t .openPar + standingWeight t (h .lots) ≡ tradeAt (tradesOf v) t .par
   -- open par lies between zero and the opening par
-  pub bounded : (t : ℕ) → t < length (tradesOf v) → tradeAt (tradesOf (s .book .values)) t .left ≤ tradeAt (tradesOf v) t .par
+  pub bounded : (t : ℕ) → t < length (tradesOf v) → tradeAt (tradesOf (s .book .values)) t .openPar ≤ tradeAt (tradesOf v) t .par
   -- no lot is taken off twice
   pub once : (h′ : Brought) → List·Memᴰ h′ (h .lots) → h′ .offs ≤ 1
   -- standing good millions are those that accepted ONs brought less those that accepted DKs took off

@@ -27,8 +27,8 @@ kindFine r = (eqb (r .kind) kindGood && between 1 millionsMost (r .millions)) ||
 -- a live record by itself: a trade that is opened, an ID from 1 to the last, an ordinal, a face of eleven digits, kind and millions
 abbrev pub recordFine : Values → Pool → Bool
 recordFine v r =
-    ltb (r .trade) (v .count)
-    && (between 1 (v .last) (r .message) && (leb 1 (r .ordinal) && (leb (r .current) elevenDigitsMax && kindFine r)))
+    ltb (r .trade) (v .tradeCount)
+    && (between 1 (v .lastMessageId) (r .message) && (leb 1 (r .ordinal) && (leb (r .current) elevenDigitsMax && kindFine r)))
 
 -- message ID, then ordinal, does not fall
 abbrev pub notFalling : Pool → Pool → Bool
@@ -66,7 +66,7 @@ isNone r =
 -- open par is par less what the trade's lots weigh
 abbrev pub parsFrom : ℕ → List Trade → List Pool → Bool
 parsFrom i [] rs = true
-parsFrom i (t ∷ ts) rs = eqb (t .left + tradeWeight i rs) (t .par) && parsFrom (i + 1) ts rs
+parsFrom i (t ∷ ts) rs = eqb (t .openPar + tradeWeight i rs) (t .par) && parsFrom (i + 1) ts rs
 
 -- ---- the facts by name
 pub record Sound (b : Book) (table : List Pool) : Type 0 where

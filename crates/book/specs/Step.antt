@@ -91,8 +91,8 @@ outboundOf book body a = cond (isSilent a) (book .values .outbound) (nextOutboun
 
 -- ---- trades and pools: what an accepted message takes off and brings
 -- a trade with another open par
-abbrev pub withLeft : Trade → ℕ → Trade
-withLeft t cents =
+abbrev pub withOpenPar : Trade → ℕ → Trade
+withOpenPar t cents =
     record {
       id = t .id;
       length = t .length;
@@ -103,20 +103,20 @@ withLeft t cents =
       settlement = t .settlement;
       price = t .price;
       par = t .par;
-      left = cents;
+      openPar = cents;
     }
 
 -- open par moves by the weights
 unfoldable pub tradesMoved : Call → List Trade
 tradesMoved c =
     set (c .book .values .trades) (concerned c)
-    (withLeft (tradeAt (trades c) (concerned c)) ((tradeAt (trades c) (concerned c) .left + weightOfRecords (taken c)) - broughtWeight (c .body)))
+    (withOpenPar (tradeAt (trades c) (concerned c)) ((tradeAt (trades c) (concerned c) .openPar + weightOfRecords (taken c)) - broughtWeight (c .body)))
 
 -- the listed lots go, then the new ones come under the new ID
 unfoldable pub liveMoved : Call → List Pool
 liveMoved c =
     keep (λ (r : Pool). not (isTaken (targetOf (c .body)) (listed (c .body)) r)) (live c)
-    ++ recordsOf (c .book .values .last + 1) (concerned c) 1 (brought (c .body))
+    ++ recordsOf (c .book .values .lastMessageId + 1) (concerned c) 1 (brought (c .body))
 
 -- the table closed up, with zeros after the live records
 unfoldable pub tableMoved : Call → List Pool
@@ -130,19 +130,19 @@ abbrev pub tradesAfter : Call → List Trade
 tradesAfter c = cond (accepted c) (tradesMoved c) (c .book .values .trades)
 
 abbrev pub lastAfter : Call → ℕ
-lastAfter c = cond (accepted c) (c .book .values .last + 1) (c .book .values .last)
+lastAfter c = cond (accepted c) (c .book .values .lastMessageId + 1) (c .book .values .lastMessageId)
 
 abbrev pub valuesAfter : Call → Values
 valuesAfter c =
     record {
       trades = tradesAfter c;
-      count = c .book .values .count;
+      tradeCount = c .book .values .tradeCount;
       holidays = c .book .values .holidays;
-      days = c .book .values .days;
+      holidayCount = c .book .values .holidayCount;
       subscriber = c .book .values .subscriber;
       connection = c .book .values .connection;
       limits = c .book .values .limits;
-      last = lastAfter c;
+      lastMessageId = lastAfter c;
       outbound = outboundOf (c .book) (c .body) (answerOf c);
     }
 

@@ -10,8 +10,8 @@ use Rattle.fields.specs.declared.Field.the-variants.{Number, NotDigits}
 use Rattle.layout.specs.Columns as columns
 use Rattle.layout.specs.Columns.{bytesIn, numberIn}
 use Rattle.terminator.specs.Lots.{lotWeight}
-use Rattle.tally.specs.declared.MessageType.{MessageType}
-use Rattle.tally.specs.declared.MessageType.the-variants.{On, Cc, Dk, Cx, Other}
+use Rattle.message_type.specs.declared.MessageType.{MessageType}
+use Rattle.message_type.specs.declared.MessageType.the-variants.{On, Cc, Dk, Cx, Other}
 use Rattle.trade_id.specs.declared.TradeId.{TradeId}
 use Rattle.trade_id.specs.declared.TradeId.the-variants.{Whole, Broken, Absent}
 use Rattle.trade_id.specs.Prices.{pricesAgree}
@@ -21,7 +21,7 @@ use Rattle.book.specs.Messages.{typeOf, idIn, brought}
 
 -- the trades that are opened
 abbrev pub tradesOf : Values → List Trade
-tradesOf v = take (v .count) (v .trades)
+tradesOf v = take (v .tradeCount) (v .trades)
 
 -- the bytes of a trade's ID
 abbrev pub tradeName : Trade → List ℕ
@@ -79,4 +79,4 @@ tradeOfOn body ts opens = firstTrade (mayTake body (idIn body)) 0 ts opens
 
 -- the open pars as the book has them
 abbrev pub openPars : List Trade → List ℕ
-openPars ts = map (λ (t : Trade). t .left) ts
+openPars ts = map (λ (t : Trade). t .openPar) ts

@@ -32,27 +32,27 @@ pub struct Trade {
     pub settlement: u64,
     pub price: u64,
     pub par: u64,
-    pub left: u64,
+    pub openPar: u64,
 }
 
 // GDMM ceiling, variance in cents a million, pools a million, least face in dollars.
 pub struct Limits {
     pub ceiling: u64,
     pub variance: u64,
-    pub pools: u64,
+    pub poolsAMillion: u64,
     pub least: u64,
 }
 
 // What opening lends: the first count trades and the first days holidays count; last is the last message ID used, outbound the last outbound number.
 pub struct Values {
     pub trades: [Trade; TRADES_MAX],
-    pub count: usize,
+    pub tradeCount: usize,
     pub holidays: [u32; HOLIDAYS_MAX],
-    pub days: usize,
+    pub holidayCount: usize,
     pub subscriber: [u8; 4],
     pub connection: [u8; 4],
     pub limits: Limits,
-    pub last: u64,
+    pub lastMessageId: u64,
     pub outbound: Outbound,
 }
 

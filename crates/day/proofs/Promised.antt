@@ -9,8 +9,8 @@ use Rattle.book.specs.Opening.{openingFine}
 use Rattle.book.specs.History.{atOpening, history}
 use Rattle.book.specs.Promise.{State, afterAll, fed, openedState, Demand3}
 use Rattle.book.proofs.Demand3.{demand3}
-use Rattle.opened.specs.declared.Opened.{Opened}
-use Rattle.padded.specs.Calls.{Opens}
+use Rattle.calls.specs.declared.Opened.{Opened}
+use Rattle.calls.specs.Calls.{Opens}
 use Rattle.day.specs.declared.Day.{Day}
 use Rattle.day.specs.Tape.{putsOf}
 use Rattle.day.specs.Days.{stateOf, Passes}

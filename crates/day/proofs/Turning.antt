@@ -15,8 +15,8 @@ use Rattle.book.specs.Reasons.{isAccepted}
 use Rattle.book.specs.Checks.{Call, answerOf, roomLeast}
 use Rattle.book.specs.Step.{bookAfter, tableAfter}
 use Rattle.book.specs.Promise.{Put, callOf, after, afterAll, fed}
-use Rattle.engine.specs.declared.Stepped.{Stepped}
-use Rattle.padded.specs.Calls.{Framed}
+use Rattle.calls.specs.declared.Stepped.{Stepped}
+use Rattle.calls.specs.Calls.{Framed}
 use Rattle.day.specs.declared.Going.{Going}
 use Rattle.day.specs.Tape.{bodyThen, bodiesFrom, bodiesOf, putOf, putsOf}
 use Rattle.day.specs.Days.{stateOf, acceptedAmong, othersAmong, Passes}

@@ -22,13 +22,13 @@ use denote.Builtin.{u8}
 use denote.Steps.{only}
 use denote.Struct.Laws as LL
 use Rattle.book.specs.declared.Book.{Book}
-use Rattle.engine.specs.declared.Stepped.{Stepped}
-use Rattle.staged.proofs.Values.{BookR, bookVal, bookVals, book-tells, SteppedR, steppedVal, steppedVals, TimeR, timeVals}
+use Rattle.calls.specs.declared.Stepped.{Stepped}
+use Rattle.table_by_rows.proofs.Values.{BookR, bookVal, bookVals, book-tells, SteppedR, steppedVal, steppedVals, TimeR, timeVals}
 use Rattle.day.specs.declared.Day.{Day}
 use Rattle.day.specs.declared.Going.{Going}
 use Rattle.day.specs.declared.Place.{Place}
-use Rattle.engine.proofs.Stepped as S
-use Rattle.engine.proofs.Stepped.Laws as S′
+use Rattle.calls.proofs.Stepped as S
+use Rattle.calls.proofs.Stepped.Laws as S′
 use Rattle.day.proofs.Day as D
 use Rattle.day.proofs.Day.Laws as D′
 use Rattle.day.proofs.Going as G

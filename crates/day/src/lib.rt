@@ -1,7 +1,7 @@
 // A day: every whole frame of a tape is put to a book over a lent table, one after another, and the accepted ones are counted.
 use book::Book;
 use book::Pool;
-use engine::Stepped;
+use calls::Stepped;
 use framing::Frame;
 ghost use mathlib.Core.Path.{_≡_};
 ghost use Prim.Native.Nat.{_<_, _≤_, _^_};
@@ -143,7 +143,7 @@ fn put_frame(going: Going, pools: &mut [Pool], tape: &[u8]) -> Going
     let start = start_of(place);
     let end = end_of(place);
     let mut out = [0u8; book::ROOM_LEAST];
-    let stepped = calls::step_part(book, pools, tape, start, end, [b'0'; 6], &mut out);
+    let stepped = table_step::step_part(book, pools, tape, start, end, [b'0'; 6], &mut out);
     counted(going, stepped, place)
 }
 

@@ -15,10 +15,10 @@ use Rattle.book.specs.declared.Pool.{Pool}
 use Rattle.book.specs.Records.{noPool}
 use Rattle.book.specs.Opening.{valuesFine, cleared}
 use Rattle.book.specs.Promise.{State, afterAll, fed, openedState}
-use Rattle.opened.specs.declared.Opened.{Opened}
-use Rattle.figures.specs.declared.Figures.{Figures}
-use Rattle.figures.specs.Saying.{figuresOf}
-use Rattle.padded.specs.Calls.{Opens, Says}
+use Rattle.calls.specs.declared.Opened.{Opened}
+use Rattle.calls.specs.declared.Figures.{Figures}
+use Rattle.calls.specs.Figures.{figuresOf}
+use Rattle.calls.specs.Calls.{Opens, Says}
 use Rattle.day.specs.declared.Day.{Day}
 use Rattle.day.specs.Tape.{putsOf}
 use Rattle.day.specs.Days.{stateOf, acceptedAmong, othersAmong, Passes}
@@ -29,13 +29,13 @@ use Rattle.daytape.specs.Program.{blank, theTrade, valuesGiven, startOf,
 pub values-given : (b t : Trade) → b ≡ blank → t ≡ theTrade
     → record {
       trades = set (replicate 64 b) 0 t;
-      count = 1;
+      tradeCount = 1;
       holidays = replicate 32 0;
-      days = 0;
+      holidayCount = 0;
       subscriber = 48 ∷ 49 ∷ 50 ∷ 51 ∷ [];
       connection = 49 ∷ 50 ∷ 48 ∷ 48 ∷ [];
-      limits = record { ceiling = 2500; variance = 10000; pools = 3; least = 1000 };
-      last = 0;
+      limits = record { ceiling = 2500; variance = 10000; poolsAMillion = 3; least = 1000 };
+      lastMessageId = 0;
       outbound = outbound 0;
     } ≡ valuesGiven
 unfolding valuesGiven
@@ -83,7 +83,7 @@ reports v zeros o opens b is tape d left p b′ is′ f says r e =
     (record {
       accepted = p₀ .accepted ∙ ap (λ (s : State). acceptedAmong (fed s (putsOf tape))) first;
       others = p₀ .others ∙ ap (λ (s : State). othersAmong (fed s (putsOf tape))) first;
-      left = ap (λ (g : Figures). g .left) said;
+      openPar = ap (λ (g : Figures). g .openPar) said;
       millions = ap (λ (g : Figures). g .millions) said;
     })
 
@@ -91,4 +91,4 @@ reports v zeros o opens b is tape d left p b′ is′ f says r e =
 pub given-reports : (v : Values) (tape : List ℕ) (r : Report) → v ≡ valuesGiven → ReportsOver v tape r → Reports tape r
 given-reports v tape r e o =
     let p : ReportsOver valuesGiven tape r = subst (λ (w : Values). ReportsOver w tape r) e o in
-    record { accepted = p .accepted; others = p .others; left = p .left; millions = p .millions }
+    record { accepted = p .accepted; others = p .others; openPar = p .openPar; millions = p .millions }

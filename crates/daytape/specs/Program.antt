@@ -9,8 +9,8 @@ use Rattle.book.specs.declared.Trade.{Trade}
 use Rattle.book.specs.declared.Values.{Values}
 use Rattle.book.specs.Records.{noPool}
 use Rattle.book.specs.Promise.{State, afterAll, fed, openedState}
-use Rattle.figures.specs.declared.Figures.{Figures}
-use Rattle.figures.specs.Saying.{figuresOf}
+use Rattle.calls.specs.declared.Figures.{Figures}
+use Rattle.calls.specs.Figures.{figuresOf}
 use Rattle.day.specs.declared.Day.{Day}
 use Rattle.day.specs.Tape.{putsOf}
 use Rattle.day.specs.Days.{acceptedAmong, othersAmong}
@@ -18,7 +18,7 @@ use Rattle.daytape.specs.declared.Report.{Report}
 
 -- the rest of the trades
 abbrev pub blank : Trade
-blank = record { id = replicate 16 0; length = 0; seller = replicate 4 0; buyer = replicate 4 0; contra = replicate 4 0; cusip = replicate 9 0; settlement = 0; price = 0; par = 0; left = 0 }
+blank = record { id = replicate 16 0; length = 0; seller = replicate 4 0; buyer = replicate 4 0; contra = replicate 4 0; cusip = replicate 9 0; settlement = 0; price = 0; par = 0; openPar = 0 }
 
 -- T1, MBAA, MBBB, FTBA, 01F082630, 07142026, 98.5 and two million dollars
 abbrev pub theTrade : Trade
@@ -32,20 +32,20 @@ theTrade = record {
   settlement = 7142026;
   price = 98500000000;
   par = 200000000;
-  left = 200000000;
+  openPar = 200000000;
 }
 
 -- one trade, no holidays, subscriber 0123, connection 1200
 unfoldable pub valuesGiven : Values
 valuesGiven = record {
   trades = theTrade ∷ replicate 63 blank;
-  count = 1;
+  tradeCount = 1;
   holidays = replicate 32 0;
-  days = 0;
+  holidayCount = 0;
   subscriber = 48 ∷ 49 ∷ 50 ∷ 51 ∷ [];
   connection = 49 ∷ 50 ∷ 48 ∷ 48 ∷ [];
-  limits = record { ceiling = 2500; variance = 10000; pools = 3; least = 1000 };
-  last = 0;
+  limits = record { ceiling = 2500; variance = 10000; poolsAMillion = 3; least = 1000 };
+  lastMessageId = 0;
   outbound = outbound 0;
 }
 
@@ -62,18 +62,18 @@ saidOf s trade = figuresOf true (s .book) (s .table) trade
 
 -- the counts of a day, and a trade's figures
 abbrev pub reportOf : Day → Figures → Report
-reportOf d f = record { accepted = d .accepted; others = d .others; left = f .left; millions = f .millions }
+reportOf d f = record { accepted = d .accepted; others = d .others; openPar = f .openPar; millions = f .millions }
 
 -- the two counts of the tape's calls to a book that is opened with some values, and what the book then says of the trade
 pub record ReportsOver (v : Values) (tape : List ℕ) (r : Report) : Type 0 where
   pub accepted : r .accepted ≡ acceptedAmong (fed (startOf v) (putsOf tape))
   pub others : r .others ≡ othersAmong (fed (startOf v) (putsOf tape))
-  pub left : r .left ≡ saidOf (afterAll (startOf v) (putsOf tape)) 0 .left
+  pub openPar : r .openPar ≡ saidOf (afterAll (startOf v) (putsOf tape)) 0 .openPar
   pub millions : r .millions ≡ saidOf (afterAll (startOf v) (putsOf tape)) 0 .millions
 
 -- the same with the program's values
 pub record Reports (tape : List ℕ) (r : Report) : Type 0 where
   pub accepted : r .accepted ≡ acceptedAmong (fed start (putsOf tape))
   pub others : r .others ≡ othersAmong (fed start (putsOf tape))
-  pub left : r .left ≡ saidOf (afterAll start (putsOf tape)) 0 .left
+  pub openPar : r .openPar ≡ saidOf (afterAll start (putsOf tape)) 0 .openPar
   pub millions : r .millions ≡ saidOf (afterAll start (putsOf tape)) 0 .millions

@@ -5,11 +5,11 @@ use book::Limits;
 use book::Pool;
 use book::Trade;
 use book::Values;
+use calls::Figures;
+use calls::Opened;
 use day::Day;
-use figures::Figures;
 use libc::STDIN_FILENO;
 use libc::STDOUT_FILENO;
-use opened::Opened;
 use sequence::Outbound;
 ghost use mathlib.Core.Path.{_≡_};
 ghost use Rattle.book.specs.Records.{noPool};
@@ -21,7 +21,7 @@ const RECORDS: usize = 512;
 struct Report {
     accepted: u64,
     others: u64,
-    left: u64,
+    openPar: u64,
     millions: u64,
 }
 
@@ -39,7 +39,7 @@ fn no_trade() -> Trade
         settlement: 0,
         price: 0,
         par: 0,
-        left: 0,
+        openPar: 0,
     }
 }
 
@@ -57,7 +57,7 @@ fn the_trade() -> Trade
         settlement: 7142026,
         price: 98500000000,
         par: 200000000,
-        left: 200000000,
+        openPar: 200000000,
     }
 }
 
@@ -69,18 +69,18 @@ fn values() -> Values
     trades[0] = the_trade();
     Values {
         trades: trades,
-        count: 1,
+        tradeCount: 1,
         holidays: [0; book::HOLIDAYS_MAX],
-        days: 0,
+        holidayCount: 0,
         subscriber: [b'0', b'1', b'2', b'3'],
         connection: [b'1', b'2', b'0', b'0'],
         limits: Limits {
             ceiling: 2500,
             variance: 10000,
-            pools: 3,
+            poolsAMillion: 3,
             least: 1000,
         },
-        last: 0,
+        lastMessageId: 0,
         outbound: Outbound(0),
     }
 }
@@ -123,7 +123,7 @@ fn reported(passed: Day, said: Figures) -> Report
     Report {
         accepted: passed.accepted,
         others: passed.others,
-        left: said.left,
+        openPar: said.openPar,
         millions: said.millions,
     }
 }
@@ -134,7 +134,7 @@ fn day_over(v: Values, tape: &[u8]) -> Report
 {
     let none = no_pool();
     let mut pools = [none; RECORDS];
-    let opened = open_table::open_table(v, &mut pools);
+    let opened = table_open::open_table(v, &mut pools);
     let book = book_opened(opened);
     let passed = day::run_day(book, &mut pools, tape);
     let after = book_after(passed);
@@ -159,7 +159,7 @@ fn main() {
     io::write_all(STDOUT_FILENO, b" ");
     io::print_decimal(STDOUT_FILENO, r.others);
     io::write_all(STDOUT_FILENO, b"\ntrade T1 ");
-    io::print_decimal(STDOUT_FILENO, r.left);
+    io::print_decimal(STDOUT_FILENO, r.openPar);
     io::write_all(STDOUT_FILENO, b" ");
     io::print_decimal(STDOUT_FILENO, r.millions);
     io::write_all(STDOUT_FILENO, b"\n");

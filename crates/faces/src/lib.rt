@@ -69,13 +69,13 @@ fn check_faces(body: &[u8], s: FaceCheck) -> FaceCheck
     ensures { λ r. ⌜ r ≡ fold checkFace s (details (now (body .entry))) ⌝ }
 {
     let n = layout::pool_count(body);
-    let mut d = reader::new(body);
+    let mut d = detail_reader::new(body);
     let mut s = s;
     let mut i: usize = 0;
     while i < n {
-        let step = reader::next(d);
+        let step = detail_reader::next(d);
         s = check_face(s, step.detail);
-        d = reader::moved(d, step.next);
+        d = detail_reader::moved(d, step.next);
         i += 1;
     }
     s

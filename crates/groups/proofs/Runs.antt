@@ -13,7 +13,7 @@ use Rattle.layout.specs.declared.Detail.{Detail}
 use Rattle.layout.specs.Details.{poolCount}
 use Rattle.layout.proofs.Lengths.{count-max}
 use Rattle.layout.proofs.Passes.{poolOf}
-use Rattle.reader.proofs.Turns.{after}
+use Rattle.detail_reader.proofs.Turns.{after}
 use Rattle.terminator.proofs.Marks.{millions-small, mark-millions}
 use Rattle.terminator.specs.declared.Mark.{Mark}
 use Rattle.groups.specs.declared.Run.{Run}

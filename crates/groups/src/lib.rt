@@ -119,13 +119,13 @@ fn run_pools(body: &[u8], g: Run) -> Run
     ensures { λ r. ⌜ r ≡ fold runStep g (details (now (body .entry))) ⌝ }
 {
     let n = layout::pool_count(body);
-    let mut d = reader::new(body);
+    let mut d = detail_reader::new(body);
     let mut g = g;
     let mut i: usize = 0;
     while i < n {
-        let step = reader::next(d);
+        let step = detail_reader::next(d);
         g = run_next(g, step.detail);
-        d = reader::moved(d, step.next);
+        d = detail_reader::moved(d, step.next);
         i += 1;
     }
     g

@@ -1,10 +1,12 @@
 // What the header of a body says: type, sequence number, trade ID, version, fillers and parties (checks 10, 11, 13 to 15 and 17).
+use book::Reason;
 use book::Trade;
 use book::Values;
+use book::Verdict;
 use fields::Field;
 use layout::Column;
+use message_type::MessageType;
 use sequence::Inbound;
-use tally::MessageType;
 use trade_id::TradeId;
 ghost use mathlib.Core.Path.{_≡_};
 ghost use Prim.Native.Nat.{_≤_, min};
@@ -15,7 +17,11 @@ ghost use Rattle.layout.specs.Details.{lengthFits};
 ghost use Rattle.terminator.specs.Lots.{valueOf};
 ghost use Rattle.book.specs.Messages.{typeOf, idIn, isStipulated};
 ghost use Rattle.book.specs.Opening.{tradesMax};
-ghost use Rattle.book.specs.Checks.{notNumber, atMost, isNoSequence, sequenceFails, arrived, versionWrong, blankIn, fillersFine, isSide, partiesFine};
+ghost use Rattle.book.specs.Checks.{notNumber, atMost, isNoSequence, sequenceFails, arrived, versionWrong, blankIn, fillersFine, isSide, partiesFine, amountsWrong, replacementsFail, isBusinessDate, settlementFails, reasonFails, tradeIdMissing, millionsFail};
+ghost use mathlib.Core.Bool.{cond};
+ghost use lib.Dec.{eqb, leb};
+ghost use Rattle.book.specs.declared.Reason.the-variants.{NoTradeId};
+ghost use Rattle.book.specs.declared.Verdict.the-variants.{Passes, Fails};
 
 // The lesser of two numbers.
 pub fn lesser(a: usize, b: usize) -> usize
@@ -175,9 +181,102 @@ pub fn parties_fine(v: Values, body: &[u8]) -> bool
     let subscriber = v.subscriber;
     let connection = v.connection;
     let trades = v.trades;
-    let count = lesser(v.count, book::TRADES_MAX);
+    let count = lesser(v.tradeCount, book::TRADES_MAX);
     let line = column_is(body, layout::SUBSCRIBER, &subscriber)
         & column_is(body, layout::CONNECTION, &connection);
     let contra = column_is(body, layout::CONTRA, b"FTBA") | is_stipulated(body);
     line & (some_side(trades, count, body) & contra)
+}
+
+fn wide(x: usize) -> u64
+    ensures { λ r. ⌜ r ≡ x ⌝ }
+{
+    x as u64
+}
+
+// Whether a field is not digits, or 0.
+fn is_nothing(f: Field) -> bool
+    ensures { λ r. ⌜ r ≡ notNumber (leb 1) f ⌝ }
+{
+    match f {
+        Field::Number(n) => !(1 <= n),
+        Field::NotDigits => true,
+    }
+}
+
+// Whether a field is not digits, or another number.
+fn is_unlike(k: u64, f: Field) -> bool
+    ensures { λ r. ⌜ r ≡ notNumber (eqb k) f ⌝ }
+{
+    match f {
+        Field::Number(n) => !(k == n),
+        Field::NotDigits => true,
+    }
+}
+
+// Whether a field is not digits, or no business date.
+fn is_no_business_date(f: Field, holidays: &[u32]) -> bool
+    ensures { λ r. ⌜ r ≡ notNumber (isBusinessDate (now (holidays .entry))) f ⌝ }
+{
+    match f {
+        Field::Number(n) => !calendar::business_date(n, holidays),
+        Field::NotDigits => true,
+    }
+}
+
+// 16: par or price 0, or GDMM over the ceiling.
+pub fn amounts_fail(ceiling: u64, body: &[u8]) -> bool
+    ensures { λ r. ⌜ r ≡ amountsWrong ceiling (now (body .entry)) ⌝ }
+{
+    let par = layout::number_in(body, layout::PAR);
+    let price = layout::number_in(body, layout::PRICE);
+    let gdmm = layout::number_in(body, layout::GDMM);
+    is_nothing(par) | (is_nothing(price) | over(ceiling, gdmm))
+}
+
+// 22: the number of pools is not the number of replacement pools.
+pub fn replacements_fail(body: &[u8]) -> bool
+    ensures { λ r. ⌜ r ≡ replacementsFail (now (body .entry)) ⌝ }
+{
+    let count = wide(lots::replacement_count(body));
+    is_unlike(count, layout::number_in(body, layout::NUMBER_OF_POOLS))
+}
+
+// 23: settlement is no business date.
+pub fn settlement_fails(v: Values, body: &[u8]) -> bool
+    ensures { λ r. ⌜ r ≡ settlementFails v (now (body .entry)) ⌝ }
+{
+    let days = lesser(v.holidayCount, book::HOLIDAYS_MAX);
+    let holidays = v.holidays;
+    let settlement = layout::number_in(body, layout::SETTLEMENT);
+    is_no_business_date(settlement, &holidays[..days])
+}
+
+// 24: a DK's reason is 0 or not digits.
+pub fn reason_fails(body: &[u8]) -> bool
+    ensures { λ r. ⌜ r ≡ reasonFails (now (body .entry)) ⌝ }
+{
+    is_nothing(layout::number_in(body, layout::REASON))
+}
+
+// 25: a stipulated DK without a whole trade ID.
+pub fn id_verdict(body: &[u8]) -> Verdict
+    ensures { λ r. ⌜ r ≡ cond (tradeIdMissing (now (body .entry))) (Fails NoTradeId) Passes ⌝ }
+{
+    if !is_stipulated(body) {
+        return Verdict::Passes;
+    }
+    let id = trade_id_in(body);
+    let TradeId::Whole { .. } = id else {
+        return Verdict::Fails(Reason::NoTradeId);
+    };
+    Verdict::Passes
+}
+
+// 33: GDMM is not the sum of the good millions.
+pub fn millions_fail(body: &[u8]) -> bool
+    ensures { λ r. ⌜ r ≡ millionsFail (now (body .entry)) ⌝ }
+{
+    let sum = lots::good_millions(body);
+    is_unlike(sum, layout::number_in(body, layout::GDMM))
 }

@@ -58,9 +58,9 @@ module _ {A : Type 0} (f : A → List ℕ) where
 
 -- the words after the trades, as they are written
 pub rest-made : (b : Book) (flag last : ℕ) → flag ≡ flagOf (b .line .received) → last ≡ lastOf (b .line .received)
-    → (b .values .count ∷ []) ++ b .values .holidays ++ (b .values .days ∷ []) ++ b .values .subscriber ++ b .values .connection
-    ++ (b .values .limits .ceiling ∷ b .values .limits .variance ∷ b .values .limits .pools ∷ b .values .limits .least
-    ∷ b .values .last ∷ b .values .outbound .0 ∷ flag ∷ last ∷ b .line .expected .0 ∷ b .live ∷ [])
+    → (b .values .tradeCount ∷ []) ++ b .values .holidays ++ (b .values .holidayCount ∷ []) ++ b .values .subscriber ++ b .values .connection
+    ++ (b .values .limits .ceiling ∷ b .values .limits .variance ∷ b .values .limits .poolsAMillion ∷ b .values .limits .least
+    ∷ b .values .lastMessageId ∷ b .values .outbound .0 ∷ flag ∷ last ∷ b .line .expected .0 ∷ b .live ∷ [])
     ≡ restImage b
 unfolding restImage
 rest-made b flag last e f = rw (e, f)

@@ -92,14 +92,14 @@ module _ (b : Book) (h : Formed b) where
 
 -- the parts of a book's words after the trades are its fields
 pub record RestParts (b : Book) : Type 0 where
-  pub count : part (restImage b) 0 1 ≡ b .values .count ∷ []
+  pub count : part (restImage b) 0 1 ≡ b .values .tradeCount ∷ []
   pub holidays : part (restImage b) 1 32 ≡ b .values .holidays
-  pub days : part (restImage b) 33 1 ≡ b .values .days ∷ []
+  pub days : part (restImage b) 33 1 ≡ b .values .holidayCount ∷ []
   pub subscriber : part (restImage b) 34 4 ≡ b .values .subscriber
   pub connection : part (restImage b) 38 4 ≡ b .values .connection
   pub numbers : part (restImage b) 42 10
-      ≡ b .values .limits .ceiling ∷ b .values .limits .variance ∷ b .values .limits .pools ∷ b .values .limits .least
-      ∷ b .values .last ∷ b .values .outbound .0 ∷ flagOf (b .line .received) ∷ lastOf (b .line .received) ∷ b .line .expected .0 ∷ b .live ∷ []
+      ≡ b .values .limits .ceiling ∷ b .values .limits .variance ∷ b .values .limits .poolsAMillion ∷ b .values .limits .least
+      ∷ b .values .lastMessageId ∷ b .values .outbound .0 ∷ flagOf (b .line .received) ∷ lastOf (b .line .received) ∷ b .line .expected .0 ∷ b .live ∷ []
 
 module _ (b : Book) (h : Formed b) where
   parts : RestParts b
@@ -107,10 +107,10 @@ module _ (b : Book) (h : Formed b) where
   parts =
       let r = restImage b in
       let ns : List ℕ =
-      b .values .limits .ceiling ∷ b .values .limits .variance ∷ b .values .limits .pools ∷ b .values .limits .least
-      ∷ b .values .last ∷ b .values .outbound .0 ∷ flagOf (b .line .received) ∷ lastOf (b .line .received) ∷ b .line .expected .0 ∷ b .live ∷ [] in
+      b .values .limits .ceiling ∷ b .values .limits .variance ∷ b .values .limits .poolsAMillion ∷ b .values .limits .least
+      ∷ b .values .lastMessageId ∷ b .values .outbound .0 ∷ flagOf (b .line .received) ∷ lastOf (b .line .received) ∷ b .line .expected .0 ∷ b .live ∷ [] in
       let p = six (part r 0 1) (part r 1 32) (part r 33 1) (part r 34 4) (part r 38 4) (part r 42 10)
-      (b .values .count ∷ []) (b .values .holidays) (b .values .days ∷ []) (b .values .subscriber) (b .values .connection) ns
+      (b .values .tradeCount ∷ []) (b .values .holidays) (b .values .holidayCount ∷ []) (b .values .subscriber) (b .values .connection) ns
       (as-long b h 1 32 (omega arith) ∙ sym (h .holidays .0))
       (as-long b h 33 1 (omega arith))
       (as-long b h 34 4 (omega arith) ∙ sym (h .subscriber .0))
@@ -121,8 +121,8 @@ module _ (b : Book) (h : Formed b) where
 
   words : getD (restImage b) 42 0 ∷ getD (restImage b) 43 0 ∷ getD (restImage b) 44 0 ∷ getD (restImage b) 45 0 ∷ getD (restImage b) 46 0
       ∷ getD (restImage b) 47 0 ∷ getD (restImage b) 48 0 ∷ getD (restImage b) 49 0 ∷ getD (restImage b) 50 0 ∷ getD (restImage b) 51 0 ∷ []
-      ≡ b .values .limits .ceiling ∷ b .values .limits .variance ∷ b .values .limits .pools ∷ b .values .limits .least
-      ∷ b .values .last ∷ b .values .outbound .0 ∷ flagOf (b .line .received) ∷ lastOf (b .line .received) ∷ b .line .expected .0 ∷ b .live ∷ []
+      ≡ b .values .limits .ceiling ∷ b .values .limits .variance ∷ b .values .limits .poolsAMillion ∷ b .values .limits .least
+      ∷ b .values .lastMessageId ∷ b .values .outbound .0 ∷ flagOf (b .line .received) ∷ lastOf (b .line .received) ∷ b .line .expected .0 ∷ b .live ∷ []
   words = sym (numbers (restImage b) (length-rest b h)) ∙ parts .numbers
 
   pub rest-back : bookFrom (b .values .trades) (restImage b) ≡ b
@@ -138,13 +138,13 @@ module _ (b : Book) (h : Formed b) where
         values =
             record {
               trades = b .values .trades;
-              count = getD (c i) 0 0;
+              tradeCount = getD (c i) 0 0;
               holidays = parts .holidays i;
-              days = getD (d i) 0 0;
+              holidayCount = getD (d i) 0 0;
               subscriber = parts .subscriber i;
               connection = parts .connection i;
-              limits = record { ceiling = getD (q i) 0 0; variance = getD (q i) 1 0; pools = getD (q i) 2 0; least = getD (q i) 3 0 };
-              last = getD (q i) 4 0;
+              limits = record { ceiling = getD (q i) 0 0; variance = getD (q i) 1 0; poolsAMillion = getD (q i) 2 0; least = getD (q i) 3 0 };
+              lastMessageId = getD (q i) 4 0;
               outbound = outbound (getD (q i) 5 0);
             };
         line = record { received = r i; expected = inbound (getD (q i) 8 0) };

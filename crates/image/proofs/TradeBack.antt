@@ -51,7 +51,7 @@ pub record TradeParts (t : Trade) : Type 0 where
   pub buyer : part (tradeImage t) 21 4 ≡ t .buyer
   pub contra : part (tradeImage t) 25 4 ≡ t .contra
   pub cusip : part (tradeImage t) 29 9 ≡ t .cusip
-  pub numbers : part (tradeImage t) 38 4 ≡ t .settlement ∷ t .price ∷ t .par ∷ t .left ∷ []
+  pub numbers : part (tradeImage t) 38 4 ≡ t .settlement ∷ t .price ∷ t .par ∷ t .openPar ∷ []
 
 module _ (t : Trade) (h : FormedTrade t) where
   as-long : (k n : ℕ) → k + n ≤ 42 → length (part (tradeImage t) k n) ≡ n
@@ -61,7 +61,7 @@ module _ (t : Trade) (h : FormedTrade t) where
   unfolding tradeImage
   parts =
       let r = tradeImage t in
-      let ns : List ℕ = t .settlement ∷ t .price ∷ t .par ∷ t .left ∷ [] in
+      let ns : List ℕ = t .settlement ∷ t .price ∷ t .par ∷ t .openPar ∷ [] in
       let q = two (part r 0 16 ++ part r 16 1 ++ part r 17 4 ++ part r 21 4 ++ part r 25 4 ++ part r 29 9) (part r 38 4)
       (t .id ++ (t .length ∷ []) ++ t .seller ++ t .buyer ++ t .contra ++ t .cusip) ns (as-long 38 4 (omega arith)) (cut r (length-trade t h)) in
       let p = six (part r 0 16) (part r 16 1) (part r 17 4) (part r 21 4) (part r 25 4) (part r 29 9)
@@ -90,7 +90,7 @@ module _ (t : Trade) (h : FormedTrade t) where
         settlement = getD (q i) 0 0;
         price = getD (q i) 1 0;
         par = getD (q i) 2 0;
-        left = getD (q i) 3 0;
+        openPar = getD (q i) 3 0;
       }
 
   pub trade-fits : tradeFits (tradeImage t) ≡ true

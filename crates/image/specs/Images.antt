@@ -26,7 +26,7 @@ bookWords = 2740
 
 -- ---- what a book is as words
 unfoldable pub tradeImage : Trade → List ℕ
-tradeImage t = t .id ++ (t .length ∷ []) ++ t .seller ++ t .buyer ++ t .contra ++ t .cusip ++ (t .settlement ∷ t .price ∷ t .par ∷ t .left ∷ [])
+tradeImage t = t .id ++ (t .length ∷ []) ++ t .seller ++ t .buyer ++ t .contra ++ t .cusip ++ (t .settlement ∷ t .price ∷ t .par ∷ t .openPar ∷ [])
 
 -- whether a number was received
 abbrev pub flagOf : Received → ℕ
@@ -41,9 +41,9 @@ lastOf (Last n) = n .0
 -- all of a book but its trades
 unfoldable pub restImage : Book → List ℕ
 restImage b =
-    (b .values .count ∷ []) ++ b .values .holidays ++ (b .values .days ∷ []) ++ b .values .subscriber ++ b .values .connection
-    ++ (b .values .limits .ceiling ∷ b .values .limits .variance ∷ b .values .limits .pools ∷ b .values .limits .least
-    ∷ b .values .last ∷ b .values .outbound .0 ∷ flagOf (b .line .received) ∷ lastOf (b .line .received) ∷ b .line .expected .0 ∷ b .live ∷ [])
+    (b .values .tradeCount ∷ []) ++ b .values .holidays ++ (b .values .holidayCount ∷ []) ++ b .values .subscriber ++ b .values .connection
+    ++ (b .values .limits .ceiling ∷ b .values .limits .variance ∷ b .values .limits .poolsAMillion ∷ b .values .limits .least
+    ∷ b .values .lastMessageId ∷ b .values .outbound .0 ∷ flagOf (b .line .received) ∷ lastOf (b .line .received) ∷ b .line .expected .0 ∷ b .live ∷ [])
 
 unfoldable pub imageOf : Book → List ℕ
 imageOf b = flatMap tradeImage (b .values .trades) ++ restImage b
@@ -100,7 +100,7 @@ tradeIn row =
       settlement = getD row 38 0;
       price = getD row 39 0;
       par = getD row 40 0;
-      left = getD row 41 0;
+      openPar = getD row 41 0;
     }
 
 abbrev pub receivedIn : ℕ → ℕ → Received
@@ -113,13 +113,13 @@ bookFrom trades rest =
       values =
           record {
             trades = trades;
-            count = getD rest 0 0;
+            tradeCount = getD rest 0 0;
             holidays = part rest 1 32;
-            days = getD rest 33 0;
+            holidayCount = getD rest 33 0;
             subscriber = part rest 34 4;
             connection = part rest 38 4;
-            limits = record { ceiling = getD rest 42 0; variance = getD rest 43 0; pools = getD rest 44 0; least = getD rest 45 0 };
-            last = getD rest 46 0;
+            limits = record { ceiling = getD rest 42 0; variance = getD rest 43 0; poolsAMillion = getD rest 44 0; least = getD rest 45 0 };
+            lastMessageId = getD rest 46 0;
             outbound = outbound (getD rest 47 0);
           };
       line = record { received = receivedIn (getD rest 48 0) (getD rest 49 0); expected = inbound (getD rest 50 0) };

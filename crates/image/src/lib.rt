@@ -33,18 +33,18 @@ pub const PRICE: usize = 39;
 
 pub const PAR: usize = 40;
 
-pub const LEFT: usize = 41;
+pub const OPEN_PAR: usize = 41;
 
 // Where the rest begins, and where its words stand among its own.
 pub const REST: usize = 2688;
 
 pub const REST_WORDS: usize = 52;
 
-pub const COUNT: usize = 0;
+pub const TRADE_COUNT: usize = 0;
 
 pub const HOLIDAYS: usize = 1;
 
-pub const DAYS: usize = 33;
+pub const HOLIDAY_COUNT: usize = 33;
 
 pub const SUBSCRIBER: usize = 34;
 
@@ -54,11 +54,11 @@ pub const CEILING: usize = 42;
 
 pub const VARIANCE: usize = 43;
 
-pub const POOLS: usize = 44;
+pub const POOLS_A_MILLION: usize = 44;
 
 pub const LEAST: usize = 45;
 
-pub const LAST: usize = 46;
+pub const LAST_MESSAGE_ID: usize = 46;
 
 pub const OUTBOUND: usize = 47;
 
@@ -143,7 +143,7 @@ fn trade_words(t: Trade) -> [u64; TRADE_WORDS]
     let contra = t.contra;
     let cusip = t.cusip;
     let length = [t.length as u64];
-    let numbers = [t.settlement, t.price, t.par, t.left];
+    let numbers = [t.settlement, t.price, t.par, t.openPar];
     let mut row = [0u64; TRADE_WORDS];
     put_bytes(&mut row, ID, &id);
     put_words(&mut row, LENGTH, &length);
@@ -200,16 +200,16 @@ fn rest_words(book: Book) -> [u64; REST_WORDS]
     let holidays = values.holidays;
     let subscriber = values.subscriber;
     let connection = values.connection;
-    let count = [values.count as u64];
-    let days = [values.days as u64];
+    let count = [values.tradeCount as u64];
+    let days = [values.holidayCount as u64];
     let flag = flag_of(received);
     let last = last_of(received);
     let numbers = [
         limits.ceiling,
         limits.variance,
-        limits.pools,
+        limits.poolsAMillion,
         limits.least,
-        values.last,
+        values.lastMessageId,
         values.outbound.0 as u64,
         flag,
         last,
@@ -217,9 +217,9 @@ fn rest_words(book: Book) -> [u64; REST_WORDS]
         book.live as u64,
     ];
     let mut rest = [0u64; REST_WORDS];
-    put_words(&mut rest, COUNT, &count);
+    put_words(&mut rest, TRADE_COUNT, &count);
     put_numbers(&mut rest, HOLIDAYS, &holidays);
-    put_words(&mut rest, DAYS, &days);
+    put_words(&mut rest, HOLIDAY_COUNT, &days);
     put_bytes(&mut rest, SUBSCRIBER, &subscriber);
     put_bytes(&mut rest, CONNECTION, &connection);
     put_words(&mut rest, CEILING, &numbers);

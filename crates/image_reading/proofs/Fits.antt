@@ -26,7 +26,7 @@ module _ (row : List ℕ) where
         settlement = getD row 38 0;
         price = getD row 39 0;
         par = getD row 40 0;
-        left = getD row 41 0;
+        openPar = getD row 41 0;
       })
       (tradeIn row)
   unfolding tradeIn

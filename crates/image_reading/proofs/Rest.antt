@@ -44,13 +44,13 @@ module _ (rest : List ℕ) where
         values =
             record {
               trades = trades;
-              count = getD rest 0 0;
+              tradeCount = getD rest 0 0;
               holidays = holidays;
-              days = getD rest 33 0;
+              holidayCount = getD rest 33 0;
               subscriber = subscriber;
               connection = connection;
-              limits = record { ceiling = getD rest 42 0; variance = getD rest 43 0; pools = getD rest 44 0; least = getD rest 45 0 };
-              last = getD rest 46 0;
+              limits = record { ceiling = getD rest 42 0; variance = getD rest 43 0; poolsAMillion = getD rest 44 0; least = getD rest 45 0 };
+              lastMessageId = getD rest 46 0;
               outbound = outbound (getD rest 47 0);
             };
         line = record { received = received; expected = inbound (getD rest 50 0) };

@@ -20,7 +20,7 @@ use Rattle.image_reading.specs.Reading.{blank, noBook, readBook}
 -- a book of no trades, by its trades and its line
 pub none-given : (t : Trade) (l : Line) → t ≡ blank → l ≡ startLine
     → record {
-      values = record { trades = replicate 64 t; count = 0; holidays = replicate 32 0; days = 0; subscriber = replicate 4 0; connection = replicate 4 0; limits = record { ceiling = 0; variance = 0; pools = 0; least = 0 }; last = 0; outbound = outbound 0 };
+      values = record { trades = replicate 64 t; tradeCount = 0; holidays = replicate 32 0; holidayCount = 0; subscriber = replicate 4 0; connection = replicate 4 0; limits = record { ceiling = 0; variance = 0; poolsAMillion = 0; least = 0 }; lastMessageId = 0; outbound = outbound 0 };
       line = l;
       live = 0;
     }

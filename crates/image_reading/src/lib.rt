@@ -137,7 +137,7 @@ fn read_trade(row: &[u64]) -> Trade
         settlement: row[image::SETTLEMENT],
         price: row[image::PRICE],
         par: row[image::PAR],
-        left: row[image::LEFT],
+        openPar: row[image::OPEN_PAR],
     }
 }
 
@@ -172,7 +172,7 @@ fn no_trade() -> Trade
         settlement: 0,
         price: 0,
         par: 0,
-        left: 0,
+        openPar: 0,
     }
 }
 
@@ -240,18 +240,18 @@ fn read_rest(trades: [Trade; 64], rest: &[u64]) -> Book
     let limits = Limits {
         ceiling: rest[image::CEILING],
         variance: rest[image::VARIANCE],
-        pools: rest[image::POOLS],
+        poolsAMillion: rest[image::POOLS_A_MILLION],
         least: rest[image::LEAST],
     };
     let values = Values {
         trades: trades,
-        count: rest[image::COUNT] as usize,
+        tradeCount: rest[image::TRADE_COUNT] as usize,
         holidays: holidays,
-        days: rest[image::DAYS] as usize,
+        holidayCount: rest[image::HOLIDAY_COUNT] as usize,
         subscriber: subscriber,
         connection: connection,
         limits: limits,
-        last: rest[image::LAST],
+        lastMessageId: rest[image::LAST_MESSAGE_ID],
         outbound: Outbound(rest[image::OUTBOUND] as u32),
     };
     Book {
@@ -294,18 +294,18 @@ fn no_book() -> Book
     let trades = [none; 64];
     let values = Values {
         trades: trades,
-        count: 0,
+        tradeCount: 0,
         holidays: [0; 32],
-        days: 0,
+        holidayCount: 0,
         subscriber: [0; 4],
         connection: [0; 4],
         limits: Limits {
             ceiling: 0,
             variance: 0,
-            pools: 0,
+            poolsAMillion: 0,
             least: 0,
         },
-        last: 0,
+        lastMessageId: 0,
         outbound: Outbound(0),
     };
     Book {

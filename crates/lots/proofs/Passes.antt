@@ -12,7 +12,7 @@ use Rattle.layout.specs.declared.Detail.{Detail}
 use Rattle.layout.specs.Details.{poolsMax, poolCount}
 use Rattle.layout.proofs.Lengths.{count-max}
 use Rattle.layout.proofs.Passes.{poolOf}
-use Rattle.reader.proofs.Turns.{after}
+use Rattle.detail_reader.proofs.Turns.{after}
 use Rattle.terminator.specs.Terminators.{digitReplacement, isEnd, millionsOf, one, term}
 use Rattle.terminator.specs.Lots.{lotMillions, lotsFrom, lots, goodMillions, replacementCount}
 use Rattle.terminator.proofs.Marks.{middle-none, millions-small}

@@ -45,13 +45,13 @@ fn count_pools(body: &[u8], s: Counted) -> Counted
     ensures { λ r. ⌜ r ≡ fold countNext s (details (now (body .entry))) ⌝ }
 {
     let n = layout::pool_count(body);
-    let mut d = reader::new(body);
+    let mut d = detail_reader::new(body);
     let mut s = s;
     let mut i: usize = 0;
     while i < n {
-        let step = reader::next(d);
+        let step = detail_reader::next(d);
         s = count_next(s, step.detail);
-        d = reader::moved(d, step.next);
+        d = detail_reader::moved(d, step.next);
         i += 1;
     }
     s
@@ -87,13 +87,13 @@ fn sum_pools(body: &[u8], s: Summed) -> Summed
     ensures { λ r. ⌜ r ≡ fold sumNext s (details (now (body .entry))) ⌝ }
 {
     let n = layout::pool_count(body);
-    let mut d = reader::new(body);
+    let mut d = detail_reader::new(body);
     let mut s = s;
     let mut i: usize = 0;
     while i < n {
-        let step = reader::next(d);
+        let step = detail_reader::next(d);
         s = sum_next(s, step.detail);
-        d = reader::moved(d, step.next);
+        d = detail_reader::moved(d, step.next);
         i += 1;
     }
     s
@@ -142,13 +142,13 @@ fn walk_pools(body: &[u8], s: LotWalk) -> LotWalk
     ensures { λ r. ⌜ r ≡ fold walkNext s (details (now (body .entry))) ⌝ }
 {
     let n = layout::pool_count(body);
-    let mut d = reader::new(body);
+    let mut d = detail_reader::new(body);
     let mut s = s;
     let mut i: usize = 0;
     while i < n {
-        let step = reader::next(d);
+        let step = detail_reader::next(d);
         s = walk_next(s, step.detail);
-        d = reader::moved(d, step.next);
+        d = detail_reader::moved(d, step.next);
         i += 1;
     }
     s

@@ -10,7 +10,7 @@ use Rattle.layout.specs.declared.Detail.{Detail}
 use Rattle.layout.specs.Details.{poolsMax, poolCount}
 use Rattle.layout.proofs.Lengths.{count-max}
 use Rattle.layout.proofs.Passes.{poolOf}
-use Rattle.reader.proofs.Turns.{after}
+use Rattle.detail_reader.proofs.Turns.{after}
 use Rattle.terminator.specs.declared.Terminator.{Terminator}
 use Rattle.terminator.specs.declared.Terminator.the-variants.{GoodEnd}
 use Rattle.terminator.specs.Terminators.{isEnd, term}

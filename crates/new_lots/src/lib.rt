@@ -112,13 +112,13 @@ fn check_pools(body: &[u8], s: LotCheck) -> LotCheck
     ensures { λ r. ⌜ r ≡ fold checkNext s (details (now (body .entry))) ⌝ }
 {
     let n = layout::pool_count(body);
-    let mut d = reader::new(body);
+    let mut d = detail_reader::new(body);
     let mut s = s;
     let mut i: usize = 0;
     while i < n {
-        let step = reader::next(d);
+        let step = detail_reader::next(d);
         s = check_next(s, step.detail);
-        d = reader::moved(d, step.next);
+        d = detail_reader::moved(d, step.next);
         i += 1;
     }
     s
@@ -183,13 +183,13 @@ fn weigh_pools(body: &[u8], s: Weighed) -> Weighed
     ensures { λ r. ⌜ r ≡ fold weighPool s (details (now (body .entry))) ⌝ }
 {
     let n = layout::pool_count(body);
-    let mut d = reader::new(body);
+    let mut d = detail_reader::new(body);
     let mut s = s;
     let mut i: usize = 0;
     while i < n {
-        let step = reader::next(d);
+        let step = detail_reader::next(d);
         s = weigh_pool(s, step.detail);
-        d = reader::moved(d, step.next);
+        d = detail_reader::moved(d, step.next);
         i += 1;
     }
     s

@@ -19,9 +19,9 @@ use Rattle.book.specs.History.{Brought, Fed, atOpening, history, isTarget, take
 use Rattle.book.specs.Promise.{State, Put, callOf, after, openedState, Demand3}
 use Rattle.book.proofs.Demand3.{Trace, done, next, traced, traced-not-twice, traced-brought-before, refused-keeps}
 use Rattle.book.proofs.Undamaged.{traced-sound}
-use Rattle.opened.specs.declared.Opened.{Opened}
-use Rattle.engine.specs.declared.Stepped.{Stepped}
-use Rattle.padded.specs.Calls.{Framed, Opens}
+use Rattle.calls.specs.declared.Opened.{Opened}
+use Rattle.calls.specs.declared.Stepped.{Stepped}
+use Rattle.calls.specs.Calls.{Framed, Opens}
 use Rattle.promise.specs.Runs as runs
 use Rattle.promise.specs.Runs.{Run}
 
@@ -33,12 +33,12 @@ run-trace (runs.next {s} {s″} {fs} body time out r pools out′ f rest) =
 
 -- demand 1: a call that refuses, on any book and table, changes no trade, no live pool and no message ID
 pub calls-refused-keep : (s : State) (body time out : List ℕ) (r : Stepped) (pools : List Pool) (out′ : List ℕ) → Framed (s .book) (s .table) body time out r pools out′ → isAccepted (r .answer) ≡ false
-    → (r .book .values .trades ≡ s .book .values .trades) × (r .book .values .last ≡ s .book .values .last) × (r .book .live ≡ s .book .live) × (pools ≡ s .table)
+    → (r .book .values .trades ≡ s .book .values .trades) × (r .book .values .lastMessageId ≡ s .book .values .lastMessageId) × (r .book .live ≡ s .book .live) × (pools ≡ s .table)
 unfolding after
 calls-refused-keep s body time out r pools out′ f n =
     let kept = refused-keeps s (record { body = body; room = length out }) (ap isAccepted (sym (f .answer)) ∙ n) in (
       ap (λ (b : Book). b .values .trades) (f .book) ∙ kept .0,
-      ap (λ (b : Book). b .values .last) (f .book) ∙ kept .1,
+      ap (λ (b : Book). b .values .lastMessageId) (f .book) ∙ kept .1,
       ap (λ (b : Book). b .live) (f .book) ∙ kept .2,
       f .table ∙ kept .3,
     )

@@ -5,8 +5,8 @@ use Rattle.book.specs.declared.Pool.{Pool}
 use Rattle.book.specs.Reasons.{isAccepted}
 use Rattle.book.specs.History.{Fed}
 use Rattle.book.specs.Promise.{State}
-use Rattle.engine.specs.declared.Stepped.{Stepped}
-use Rattle.padded.specs.Calls.{Framed}
+use Rattle.calls.specs.declared.Stepped.{Stepped}
+use Rattle.calls.specs.Calls.{Framed}
 
 -- calls one after another, and what a history is fed by them
 pub data Run : State → List Fed → State → Type 0 where

@@ -76,13 +76,13 @@ module _ (book : Book) (body : List ℕ) (number : Inbound) (a : Answer) (en : n
         values =
             record {
               trades = book .values .trades;
-              count = book .values .count;
+              tradeCount = book .values .tradeCount;
               holidays = book .values .holidays;
-              days = book .values .days;
+              holidayCount = book .values .holidayCount;
               subscriber = book .values .subscriber;
               connection = book .values .connection;
               limits = book .values .limits;
-              last = book .values .last;
+              lastMessageId = book .values .lastMessageId;
               outbound = last;
             };
         line = line;

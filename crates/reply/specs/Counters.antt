@@ -12,13 +12,13 @@ withCounters book body a =
       values =
           record {
             trades = book .values .trades;
-            count = book .values .count;
+            tradeCount = book .values .tradeCount;
             holidays = book .values .holidays;
-            days = book .values .days;
+            holidayCount = book .values .holidayCount;
             subscriber = book .values .subscriber;
             connection = book .values .connection;
             limits = book .values .limits;
-            last = book .values .last;
+            lastMessageId = book .values .lastMessageId;
             outbound = outboundOf book body a;
           };
       line = lineOf book body a;

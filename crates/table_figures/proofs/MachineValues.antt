@@ -15,9 +15,9 @@ use denote.RattleType.{RattleType}
 use denote.Laws.{Is, Tells, Makes}
 use denote.Steps.{only}
 use denote.Struct.Laws as LL
-use Rattle.figures.specs.declared.Figures.{Figures}
-use Rattle.figures.proofs.Figures as F
-use Rattle.figures.proofs.Figures.Laws as F′
+use Rattle.calls.specs.declared.Figures.{Figures}
+use Rattle.calls.proofs.Figures as F
+use Rattle.calls.proofs.Figures.Laws as F′
 
 abbrev pub FiguresR : RattleType
 FiguresR = F.the-row

@@ -6,10 +6,10 @@ use Prim.Native.Nat.{ℕ}
 use lib.ListN.{length}
 use Rattle.book.specs.declared.Book.{Book}
 use Rattle.book.specs.declared.Pool.{Pool}
-use Rattle.figures.specs.declared.Figures.{Figures}
-use Rattle.padded.specs.Moving.{SaysRows}
-use Rattle.padded.specs.Calls.{Says}
-use Rattle.staged.specs.Stages.{Stages}
+use Rattle.calls.specs.declared.Figures.{Figures}
+use Rattle.rows_enough.specs.Moving.{SaysRows}
+use Rattle.calls.specs.Calls.{Says}
+use Rattle.table_by_rows.specs.Stages.{Stages}
 
 module _ (b : Book) (pools : List Pool) (ns ks ns₁ ks₁ : List (List ℕ)) (rest : Bool) (trade : ℕ) (r : Figures) where
   pub says-figures : Stages pools (b .live) ns ks rest ns₁ ks₁ → SaysRows b ns₁ ks₁ (length pools) rest trade r → Says b pools trade r

@@ -1,8 +1,8 @@
 // A trade's figures on a lent table of pool records: the records that the figures are read from are copied into rows, and read there.
 use book::Book;
 use book::Pool;
-use figures::Figures;
-ghost use Rattle.padded.specs.Calls.{Says};
+use calls::Figures;
+ghost use Rattle.calls.specs.Calls.{Says};
 
 // What a book says of a trade, on any book, table and place of a trade.
 pub fn table_figures(book: Book, pools: &[Pool], trade: usize) -> Figures
@@ -10,6 +10,6 @@ pub fn table_figures(book: Book, pools: &[Pool], trade: usize) -> Figures
 {
     let mut numbers = [[0u64; 6]; book::RECORDS_MAX];
     let mut keys = [[0u8; 22]; book::RECORDS_MAX];
-    let rest = staged::stage(pools, book.live, &mut numbers, &mut keys);
-    padded::figures_rows(book, &numbers, &keys, pools.len(), rest, trade)
+    let rest = table_by_rows::stage(pools, book.live, &mut numbers, &mut keys);
+    rows_enough::figures_rows(book, &numbers, &keys, pools.len(), rest, trade)
 }

@@ -4,8 +4,8 @@ use mathlib.Core.List.{List, []}
 use mathlib.Core.Bool.{cond}
 use lib.ListN.{getD, set}
 use lib.Dec.{ltb}
-use Rattle.tally.specs.declared.MessageType.{MessageType}
-use Rattle.tally.specs.declared.MessageType.the-variants.{On, Cc, Dk, Cx, Other}
+use Rattle.message_type.specs.declared.MessageType.{MessageType}
+use Rattle.message_type.specs.declared.MessageType.the-variants.{On, Cc, Dk, Cx, Other}
 use Rattle.tally.specs.declared.Outcome.{Outcome}
 use Rattle.tally.specs.declared.Outcome.the-variants.{Accepted, Rejected, Dked}
 

@@ -1,16 +1,9 @@
 // Decides which cell of the day's tally an answer raises: four message types by three outcomes.
+use message_type::MessageType;
 ghost use mathlib.Core.Path.{_≡_};
+ghost use lib.ListN.{length};
 ghost use Prim.Native.Nat.{_<_};
 ghost use Rattle.tally.specs.Tally.{columnOf, oneMore, raised};
-
-// The four types of the tally, and every other.
-pub enum MessageType {
-    On,
-    Cc,
-    Dk,
-    Cx,
-    Other,
-}
 
 // The three answers, without their numbers.
 pub enum Outcome {
@@ -79,4 +72,23 @@ pub fn raise(tally: Tally, kind: MessageType, outcome: Outcome) -> Tally
         MessageType::Cx => raise_cell(tally, ROW_CX, column),
         MessageType::Other => tally,
     }
+}
+
+// Four lent rows as a tally.
+pub fn tally_of(rows: &[[u32; 3]]) -> Tally
+    requires { ⌜ length (now rows) ≡ 4 ⌝ }
+    ensures { λ r. ⌜ r ≡ now (rows .entry) ⌝ }
+{
+    [rows[0], rows[1], rows[2], rows[3]]
+}
+
+// Writes a tally into four lent rows.
+pub fn put_rows(rows: &mut [[u32; 3]], t: Tally)
+    requires { ⌜ length (now rows) ≡ 4 ⌝ }
+    ensures { λ _. ⌜ now (rows .exit) ≡ t ⌝ }
+{
+    rows[0] = t[0];
+    rows[1] = t[1];
+    rows[2] = t[2];
+    rows[3] = t[3];
 }

@@ -42,20 +42,20 @@ use denote.Triple.Spec.{Meets, tripleOf}
 use denote.Triple.Table.{entered, cited}
 use denote.Triple.Walked.{says, needs, Stays, stay-none, stay-none-slice, gave-slice, walkOf, goes-none, goes-none-slice, goes-gave-slice, Walks, ends-at, walked, walk-meets}
 use denote.Exit.{yes}
-use Rattle.walking.proofs.Count.{tyOf}
-use Rattle.walking.proofs.Scratch.{repeatVal, repeat-typed, repeat-out, elems-room}
+use Rattle.slice_laws.proofs.Count.{tyOf}
+use Rattle.slice_laws.proofs.Scratch.{repeatVal, repeat-typed, repeat-out, elems-room}
 use Rattle.lists.specs.Lists.{part}
 use Rattle.book.specs.declared.Book.{Book}
 use Rattle.book.specs.declared.Pool.{Pool}
 use Rattle.book.specs.Reasons.{isAccepted}
-use Rattle.engine.specs.declared.Stepped.{Stepped}
-use Rattle.records.proofs.Row.{R}
-use Rattle.padded.specs.Calls.{Framed}
+use Rattle.calls.specs.declared.Stepped.{Stepped}
+use Rattle.table_load.proofs.Row.{R}
+use Rattle.calls.specs.Calls.{Framed}
 use Rattle.day.specs.declared.Going.{Going}
 use Rattle.day.specs.declared.Place.{Place}
 use Rattle.day.specs.Turns.{placeAfter, countedOf, turn}
 use Rattle.day.proofs.Turning.{outgoing, outgoing-are, outgoing-long, turned}
-use Rattle.staged.proofs.Values.{BookR, bookVals, book-makes, book-typed, SteppedR, steppedVals, stepped-makes, stepped-typed, TimeR, timeVals, time-makes, time-typed}
+use Rattle.table_by_rows.proofs.Values.{BookR, bookVals, book-makes, book-typed, SteppedR, steppedVals, stepped-makes, stepped-typed, TimeR, timeVals, time-makes, time-typed}
 use Rattle.day.proofs.Values.{book-is, book-its, stepped-is, stepped-its, midnight, midnight-is, GoingR, goingVal, goingVals, going-tells, going-makes, going-typed, going-is, going-its, PlaceR, placeVals, place-makes, place-typed, place-is, place-its}
 use Rattle.day.proofs.frame_after as fa
 use Rattle.day.proofs.frame_after.Symbol as after-def
@@ -73,10 +73,10 @@ use Rattle.day.proofs.end_of as eo
 use Rattle.day.proofs.end_of.Symbol as end-def
 use Rattle.day.proofs.end_of.Symbol.{name as #day·end-of}
 use Rattle.day.proofs.end_of.Met as end-thm
-use Rattle.calls.proofs.step_part as sp
-use Rattle.calls.proofs.step_part.Symbol as step-def
-use Rattle.calls.proofs.step_part.Symbol.{name as #calls·step-part}
-use Rattle.calls.proofs.step_part.Met as step-thm
+use Rattle.table_step.proofs.step_part as sp
+use Rattle.table_step.proofs.step_part.Symbol as step-def
+use Rattle.table_step.proofs.step_part.Symbol.{name as #table-step·step-part}
+use Rattle.table_step.proofs.step_part.Met as step-thm
 use Rattle.day.proofs.counted as ct
 use Rattle.day.proofs.counted.Symbol as counted-def
 use Rattle.day.proofs.counted.Symbol.{name as #day·counted}
@@ -272,7 +272,7 @@ module _ {M : Type 1} (𝓤 : URA M) (H : Heap 𝓤) (A : Atoms 𝓤) (W : Given
   abbrev Stepping : Stepped → Lasts → Type 0
   Stepping r zs = Framed bk ys (part (t .now) (place .start) (place .end - place .start)) midnight zeros r (zs .1 .0) (zs .1 .1 .1 .1 .1 .1 .0)
 
-  module _ (𝓣 : Tables 𝓤 H) (known-after : Triple 𝓤 (𝓣 .C #day·frame-after) (After 𝓤 H A mem run)) (known-book : Triple 𝓤 (𝓣 .C #day·book-of) (BookOf 𝓤 H A mem run)) (known-start : Triple 𝓤 (𝓣 .C #day·start-of) (StartOf 𝓤 H A mem run)) (known-end : Triple 𝓤 (𝓣 .C #day·end-of) (EndOf 𝓤 H A mem run)) (known-step : Triple 𝓤 (𝓣 .C #calls·step-part) (Step 𝓤 H A mem run)) (known-counted : Triple 𝓤 (𝓣 .C #day·counted) (Counted 𝓤 H A mem run)) where
+  module _ (𝓣 : Tables 𝓤 H) (known-after : Triple 𝓤 (𝓣 .C #day·frame-after) (After 𝓤 H A mem run)) (known-book : Triple 𝓤 (𝓣 .C #day·book-of) (BookOf 𝓤 H A mem run)) (known-start : Triple 𝓤 (𝓣 .C #day·start-of) (StartOf 𝓤 H A mem run)) (known-end : Triple 𝓤 (𝓣 .C #day·end-of) (EndOf 𝓤 H A mem run)) (known-step : Triple 𝓤 (𝓣 .C #table-step·step-part) (Step 𝓤 H A mem run)) (known-counted : Triple 𝓤 (𝓣 .C #day·counted) (Counted 𝓤 H A mem run)) where
     walk : Room R (length ys) → Room u8 (length (t .now)) → (g .day .accepted < 2 ^ 63) × (g .day .others < 2 ^ 63)
         → ent 𝓤 (onEntry 𝓤 H A f.signature (κ, (κ₂, tt)) (q, (q₂, tt)) a at) (WpFn 𝓤 H (𝓣 .C) (𝓣 .Λ) code.function (goingVal g ∷ s ∷ s₂ ∷ []) Post)
     walk room room₂ small =
@@ -350,7 +350,7 @@ module _ {M : Type 1} (𝓤 : URA M) (H : Heap 𝓤) (A : Atoms 𝓤) (W : Given
         by ! (exits r₃ (zs .1 .0) (turned (t .now) g ys midnight zeros r₂ (zs .1 .0) (zs .1 .1 .1 .1 .1 .1 .0) long e₂ r₃ e₃) (going-its r₃ w₃ gr) lp)))))))))))))))))))))))))))))))))))))))))))))
 
 module _ {M : Type 1} (𝓤 : URA M) (H : Heap 𝓤) (A : Atoms 𝓤) (W : Given 𝓤 H A) (mem : Memory → SProp 𝓤) (run : Routine → Fun 𝓤) where
-  put-frame-walks : (𝓣 : Tables 𝓤 H) → Triple 𝓤 (𝓣 .C #day·frame-after) (After 𝓤 H A mem run) → Triple 𝓤 (𝓣 .C #day·book-of) (BookOf 𝓤 H A mem run) → Triple 𝓤 (𝓣 .C #day·start-of) (StartOf 𝓤 H A mem run) → Triple 𝓤 (𝓣 .C #day·end-of) (EndOf 𝓤 H A mem run) → Triple 𝓤 (𝓣 .C #calls·step-part) (Step 𝓤 H A mem run) → Triple 𝓤 (𝓣 .C #day·counted) (Counted 𝓤 H A mem run)
+  put-frame-walks : (𝓣 : Tables 𝓤 H) → Triple 𝓤 (𝓣 .C #day·frame-after) (After 𝓤 H A mem run) → Triple 𝓤 (𝓣 .C #day·book-of) (BookOf 𝓤 H A mem run) → Triple 𝓤 (𝓣 .C #day·start-of) (StartOf 𝓤 H A mem run) → Triple 𝓤 (𝓣 .C #day·end-of) (EndOf 𝓤 H A mem run) → Triple 𝓤 (𝓣 .C #table-step·step-part) (Step 𝓤 H A mem run) → Triple 𝓤 (𝓣 .C #day·counted) (Counted 𝓤 H A mem run)
       → Walks 𝓤 H A f.ended stayed (WpFn 𝓤 H (𝓣 .C) (𝓣 .Λ) code.function) (f.clauses 𝓤 H A mem run)
   put-frame-walks 𝓣 known-after known-book known-start known-end known-step known-counted = walked 𝓤 H A f.ended stayed (f.clauses 𝓤 H A mem run) (WpFn 𝓤 H (𝓣 .C) (𝓣 .Λ) code.function)
       (λ κs. (goingVals, (slice-vals, (slice-vals, tt)))) (λ κs. (going-tells, (mut-slice-tells (named 0) (κs .0) R, (shr-slice-tells (named 1) (κs .1 .0) u8, tt))))
@@ -359,7 +359,7 @@ module _ {M : Type 1} (𝓤 : URA M) (H : Heap 𝓤) (A : Atoms 𝓤) (W : Given
       𝓣 known-after known-book known-start known-end known-step known-counted (are .1 .0 .0 .1) (are .1 .1 .0 .0 .1)))
 
 put-frame-meets : {M : Type 1} (𝓤 : URA M) (H : Heap 𝓤) (A : Atoms 𝓤) → Given 𝓤 H A → (mem : Memory → SProp 𝓤) (run : Routine → Fun 𝓤) (𝓣 : Tables 𝓤 H)
-    → Triple 𝓤 (𝓣 .C #day·frame-after) (After 𝓤 H A mem run) → Triple 𝓤 (𝓣 .C #day·book-of) (BookOf 𝓤 H A mem run) → Triple 𝓤 (𝓣 .C #day·start-of) (StartOf 𝓤 H A mem run) → Triple 𝓤 (𝓣 .C #day·end-of) (EndOf 𝓤 H A mem run) → Triple 𝓤 (𝓣 .C #calls·step-part) (Step 𝓤 H A mem run) → Triple 𝓤 (𝓣 .C #day·counted) (Counted 𝓤 H A mem run)
+    → Triple 𝓤 (𝓣 .C #day·frame-after) (After 𝓤 H A mem run) → Triple 𝓤 (𝓣 .C #day·book-of) (BookOf 𝓤 H A mem run) → Triple 𝓤 (𝓣 .C #day·start-of) (StartOf 𝓤 H A mem run) → Triple 𝓤 (𝓣 .C #day·end-of) (EndOf 𝓤 H A mem run) → Triple 𝓤 (𝓣 .C #table-step·step-part) (Step 𝓤 H A mem run) → Triple 𝓤 (𝓣 .C #day·counted) (Counted 𝓤 H A mem run)
     → Meets 𝓤 H A f.signature (WpFn 𝓤 H (𝓣 .C) (𝓣 .Λ) code.function) (f.spec 𝓤 H A mem run)
 put-frame-meets 𝓤 H A W mem run 𝓣 known-after known-book known-start known-end known-step known-counted =
     walk-meets 𝓤 H A f.ended stayed W
@@ -376,5 +376,5 @@ put-frame-spec 𝓤 H 𝓜 𝓖 𝓡 =
     (cited 𝓤 H (BookOf 𝓤 H (𝓖 .A) (𝓜 .mem) (𝓡 .run)) 𝓜 𝓡 code.env #day·book-of book-def.routine code.calls-day·book-of (book-thm.met 𝓤 H 𝓜 𝓖 𝓡))
     (cited 𝓤 H (StartOf 𝓤 H (𝓖 .A) (𝓜 .mem) (𝓡 .run)) 𝓜 𝓡 code.env #day·start-of start-def.routine code.calls-day·start-of (start-thm.met 𝓤 H 𝓜 𝓖 𝓡))
     (cited 𝓤 H (EndOf 𝓤 H (𝓖 .A) (𝓜 .mem) (𝓡 .run)) 𝓜 𝓡 code.env #day·end-of end-def.routine code.calls-day·end-of (end-thm.met 𝓤 H 𝓜 𝓖 𝓡))
-    (cited 𝓤 H (Step 𝓤 H (𝓖 .A) (𝓜 .mem) (𝓡 .run)) 𝓜 𝓡 code.env #calls·step-part step-def.routine code.calls-calls·step-part (step-thm.met 𝓤 H 𝓜 𝓖 𝓡))
+    (cited 𝓤 H (Step 𝓤 H (𝓖 .A) (𝓜 .mem) (𝓡 .run)) 𝓜 𝓡 code.env #table-step·step-part step-def.routine code.calls-table-step·step-part (step-thm.met 𝓤 H 𝓜 𝓖 𝓡))
     (cited 𝓤 H (Counted 𝓤 H (𝓖 .A) (𝓜 .mem) (𝓡 .run)) 𝓜 𝓡 code.env #day·counted counted-def.routine code.calls-day·counted (counted-thm.met 𝓤 H 𝓜 𝓖 𝓡)))

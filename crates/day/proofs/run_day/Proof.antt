@@ -40,16 +40,16 @@ use denote.Triple.Spec.{Meets, tripleOf}
 use denote.Triple.Table.{entered, cited}
 use denote.Triple.Walked.{says, Stays, stay-none, stay-slice, stay-none-slice, walkOf, goes-none, goes-slice, goes-none-slice, Walks, ends-at, walked, walk-meets}
 use denote.Exit.{yes}
-use Rattle.walking.proofs.Count.{tyOf, holds, fails, one-more, counted}
-use Rattle.walking.proofs.Lent.{LentMut, lends-mut, mut-back}
+use Rattle.slice_laws.proofs.Count.{tyOf, holds, fails, one-more, counted}
+use Rattle.slice_laws.proofs.Lent.{LentMut, lends-mut, mut-back}
 use Rattle.book.specs.declared.Book.{Book}
 use Rattle.book.specs.declared.Pool.{Pool}
-use Rattle.records.proofs.Row.{R}
+use Rattle.table_load.proofs.Row.{R}
 use Rattle.day.specs.declared.Going.{Going}
 use Rattle.day.specs.Turns.{framesIn, begunOf, turn, turns}
 use Rattle.day.proofs.Counting.{frames-at-most}
 use Rattle.day.proofs.Turning.{accepted-at-most, others-at-most, passes}
-use Rattle.staged.proofs.Values.{BookR, bookVal, bookVals, book-tells, book-makes, book-typed}
+use Rattle.table_by_rows.proofs.Values.{BookR, bookVal, bookVals, book-tells, book-makes, book-typed}
 use Rattle.day.proofs.Values.{DayR, dayVal, day-makes, day-typed, GoingR, goingVal, goingVals, going-makes, going-typed, going-is, going-its, day-of}
 use Rattle.day.proofs.frames_in as fi
 use Rattle.day.proofs.frames_in.Symbol as frames-def

@@ -15,14 +15,14 @@ use denote.Triple.Table.{entered, cited}
 use Rattle.layout.specs.declared.Detail.{Detail}
 use Rattle.layout.proofs.pool_count.Symbol as count-def
 use Rattle.layout.proofs.pool_count.Met as count-thm
-use Rattle.reader.proofs.Pass.{Counts, New, Next, Moved}
-use Rattle.reader.proofs.Passing.{meets}
-use Rattle.reader.proofs.new.Symbol as new-def
-use Rattle.reader.proofs.new.Met as new-thm
-use Rattle.reader.proofs.next.Symbol as next-def
-use Rattle.reader.proofs.next.Met as next-thm
-use Rattle.reader.proofs.moved.Symbol as moved-def
-use Rattle.reader.proofs.moved.Met as moved-thm
+use Rattle.detail_reader.proofs.Pass.{Counts, New, Next, Moved}
+use Rattle.detail_reader.proofs.Passing.{meets}
+use Rattle.detail_reader.proofs.new.Symbol as new-def
+use Rattle.detail_reader.proofs.new.Met as new-thm
+use Rattle.detail_reader.proofs.next.Symbol as next-def
+use Rattle.detail_reader.proofs.next.Met as next-thm
+use Rattle.detail_reader.proofs.moved.Symbol as moved-def
+use Rattle.detail_reader.proofs.moved.Met as moved-thm
 use Rattle.faces.specs.Passes.{checkFace}
 use Rattle.faces.specs.declared.FaceCheck.{FaceCheck}
 use Rattle.faces.proofs.FaceCheck as S
@@ -58,9 +58,9 @@ check-faces-spec 𝓤 H 𝓜 𝓖 𝓡 =
     (tables 𝓤 H 𝓜 𝓡 code.env .C) (tables 𝓤 H 𝓜 𝓡 code.env .Λ) #check-faces code.function (code.unfolded 𝓤 H 𝓜 𝓡)
     (meets S.the-type S′.the-laws S′.the-plain S′.the-copy 𝓤 H A (givenOf 𝓤 H 𝓜 𝓖) mem run (tablesOf 𝓤 H 𝓜 (tables 𝓤 H 𝓜 𝓡 code.env))
     (cited 𝓤 H (Counts 𝓤 H A mem run) 𝓜 𝓡 code.env count-def.name count-def.routine code.calls-layout·pool-count (count-thm.met 𝓤 H 𝓜 𝓖 𝓡))
-    (cited 𝓤 H (New 𝓤 H A mem run) 𝓜 𝓡 code.env new-def.name new-def.routine code.calls-reader·new (new-thm.met 𝓤 H 𝓜 𝓖 𝓡))
-    (cited 𝓤 H (Next 𝓤 H A mem run) 𝓜 𝓡 code.env next-def.name next-def.routine code.calls-reader·next (next-thm.met 𝓤 H 𝓜 𝓖 𝓡))
-    (cited 𝓤 H (Moved 𝓤 H A mem run) 𝓜 𝓡 code.env moved-def.name moved-def.routine code.calls-reader·moved (moved-thm.met 𝓤 H 𝓜 𝓖 𝓡))
+    (cited 𝓤 H (New 𝓤 H A mem run) 𝓜 𝓡 code.env new-def.name new-def.routine code.calls-detail-reader·new (new-thm.met 𝓤 H 𝓜 𝓖 𝓡))
+    (cited 𝓤 H (Next 𝓤 H A mem run) 𝓜 𝓡 code.env next-def.name next-def.routine code.calls-detail-reader·next (next-thm.met 𝓤 H 𝓜 𝓖 𝓡))
+    (cited 𝓤 H (Moved 𝓤 H A mem run) 𝓜 𝓡 code.env moved-def.name moved-def.routine code.calls-detail-reader·moved (moved-thm.met 𝓤 H 𝓜 𝓖 𝓡))
     step-def.name checkFace (asks 𝓤 H A mem run) (tell 𝓤 H A mem run)
     (cited 𝓤 H (Step 𝓤 H A mem run) 𝓜 𝓡 code.env step-def.name step-def.routine code.calls-faces·check-face (step-thm.met 𝓤 H 𝓜 𝓖 𝓡)) (told 𝓤 H A mem run)
     (λ _. emp 𝓤) (λ _. Unit {0}) (λ _. factI 𝓤 (Unit {0}) (emp 𝓤) tt) (λ x h body i l. id⊢ 𝓤 (emp 𝓤)))

@@ -1,0 +1,21 @@
+-- Rows by their buckets: the last row of a bucket before a place, counted from 1.
+use Prim.Native.Nat.{ℕ, _+_, _≤_, _<_}
+use mathlib.Core.List.{List}
+use mathlib.Core.Path.{_≡_}
+use lib.ListN.{getD}
+use Rattle.rows.specs.Rows.{keyAt}
+use Rattle.rows_keys.specs.Keys.{bucketOf, bucketCount}
+
+-- x is one more than the last of the first i rows that is in bucket b, or 0 where none is
+pub record LastIn (ks : List (List ℕ)) (b i x : ℕ) : Type 0 where
+  pub before : x ≤ i
+  pub inside : (j : ℕ) → x ≡ j + 1 → bucketOf (keyAt ks j) ≡ b
+  pub latest : (k : ℕ) → k < i → bucketOf (keyAt ks k) ≡ b → k < x
+
+-- back has for each of the first i rows the last row before it in its bucket
+abbrev pub Linked : List (List ℕ) → List ℕ → ℕ → Type 0
+Linked ks back i = (m : ℕ) → m < i → LastIn ks (bucketOf (keyAt ks m)) m (getD back m 0)
+
+-- seen has for each bucket the last of the first i rows in it
+abbrev pub Seen : List (List ℕ) → List ℕ → ℕ → Type 0
+Seen ks seen i = (b : ℕ) → b < bucketCount → LastIn ks b i (getD seen b 0)

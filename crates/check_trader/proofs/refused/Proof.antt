@@ -1,0 +1,11 @@
+use mathlib.Core.Path.{refl}
+use Rattle.check_trader.specs.Decisions.{refusedWith}
+use Rattle.check_trader.proofs.refused.Statement.{statement}
+use Rattle.check_trader.proofs.refused.Tie as tie
+
+returns : tie.Need-returns
+unfolding refusedWith
+returns c = refl
+
+pub refused-spec : {M : Type 1} → statement M
+refused-spec = tie.close (tie.spec returns)

@@ -1,4 +1,0 @@
-mod Reading
-mod Calling
-mod Opening
-mod Saying

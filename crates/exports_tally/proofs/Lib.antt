@@ -1,2 +1,0 @@
-mod Rows
-pub mod Counting

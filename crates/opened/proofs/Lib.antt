@@ -1,2 +1,0 @@
-pub mod Decided
-pub mod Refused

@@ -1,3 +1,0 @@
-pub mod Staged
-pub mod Calls
-pub mod Moving

@@ -1,0 +1,125 @@
+-- A frame call is made where it can be, and refused where it cannot.
+use Prim.Native.Nat.{ℕ}
+use mathlib.Core.Path.{_≡_, refl, sym, ap, _∙_}
+use mathlib.Core.List.{List}
+use mathlib.Core.Bool.{Bool, true, false, cond, true≢false}
+use lib.ListN.{length}
+use Rattle.lists.specs.Lists.{pasted}
+use Rattle.lists.proofs.Tests.{and-left}
+use Rattle.lists.proofs.Pasting.{paste-whole}
+use Rattle.book.specs.declared.Book.{Book}
+use Rattle.book.specs.declared.Pool.{Pool}
+use Rattle.book.specs.declared.Answer.{Answer}
+use Rattle.book.specs.declared.Answer.the-variants.{Accepted, Rejected, Dked}
+use Rattle.book.specs.declared.Reason.the-variants.{Unsound}
+use Rattle.book.specs.Reasons.{isAccepted}
+use Rattle.book.specs.Checks.{Call, answerOf}
+use Rattle.book.specs.Step.{isSilent, bookAfter, tableAfter, outputAfter, outputFor, callWith}
+use Rattle.exports_numbers.specs.Said.{saidOf}
+use Rattle.image.specs.Images.{tradesWords, isImage, bookIn, restImage, imageOf}
+use Rattle.image.proofs.Kept.{image-again, rest-alone}
+use Rattle.calls.specs.declared.Stepped.{Stepped}
+use Rattle.rows_step.proofs.Answering.{unsound-answer}
+use Rattle.calls.specs.Calls.{Framed}
+use Rattle.rhoikandra.specs.Reading.{Reads}
+use Rattle.rhoikandra.specs.Calls.{timeWidth, callable, Finishes, StepsTo, Refuses, Calls}
+use Rattle.rhoikandra.proofs.Reading.{values-unsound, callable-six}
+
+-- ---- the end of a call
+module _ (ws said : List ℕ) (r : Stepped) (silent : Bool) (silent-is : silent ≡ isSilent (r .answer)) (two said′ : List ℕ) (two-is : two ≡ saidOf (r .answer)) (said-is : said′ ≡ pasted said 0 two) where
+  pub finish-silent : silent ≡ true → Finishes ws said r ws said′
+  finish-silent t =
+      let e : isSilent (r .answer) ≡ true = sym silent-is ∙ t in
+      record { image = rw e; answer = said-is ∙ ap (pasted said 0) two-is }
+
+  module _ (n : silent ≡ false) (accepted : Bool) (accepted-is : accepted ≡ isAccepted (r .answer)) (ws′ : List ℕ) where
+    pub finish-accepted : accepted ≡ true → ws′ ≡ pasted ws 0 (imageOf (r .book)) → Finishes ws said r ws′ said′
+    finish-accepted t w =
+        let e : isSilent (r .answer) ≡ false = sym silent-is ∙ n in
+        let f : isAccepted (r .answer) ≡ true = sym accepted-is ∙ t in
+        record { image = rw (e, f) w; answer = said-is ∙ ap (pasted said 0) two-is }
+
+    pub finish-refused : accepted ≡ false → ws′ ≡ pasted ws tradesWords (restImage (r .book)) → Finishes ws said r ws′ said′
+    finish-refused t w =
+        let e : isSilent (r .answer) ≡ false = sym silent-is ∙ n in
+        let f : isAccepted (r .answer) ≡ false = sym accepted-is ∙ t in
+        record { image = rw (e, f) w; answer = said-is ∙ ap (pasted said 0) two-is }
+
+-- ---- the call
+silent-refuses : (a : Answer) → isSilent a ≡ true → isAccepted a ≡ false
+silent-refuses (Accepted id) e = absurd (true≢false (sym e))
+silent-refuses (Rejected r) e = refl
+silent-refuses (Dked r) e = refl
+
+silent-book : (c : Call) → isSilent (answerOf c) ≡ true → bookAfter c ≡ c .book
+unfolding bookAfter
+silent-book c e = rw (e, silent-refuses (answerOf c) e)
+
+refused-trades : (c : Call) → isAccepted (answerOf c) ≡ false → bookAfter c .values .trades ≡ c .book .values .trades
+unfolding bookAfter
+refused-trades c e = rw e
+
+-- a silent refusal moves nothing, and any other no trade, so the words that are not written are those of the book after it as they are
+written : (ws : List ℕ) (b : Book) (silent accepted : Bool) → (silent ≡ true → imageOf b ≡ ws)
+    → (accepted ≡ false → pasted ws tradesWords (restImage b) ≡ pasted ws 0 (imageOf b))
+    → cond silent ws (cond accepted (pasted ws 0 (imageOf b)) (pasted ws tradesWords (restImage b))) ≡ pasted ws 0 (imageOf b)
+written ws b true accepted e f = sym (paste-whole ws ws refl) ∙ ap (pasted ws 0) (sym (e refl))
+written ws b false true e f = refl
+written ws b false false e f = f refl
+
+module _ (b : Book) (ws : List ℕ) (pools : List Pool) (body time out said : List ℕ) (r : Stepped) (ws′ : List ℕ) (pools′ : List Pool) (out′ said′ : List ℕ) (framed : Framed b pools body time out r pools′ out′) (ended : Finishes ws said r ws′ said′) where
+  abbrev c : Call
+  c = callWith b pools body out
+
+  steps-to : imageOf b ≡ ws → ((k : Book) → k .values .trades ≡ b .values .trades → pasted ws tradesWords (restImage k) ≡ pasted ws 0 (imageOf k))
+      → StepsTo b ws pools body time out said ws′ pools′ out′ said′
+  steps-to e alone =
+      record {
+        image = ended .image ∙ written ws (r .book) (isSilent (r .answer)) (isAccepted (r .answer)) kept rest ∙ ap (λ (k : Book). pasted ws 0 (imageOf k)) (framed .book);
+        table = framed .table;
+        output = framed .output;
+        answer = ended .answer ∙ ap (λ (a : Answer). pasted said 0 (saidOf a)) (framed .answer);
+      }
+    where
+      kept : isSilent (r .answer) ≡ true → imageOf (r .book) ≡ ws
+      kept s = ap imageOf (framed .book ∙ silent-book c (sym (ap isSilent (framed .answer)) ∙ s)) ∙ e
+
+      rest : isAccepted (r .answer) ≡ false → pasted ws tradesWords (restImage (r .book)) ≡ pasted ws 0 (imageOf (r .book))
+      rest n = alone (r .book) (ap (λ (k : Book). k .values .trades) (framed .book) ∙ refused-trades c (sym (ap isAccepted (framed .answer)) ∙ n))
+
+  table-stays : answerOf c ≡ Rejected Unsound → tableAfter c ≡ pools
+  unfolding tableAfter
+  table-stays e = rw e
+
+  output-stays : answerOf c ≡ Rejected Unsound → outputAfter c time out ≡ out
+  unfolding outputAfter outputFor
+  output-stays e = rw e
+
+  refused-with : answerOf c ≡ Rejected Unsound → Refuses ws pools out said ws′ pools′ out′ said′
+  refused-with e =
+      let a : r .answer ≡ Rejected Unsound = framed .answer ∙ e in
+      record {
+        image = ended .image ∙ ap (λ (k : Answer). cond (isSilent k) ws (cond (isAccepted k) (pasted ws 0 (imageOf (r .book))) (pasted ws tradesWords (restImage (r .book))))) a;
+        table = framed .table ∙ table-stays e;
+        output = framed .output ∙ output-stays e;
+        answer = ended .answer ∙ ap (λ (k : Answer). pasted said 0 (saidOf k)) a;
+      }
+
+image-known : (ws time : List ℕ) → callable ws time ≡ true → isImage ws ≡ true
+unfolding callable
+image-known ws time e = and-left (isImage ws) _ e
+
+pub called : (ws : List ℕ) (pools : List Pool) (body time out said : List ℕ) (b : Book) (six : List ℕ) (r : Stepped) (ws′ : List ℕ) (pools′ : List Pool) (out′ said′ : List ℕ)
+    → Reads (callable ws time) ws b → (length time ≡ timeWidth → six ≡ time) → Framed b pools body six out r pools′ out′ → Finishes ws said r ws′ said′
+    → Calls ws pools body time out said ws′ pools′ out′ said′
+called ws pools body time out said b six r ws′ pools′ out′ said′ reads sixes framed ended =
+    record {
+      steps = λ t.
+          let eb : b ≡ bookIn ws = reads .book t in
+          let et : six ≡ time = sixes (callable-six ws time t) in
+          let known : isImage ws ≡ true = image-known ws time t in
+          let alone : (k : Book) → k .values .trades ≡ b .values .trades → pasted ws tradesWords (restImage k) ≡ pasted ws 0 (imageOf k) =
+          λ k q. rest-alone ws k known (q ∙ ap (λ (x : Book). x .values .trades) eb) in
+          rw (eb, et) at (steps-to b ws pools body six out said r ws′ pools′ out′ said′ framed ended (ap imageOf eb ∙ image-again ws known) alone);
+      refuses = λ n. refused-with b ws pools body six out said r ws′ pools′ out′ said′ framed ended (unsound-answer (callWith b pools body out) (values-unsound b pools (reads .none n)));
+    }

@@ -1,0 +1,63 @@
+-- An opening on words passes where it can, and is refused where it cannot.
+use Prim.Native.Nat.{ℕ}
+use mathlib.Core.Path.{_≡_, refl, ap, _∙_}
+use mathlib.Core.List.{List}
+use mathlib.Core.Bool.{Bool, true, false, cond, _&&_}
+use Rattle.lists.specs.Lists.{pasted}
+use Rattle.book.specs.declared.Values.{Values}
+use Rattle.book.specs.declared.Book.{Book}
+use Rattle.book.specs.declared.Pool.{Pool}
+use Rattle.book.specs.Opening.{openingFine, opened}
+use Rattle.image.specs.Images.{isImage, bookIn, imageOf}
+use Rattle.calls.specs.declared.Opened.{Opened}
+use Rattle.calls.specs.Calls.{Opens}
+use Rattle.rhoikandra.specs.Reading.{ReadsValues}
+use Rattle.rhoikandra.specs.Opening.{openable, OpensTo, Opening}
+use Rattle.rhoikandra.proofs.Reading.{values-refused}
+
+-- ---- the end of an opening
+pub finish-refused : (ws : List ℕ) (o : Opened) → o .fine ≡ false → OpensTo ws o ws 41
+finish-refused ws o e = record { code = rw e; image = rw e }
+
+pub finish-passed : (ws : List ℕ) (o : Opened) (ws′ : List ℕ) → o .fine ≡ true → ws′ ≡ pasted ws 0 (imageOf (o .book)) → OpensTo ws o ws′ 0
+finish-passed ws o ws′ e w = record { code = rw e; image = rw e w }
+
+-- ---- the opening
+module _ (ws : List ℕ) (pools : List Pool) (v : Values) (o : Opened) (ws′ : List ℕ) (pools′ : List Pool) (n : ℕ) (reads : ReadsValues ws v) (opens : Opens v pools o pools′) (ended : OpensTo ws o ws′ n) where
+  -- whether it passes, by whether the words say a book
+  test-is : o .fine ≡ openable ws pools
+  unfolding openable
+  test-is = go (isImage ws) refl
+    where
+      go : (k : Bool) → isImage ws ≡ k → o .fine ≡ (k && openingFine (bookIn ws .values) pools)
+      go true e = opens .fine ∙ ap (λ (u : Values). openingFine u pools) (reads .values e)
+      go false e = opens .fine ∙ values-refused v pools (reads .none e)
+
+  image-known : openable ws pools ≡ true → isImage ws ≡ true
+  unfolding openable
+  image-known = go (isImage ws)
+    where
+      go : (k : Bool) → (k && openingFine (bookIn ws .values) pools) ≡ true → k ≡ true
+      go true e = refl
+      go false e = e
+
+  pub opening-made : Opening ws pools ws′ pools′ n
+  opening-made =
+      record {
+        passes = λ t.
+            let e : o .fine ≡ true = test-is ∙ t in
+            record {
+              code = ended .code ∙ ap (λ (k : Bool). cond k 0 41) e;
+              image =
+                  ended .image ∙ ap (λ (k : Bool). cond k (pasted ws 0 (imageOf (o .book))) ws) e ∙ ap (λ (k : Book). pasted ws 0 (imageOf k)) (opens .book)
+                  ∙ ap (λ (u : Values). pasted ws 0 (imageOf (opened u))) (reads .values (image-known t));
+              zeros = opens .zeros e;
+            };
+        refuses = λ f.
+            let e : o .fine ≡ false = test-is ∙ f in
+            record {
+              code = ended .code ∙ ap (λ (k : Bool). cond k 0 41) e;
+              image = ended .image ∙ ap (λ (k : Bool). cond k (pasted ws 0 (imageOf (o .book))) ws) e;
+              table = opens .stays e;
+            };
+      }

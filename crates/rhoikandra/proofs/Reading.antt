@@ -1,0 +1,50 @@
+-- A book that words say, and a book that 41 and 42 refuse with any table where they say none.
+use Prim.Native.Nat.{ℕ}
+use mathlib.Core.Path.{_≡_, ap, _∙_}
+use mathlib.Core.List.{List}
+use mathlib.Core.Bool.{Bool, true, false, _&&_}
+use lib.ListN.{length}
+use lib.Dec.{eqb}
+use borrow.Author.Tests.{eqb-true}
+use Rattle.lists.proofs.Tests.{and-left, and-right}
+use Rattle.book.specs.declared.Values.{Values}
+use Rattle.book.specs.declared.Book.{Book}
+use Rattle.book.specs.declared.Pool.{Pool}
+use Rattle.book.specs.Opening.{valuesFine, openingFine}
+use Rattle.book.specs.Soundness.{isSound}
+use Rattle.image.specs.Images.{isImage, bookIn}
+use Rattle.rhoikandra.specs.Reading.{Reads, ReadsValues}
+use Rattle.rhoikandra.specs.Calls.{timeWidth, callable}
+
+-- values of more trades than a book has
+pub too-many : (v : Values) → v .tradeCount ≡ 65 → valuesFine v ≡ false
+unfolding valuesFine
+too-many v e = rw e
+
+pub values-unsound : (b : Book) (t : List Pool) → valuesFine (b .values) ≡ false → isSound b t ≡ false
+unfolding isSound
+values-unsound b t e = rw e
+
+pub values-refused : (v : Values) (t : List Pool) → valuesFine v ≡ false → openingFine v t ≡ false
+unfolding openingFine
+values-refused v t e = rw e
+
+-- a book that is given where it is known, else one that is refused
+module _ (ws : List ℕ) (b r : Book) where
+  pub reads-given : (known given : Bool) → given ≡ known → (given ≡ true → r ≡ b) × (given ≡ false → valuesFine (r .values) ≡ false) → (given ≡ true → b ≡ bookIn ws) → Reads known ws r
+  reads-given known given q e read = record { book = λ t. e .0 (q ∙ t) ∙ read (q ∙ t); none = λ n. e .1 (q ∙ n) }
+
+  -- with six time bytes
+  pub starts-given : (time : List ℕ) (fine : Bool) → fine ≡ isImage ws
+      → ((fine && eqb (length time) timeWidth) ≡ true → r ≡ b) × ((fine && eqb (length time) timeWidth) ≡ false → valuesFine (r .values) ≡ false) → (fine ≡ true → b ≡ bookIn ws) → Reads (callable ws time) ws r
+  unfolding callable
+  starts-given time fine q e read =
+      reads-given (isImage ws && eqb (length time) timeWidth) (fine && eqb (length time) timeWidth) (ap (λ (t : Bool). t && eqb (length time) timeWidth) q) e
+      (λ t. read (and-left fine (eqb (length time) timeWidth) t))
+
+pub callable-six : (ws time : List ℕ) → callable ws time ≡ true → length time ≡ timeWidth
+unfolding callable
+callable-six ws time e = eqb-true (length time) timeWidth (and-right (isImage ws) (eqb (length time) timeWidth) e)
+
+pub values-read : (ws : List ℕ) (b : Book) → Reads (isImage ws) ws b → ReadsValues ws (b .values)
+values-read ws b r = record { values = λ t. ap (λ (k : Book). k .values) (r .book t); none = r .none }

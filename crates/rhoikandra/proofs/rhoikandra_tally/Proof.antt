@@ -1,0 +1,44 @@
+-- Four rows are read as a tally, raised by the answer that was heard, and written back; else they stay.
+use Rattle.exports_numbers.proofs.Saying.{heard-fine, heard-answer}
+use Rattle.rhoikandra.proofs.Counting.{not-four-stay, not-heard, was-heard}
+use borrow.Author.Needs.{needs}
+use Rattle.rhoikandra.proofs.rhoikandra_tally.Statement.{statement}
+use Rattle.rhoikandra.proofs.rhoikandra_tally.Tie as tie
+
+returns : tie.Need-returns
+returns c = not-four-stay (c .before .before .before .args .body .now) _ (c .before .before .before .args .said .now) (c .if1 .taken)
+
+hear-requires : tie.Need-hear-requires
+hear-requires c κs = search needs
+
+returns-2 : tie.Need-returns-2
+returns-2 c = not-heard (c .before .before .before .before .before .before .args .body .now) _ (c .before .before .before .before .before .before .args .said .now) _ (heard-fine (c .before .before .before .before .before .before .args .said .now) _ (c .before .before .hear .ensures)) (c .if2 .taken)
+
+tally-of-requires : tie.Need-tally-of-requires
+tally-of-requires c κs = search needs
+
+tally-after-requires : tie.Need-tally-after-requires
+tally-after-requires c κs = search needs
+
+put-rows-requires : tie.Need-put-rows-requires
+put-rows-requires c κs = search needs
+
+same-length : tie.Need-same-length
+same-length c = search needs
+
+returns-3 : tie.Need-returns-3
+returns-3 c = let a = c .before .before .before .before .before .before .before .before .before .before .before .before .args in
+    was-heard (a .body .now) (a .rows .now) (a .said .now) _ (heard-fine (a .said .now) _ (c .before .before .before .before .before .before .before .before .hear .ensures)) _ _ _ _ (c .before .before .before .before .before .before .before .before .before .if1 .left) (heard-answer (a .said .now) _ (c .before .before .before .before .before .before .before .before .hear .ensures)) (c .before .before .before .before .before .before .if2 .left) (c .before .before .before .before .tally-of .ensures) (c .before .before .before .tally-after .ensures) (c .before .put-rows .ensures)
+
+pub rhoikandra-tally-spec : {M : Type 1} → statement M
+rhoikandra-tally-spec =
+    tie.close
+    (tie.spec
+    returns
+    hear-requires
+    returns-2
+    tally-of-requires
+    tally-after-requires
+    put-rows-requires
+    same-length
+    returns-3)

@@ -1,0 +1,43 @@
+-- Six bytes, read one by one, are the slice.
+use mathlib.Core.Path.{sym}
+use Rattle.lists.proofs.Tables.{table-of}
+use borrow.Author.Needs.{needs}
+use Rattle.rhoikandra.proofs.six_of.Statement.{statement}
+use Rattle.rhoikandra.proofs.six_of.Tie as tie
+
+returns : tie.Need-returns
+returns c = λ e. absurd (c .if1 .taken e)
+
+shared-slice-read-t5 : tie.Need-shared-slice-read-t5
+shared-slice-read-t5 c = search needs
+
+shared-slice-read-t7 : tie.Need-shared-slice-read-t7
+shared-slice-read-t7 c = search needs
+
+shared-slice-read-t9 : tie.Need-shared-slice-read-t9
+shared-slice-read-t9 c = search needs
+
+shared-slice-read-t11 : tie.Need-shared-slice-read-t11
+shared-slice-read-t11 c = search needs
+
+shared-slice-read-t13 : tie.Need-shared-slice-read-t13
+shared-slice-read-t13 c = search needs
+
+shared-slice-read-t15 : tie.Need-shared-slice-read-t15
+shared-slice-read-t15 c = search needs
+
+returns-2 : tie.Need-returns-2
+returns-2 c = λ e. sym (table-of _ _ 6 e)
+
+pub six-of-spec : {M : Type 1} → statement M
+six-of-spec =
+    tie.close
+    (tie.spec
+    returns
+    shared-slice-read-t5
+    shared-slice-read-t7
+    shared-slice-read-t9
+    shared-slice-read-t11
+    shared-slice-read-t13
+    shared-slice-read-t15
+    returns-2)

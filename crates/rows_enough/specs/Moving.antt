@@ -1,0 +1,43 @@
+-- The calls on the first rows of a table (01, "The book"): each promises what it does of every table whose first rows those are.
+use Prim.Native.Nat.{ℕ, _≤_}
+use mathlib.Core.Path.{_≡_}
+use mathlib.Core.List.{List}
+use mathlib.Core.Bool.{Bool, cond}
+use lib.ListN.{length}
+use Rattle.book.specs.declared.Values.{Values}
+use Rattle.book.specs.declared.Book.{Book}
+use Rattle.book.specs.declared.Pool.{Pool}
+use Rattle.book.specs.Opening.{openingFine, opened}
+use Rattle.book.specs.Checks.{answerOf}
+use Rattle.book.specs.Step.{bookAfter, tableAfter, outputAfter, callWith}
+use Rattle.calls.specs.declared.Figures.{Figures}
+use Rattle.rows_enough.specs.declared.Moved.{Moved}
+use Rattle.rows_enough.specs.declared.Cleared.{Cleared}
+use Rattle.rows_enough.specs.Staged.{wanted, Staged, stored}
+use Rattle.calls.specs.Calls.{Says}
+
+-- a frame call on rows of a table: with the records that it names taken from the rows, the table is that after the call
+pub record Moves (b : Book) (pools : List Pool) (body time out : List ℕ) (r : Moved) (ns′ ks′ : List (List ℕ)) (out′ : List ℕ) : Type 0 where
+  pub answer : r .stepped .answer ≡ answerOf (callWith b pools body out)
+  pub book : r .stepped .book ≡ bookAfter (callWith b pools body out)
+  pub table : stored pools ns′ ks′ (r .from) (r .to) ≡ tableAfter (callWith b pools body out)
+  pub output : out′ ≡ outputAfter (callWith b pools body out) time out
+  pub ordered : r .from ≤ r .to
+  pub within : r .to ≤ length pools
+  pub staged : r .to ≤ length ns′
+  pub stagedKeys : r .to ≤ length ks′
+
+pub record StepsRows (b : Book) (ns ks : List (List ℕ)) (records : ℕ) (rest : Bool) (body time out : List ℕ) (r : Moved) (ns′ ks′ : List (List ℕ)) (out′ : List ℕ) : Type 0 where
+  pub moves : (pools : List Pool) → Staged (wanted (b .live) (length body)) ns ks records rest pools → Moves b pools body time out r ns′ ks′ out′
+  pub numbers : length ns′ ≡ length ns
+  pub keys : length ks′ ≡ length ks
+
+-- a trade's figures from rows of a table
+pub record SaysRows (b : Book) (ns ks : List (List ℕ)) (records : ℕ) (rest : Bool) (trade : ℕ) (r : Figures) : Type 0 where
+  pub says : (pools : List Pool) → Staged (b .live) ns ks records rest pools → Says b pools trade r
+
+-- an opening of a table of so many records: whether it passes, the opened book, and how many records are to be zeros
+pub record OpensRecords (v : Values) (records : ℕ) (r : Cleared) : Type 0 where
+  pub fine : (pools : List Pool) → length pools ≡ records → r .opened .fine ≡ openingFine v pools
+  pub book : r .opened .book ≡ opened v
+  pub count : r .count ≡ cond (r .opened .fine) records 0

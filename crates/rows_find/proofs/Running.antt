@@ -1,0 +1,98 @@
+-- A loop that passes over the rows of a table up to the first that passes a test, or over those that pass it.
+use mathlib.Core.Path.{_≡_, refl, sym, ap, _∙_}
+use mathlib.Core.List.{List, [], _∷_}
+use mathlib.Core.Bool.{Bool, true, false, cond}
+use Prim.Native.Nat.{ℕ, zero, suc, _+_, _-_, _≤_, _<_}
+use native.Mathlib.Nat.{add-zero}
+use native.Mathlib.Omega.{arith}
+use lib.ListN.{length, take, drop}
+use Rattle.lists.specs.Lists.{tab}
+use Rattle.lists.proofs.Tables.{drop-tab, length-tab, tab-turn, tab-end}
+use Rattle.fields.specs.declared.Field.{Field}
+use Rattle.fields.specs.declared.Field.the-variants.{Number, NotDigits}
+use Rattle.book.specs.declared.Pool.{Pool}
+use Rattle.book.specs.Messages.{under}
+use Rattle.rows.specs.Rows.{recordAt, tableOf}
+use Rattle.rows.proofs.Rows.{take-table}
+use Rattle.rows_find.specs.declared.Run.{Run}
+use Rattle.rows_find.specs.Runs.{ahead, leading, runOf}
+
+module _ {A : Type 0} (p : A → Bool) where
+  pub ahead-most : (xs : List A) → ahead p xs ≤ length xs
+  ahead-most [] = omega arith
+  ahead-most (x ∷ xs) = go (p x) (ahead-most xs)
+    where
+      go : (b : Bool) → ahead p xs ≤ length xs → cond b 0 (suc (ahead p xs)) ≤ suc (length xs)
+      go true h = omega arith
+      go false h = omega (arith, h)
+
+  pub leading-most : (xs : List A) → leading p xs ≤ length xs
+  leading-most [] = omega arith
+  leading-most (x ∷ xs) = go (p x) (leading-most xs)
+    where
+      go : (b : Bool) → leading p xs ≤ length xs → cond b (suc (leading p xs)) 0 ≤ suc (length xs)
+      go true h = omega (arith, h)
+      go false h = omega arith
+
+  pub ahead-tab : (f : ℕ → A) (n i : ℕ) → ahead p (tab f n i) ≤ n
+  ahead-tab f n i = omega (arith, ahead-most (tab f n i), length-tab f n i)
+
+  -- what is left at i, of f up to n, still has the first that passes at e
+  module _ (f : ℕ → A) (n e i : ℕ) where
+    pub ahead-stop : i + ahead p (tab f (n - i) i) ≡ e → i < n → p (f i) ≡ true → i ≡ e
+    ahead-stop inv h q =
+        let a : ahead p (tab f (n - i) i) ≡ 0 = ap (ahead p) (tab-turn f n i h) ∙ rw q in
+        omega (arith, inv, a)
+
+    pub ahead-more : i + ahead p (tab f (n - i) i) ≡ e → i < n → p (f i) ≡ false → (i + 1) + ahead p (tab f (n - (i + 1)) (i + 1)) ≡ e
+    ahead-more inv h q =
+        let a : ahead p (tab f (n - i) i) ≡ suc (ahead p (tab f (n - (i + 1)) (i + 1))) = ap (ahead p) (tab-turn f n i h) ∙ rw q in
+        omega (arith, inv, a)
+
+    pub ahead-done : i + ahead p (tab f (n - i) i) ≡ e → i ≤ n → n ≤ i → n ≡ e
+    ahead-done inv l h =
+        let a : ahead p (tab f (n - i) i) ≡ 0 = ap (ahead p) (tab-end f n i h) in
+        omega (arith, inv, a)
+
+    pub leading-stop : i + leading p (tab f (n - i) i) ≡ e → i < n → p (f i) ≡ false → i ≡ e
+    leading-stop inv h q =
+        let a : leading p (tab f (n - i) i) ≡ 0 = ap (leading p) (tab-turn f n i h) ∙ rw q in
+        omega (arith, inv, a)
+
+    pub leading-more : i + leading p (tab f (n - i) i) ≡ e → i < n → p (f i) ≡ true → (i + 1) + leading p (tab f (n - (i + 1)) (i + 1)) ≡ e
+    leading-more inv h q =
+        let a : leading p (tab f (n - i) i) ≡ suc (leading p (tab f (n - (i + 1)) (i + 1))) = ap (leading p) (tab-turn f n i h) ∙ rw q in
+        omega (arith, inv, a)
+
+    pub leading-done : i + leading p (tab f (n - i) i) ≡ e → i ≤ n → n ≤ i → n ≡ e
+    leading-done inv l h =
+        let a : leading p (tab f (n - i) i) ≡ 0 = ap (leading p) (tab-end f n i h) in
+        omega (arith, inv, a)
+
+-- ---- the run from its two ends
+-- what is left of the live records of a table at i
+live-from : (ns ks : List (List ℕ)) (n i : ℕ) → drop i (tab (recordAt ns ks) n 0) ≡ tab (recordAt ns ks) (n - i) i
+live-from ns ks n i =
+    let e : 0 + i ≡ i = omega arith in
+    drop-tab (recordAt ns ks) i n 0 ∙ ap (λ (k : ℕ). tab (recordAt ns ks) (n - i) k) e
+
+module _ (ns ks : List (List ℕ)) (live : ℕ) (l : live ≤ length ns) where
+  pub run-found : (f : Field) (id start stop : ℕ) → f ≡ Number id → start ≡ ahead (under (Number id)) (tab (recordAt ns ks) live 0)
+      → stop ≡ start + leading (under (Number id)) (tab (recordAt ns ks) (live - start) start)
+      → _≡_ {A = Run} (record { start = start; stop = stop }) (runOf f (take live (tableOf ns ks)))
+  unfolding runOf
+  run-found f id start stop is a b =
+      ap {B = Run} (λ (s : ℕ). record { start = start; stop = s }) (b ∙ ap (λ (xs : List Pool). start + leading (under (Number id)) xs) (sym (live-from ns ks live start)))
+      ∙ ap {B = Run} (λ (s : ℕ). record { start = s; stop = s + leading (under (Number id)) (drop s (tab (recordAt ns ks) live 0)) }) a
+      ∙ rw (is, take-table ns ks live l)
+
+  ahead-none : (f : ℕ → Pool) (n i : ℕ) → ahead (under NotDigits) (tab f n i) ≡ n
+  ahead-none f zero i = refl
+  ahead-none f (suc n) i = ap suc (ahead-none f n (i + 1))
+
+  pub run-none : (f : Field) → f ≡ NotDigits → _≡_ {A = Run} (record { start = live; stop = live }) (runOf f (take live (tableOf ns ks)))
+  unfolding runOf
+  run-none f is =
+      let a : ahead (under NotDigits) (tab (recordAt ns ks) live 0) ≡ live = ahead-none (recordAt ns ks) live 0 in
+      let b : leading (under NotDigits) (drop live (tab (recordAt ns ks) live 0)) ≡ 0 = ap (leading (under NotDigits)) (live-from ns ks live live ∙ tab-end (recordAt ns ks) live live (omega arith)) in
+      rw (is, take-table ns ks live l, a, b, add-zero live)

@@ -1,0 +1,285 @@
+-- An accepted call: what its checks give, and that the moves of table, trades and counters are the definitions'.
+use Prim.Native.Nat.{ℕ, zero, suc, _+_, _*_, _-_, _≤_, _<_}
+use native.Mathlib.Omega.{arith}
+use mathlib.Core.Path.{_≡_, refl, sym, ap, _∙_}
+use mathlib.Core.List.{List, [], _∷_, _++_}
+use mathlib.Core.Bool.{Bool, true, false, cond, not, _&&_}
+use lib.ListN.{length, take, drop, getD, set, replicate, length-take, length-drop}
+use lib.Dec.{eqb, leb, ltb}
+use native.Mathlib.Decide.{decLt}
+use lib.Seq.{length-take-le, getD-take}
+use borrow.Author.Tests.{leb-true, ltb-true}
+use Rattle.lists.specs.Lists.{any, all, keep}
+use Rattle.lists.proofs.Tests.{and-left, and-right, all-out, keep-first, clash}
+use Rattle.layout.specs.Columns.{headerWidth}
+use Rattle.layout.specs.Details.{details}
+use Rattle.sequence.specs.declared.Inbound.{Inbound}
+use Rattle.sequence.specs.Sequence.{outboundMax}
+use Rattle.message_type.specs.declared.MessageType.{MessageType}
+use Rattle.message_type.specs.declared.MessageType.the-variants.{On, Cc, Dk, Cx, Other}
+use Rattle.terminator.specs.Lots.{Lot, lotWeight}
+use Rattle.book.specs.declared.Book.{Book}
+use Rattle.book.specs.declared.Trade.{Trade}
+use Rattle.book.specs.declared.Pool.{Pool}
+use Rattle.book.specs.declared.Answer.the-variants.{Accepted}
+use Rattle.book.specs.declared.Verdict.the-variants.{Passes}
+use Rattle.book.specs.Reasons.{isAccepted}
+use Rattle.book.specs.Records.{noPool, weightOfRecords}
+use Rattle.book.specs.Messages.{typeOf, targetOf, under, listed, brought, broughtBy}
+use Rattle.book.specs.Trades.{tradesOf, broughtWeight}
+use Rattle.book.specs.Opening.{tradesMax, recordsMax, elevenDigitsMax, holidaysMax, holidaysOf, limitsFine, accountFine, tradeFine, valuesFine}
+use Rattle.calendar.specs.Calendar.{isDate}
+use Rattle.book.specs.declared.Values.{Values}
+use Rattle.book.specs.Soundness.{recordFine, isNone, Sound}
+use Rattle.book.specs.Checks.{arrived, noTrade, tradeAt, targetTrade, firstUnder, concerned, concernedFor, isTaken, taken, firstFailing, answerOf}
+use Rattle.message_type.specs.Questions.{onOrCc, ccOrDk, isCx, isOther}
+use Rattle.book.specs.Step.{isSilent, withOpenPar, outputFor, tradesMoved, liveMoved, tableMoved, bookAfter, tableAfter, outputAfter}
+use Rattle.book.proofs.ListLaws.{all-keep}
+use Rattle.book.proofs.Ordered.{ordered-keep}
+use Rattle.book.proofs.Kept.{last-within}
+use Rattle.book.proofs.Passed.{Fine, fine}
+use Rattle.book.proofs.Reached.{is-sound, moved-fits}
+use Rattle.rows.specs.Rows.{tableOf}
+use Rattle.rows.proofs.Rows.{length-table}
+use Rattle.reply.specs.Counters.{withCounters}
+use Rattle.rows_move.specs.Moves.{remaining, bringing, filled, Movable}
+use Rattle.rows_move.proofs.Taking.{keep-most}
+use Rattle.check_soundness.proofs.Whole.{few-trades, record-light}
+use Rattle.check_trader.specs.declared.Decision.{Decision}
+use Rattle.check_trader.specs.Decisions.{traderChecks, callOn}
+use Rattle.calls.specs.declared.Stepped.{Stepped}
+use Rattle.rows_step.specs.Frames.{Acceptable, Steps}
+use Rattle.rows_step.proofs.Answering.{accepted-answer, sender-length, header-there}
+use Rattle.rows_step.proofs.Bounds.{weight-most, left-most, zeros-are}
+
+-- a DK brings nothing
+nothing-brought : (body : List ℕ) → typeOf body ≡ Dk → broughtWeight body ≡ 0
+unfolding broughtWeight brought
+nothing-brought body e = rw e
+
+-- the trades of values in range are fine
+trades-fine : (v : Values) → valuesFine v ≡ true → all (tradeFine (holidaysOf v)) (tradesOf v) ≡ true
+unfolding valuesFine
+trades-fine v e =
+    and-left (all (tradeFine (holidaysOf v)) (tradesOf v)) _
+    (past (leb (v .outbound .0) outboundMax) (past (leb (v .lastMessageId) elevenDigitsMax) (past (limitsFine (v .limits))
+    (past (accountFine (v .connection)) (past (accountFine (v .subscriber)) (past (all isDate (holidaysOf v)) (past (leb (v .tradeCount) tradesMax && leb (v .holidayCount) holidaysMax) e)))))))
+  where
+    past : (a : Bool) {b : Bool} → (a && b) ≡ true → b ≡ true
+    past a {b} h = and-right a b h
+
+-- past the end stands the empty trade
+past-end : (ts : List Trade) (n : ℕ) → length ts ≤ n → tradeAt ts n ≡ noTrade
+past-end [] n h = refl
+past-end (t ∷ ts) zero h = absurd (omega (arith, h))
+past-end (t ∷ ts) (suc n) h = past-end ts n (omega (arith, h))
+
+module _ (b : Book) (ns ks : List (List ℕ)) (body : List ℕ) (room : ℕ) (d : Decision) (x : Acceptable b ns ks body room d) where
+  pass : firstFailing traderChecks (callOn b ns ks body room) ≡ Passes
+  pass = sym (x .decided .verdict) ∙ x .passes
+
+  pub said : answerOf (callOn b ns ks body room) ≡ Accepted (b .values .lastMessageId + 1)
+  said = accepted-answer (callOn b ns ks body room) (x .ready .sound) (x .sender) pass
+
+  ok : isAccepted (answerOf (callOn b ns ks body room)) ≡ true
+  ok = ap isAccepted said
+
+  facts : Fine (callOn b ns ks body room)
+  facts = fine (callOn b ns ks body room) ok
+
+  sure : Sound b (tableOf ns ks)
+  sure = is-sound b (tableOf ns ks) (x .ready .sound)
+
+  -- the next ID is a number of eleven digits or one more
+  pub last-fits : b .values .lastMessageId ≤ elevenDigitsMax
+  last-fits = leb-true (b .values .lastMessageId) elevenDigitsMax (last-within (b .values) (sure .values))
+
+  -- the header is there
+  pub header-fits : headerWidth ≤ length body
+  header-fits = header-there body (sender-length (callOn b ns ks body room) (x .ready .sound) (x .sender))
+
+  within : b .live ≤ length ns
+  within = omega (arith, length-table ns ks, leb-true (b .live) (length (tableOf ns ks)) (sure .liveWithin))
+
+  few : length ns ≤ recordsMax
+  few = omega (arith, length-table ns ks, leb-true (length (tableOf ns ks)) recordsMax (sure .tableShort))
+
+  size : length (take (b .live) (tableOf ns ks)) ≡ b .live
+  size = length-take-le (b .live) (tableOf ns ks) (rw (length-table ns ks) within)
+
+  -- ---- the trade concerned
+  short : length (tradesOf (b .values)) ≤ b .values .tradeCount
+  short = rw length-take (omega arith)
+
+  at-type : (k : MessageType) → typeOf body ≡ k → concerned (callOn b ns ks body room) ≡ concernedFor k body (tradesOf (b .values)) (take (b .live) (tableOf ns ks))
+  unfolding concerned
+  at-type k e = ap (λ (j : MessageType). concernedFor j body (tradesOf (b .values)) (take (b .live) (tableOf ns ks))) e
+
+  target-trade : any (under (targetOf body)) (take (b .live) (tableOf ns ks)) ≡ true → targetTrade body (take (b .live) (tableOf ns ks)) < b .values .tradeCount
+  unfolding targetTrade
+  target-trade e =
+      let f = keep-first (under (targetOf body)) (take (b .live) (tableOf ns ks)) e in
+      let r = record-light (b .values) (f .0) (all-out (recordFine (b .values)) (f .1) (sure .records)) in
+      rw (f .3 .1) (r .0)
+
+  pub trade-known : concerned (callOn b ns ks body room) < b .values .tradeCount
+  trade-known = go (typeOf body) refl
+    where
+      by-par : onOrCc (typeOf body) ≡ true → concerned (callOn b ns ks body room) < b .values .tradeCount
+      by-par o =
+          let h = ltb-true (concerned (callOn b ns ks body room)) (length (tradesOf (b .values))) (and-left (ltb (concerned (callOn b ns ks body room)) (length (tradesOf (b .values)))) _ (facts .parEnough o)) in
+          omega (arith, h, short)
+
+      go : (k : MessageType) → typeOf body ≡ k → concerned (callOn b ns ks body room) < b .values .tradeCount
+      go On e = by-par (ap onOrCc e)
+      go Cc e = by-par (ap onOrCc e)
+      go Dk e = rw (at-type Dk e) (target-trade (facts .targetLive (ap ccOrDk e)))
+      go Cx e = clash (ap isCx e) (facts .notCancel)
+      go Other e = clash (ap isOther e) (facts .notOther)
+
+  pub trade-few : d .trade < tradesMax
+  trade-few = omega (arith, x .decided .trade (x .passes), trade-known, few-trades (b .values) (sure .values))
+
+  there : tradeAt (tradesOf (b .values)) (concerned (callOn b ns ks body room)) ≡ getD (b .values .trades) (concerned (callOn b ns ks body room)) noTrade
+  there = getD-take (b .values .tradeCount) (b .values .trades) (concerned (callOn b ns ks body room)) noTrade trade-known
+
+  -- what comes is no more than what stands open and goes
+  covers : broughtWeight body ≤ tradeAt (tradesOf (b .values)) (concerned (callOn b ns ks body room)) .openPar + weightOfRecords (taken (callOn b ns ks body room))
+  covers = go (typeOf body) refl
+    where
+      by-par : onOrCc (typeOf body) ≡ true
+          → broughtWeight body ≤ tradeAt (tradesOf (b .values)) (concerned (callOn b ns ks body room)) .openPar + weightOfRecords (taken (callOn b ns ks body room))
+      by-par o = leb-true (broughtWeight body) (tradeAt (tradesOf (b .values)) (concerned (callOn b ns ks body room)) .openPar + weightOfRecords (taken (callOn b ns ks body room)))
+          (and-right (ltb (concerned (callOn b ns ks body room)) (length (tradesOf (b .values)))) _ (facts .parEnough o))
+
+      go : (k : MessageType) → typeOf body ≡ k
+          → broughtWeight body ≤ tradeAt (tradesOf (b .values)) (concerned (callOn b ns ks body room)) .openPar + weightOfRecords (taken (callOn b ns ks body room))
+      go On e = by-par (ap onOrCc e)
+      go Cc e = by-par (ap onOrCc e)
+      go Dk e = omega (arith, nothing-brought body e)
+      go Cx e = clash (ap isCx e) (facts .notCancel)
+      go Other e = clash (ap isOther e) (facts .notOther)
+
+  pub trade-covers : d .brought ≤ getD (b .values .trades) (d .trade) noTrade .openPar + d .off
+  trade-covers = rw (x .decided .trade (x .passes), x .decided .off (x .passes), x .decided .brought (x .passes), sym there) covers
+
+  weight-few : weightOfRecords (taken (callOn b ns ks body room)) ≤ recordsMax * elevenDigitsMax
+  weight-few =
+      let w = weight-most (b .values) (taken (callOn b ns ks body room)) (ordered-keep (isTaken (targetOf body) (listed body)) (take (b .live) (tableOf ns ks)) (sure .ordered)) (all-keep (recordFine (b .values)) (isTaken (targetOf body) (listed body)) (take (b .live) (tableOf ns ks)) (sure .records)) in
+      let m : length (taken (callOn b ns ks body room)) ≤ length (take (b .live) (tableOf ns ks)) = keep-most _ (take (b .live) (tableOf ns ks)) in
+      omega (arith, w, m, size, within, few)
+
+  left-few : tradeAt (tradesOf (b .values)) (concerned (callOn b ns ks body room)) .openPar ≤ elevenDigitsMax
+  left-few = go (decLt (concerned (callOn b ns ks body room)) (length (tradesOf (b .values))))
+    where
+      go : Dec (concerned (callOn b ns ks body room) < length (tradesOf (b .values))) → tradeAt (tradesOf (b .values)) (concerned (callOn b ns ks body room)) .openPar ≤ elevenDigitsMax
+      go (yes h) =
+          left-most (holidaysOf (b .values)) 0 (concerned (callOn b ns ks body room)) (tradesOf (b .values)) (take (b .live) (tableOf ns ks)) (sure .pars)
+          (trades-fine (b .values) (sure .values)) h
+      go (no n) = rw (past-end (tradesOf (b .values)) (concerned (callOn b ns ks body room)) (omega (arith, n))) (omega arith)
+
+  pub trade-fits : getD (b .values .trades) (d .trade) noTrade .openPar + d .off ≤ 9000000000000000000
+  trade-fits = rw (x .decided .trade (x .passes), x .decided .off (x .passes), sym there) (omega (arith, weight-few, left-few))
+
+  -- ---- the table
+  pub movable : length (d .marks) ≡ recordsMax → Movable body ns ks (b .live) (d .marks)
+  movable l =
+      record {
+        paired = x .ready .paired;
+        within = within;
+        marks = omega (arith, l, within, few);
+        told = λ i h. x .decided .marked (x .passes) i (omega (arith, size, h));
+        zeros = zeros-are (drop (b .live) (tableOf ns ks)) (length ns - b .live) (length-drop (b .live) (tableOf ns ks) ∙ rw (length-table ns ks)) (sure .zeros);
+      }
+
+  abbrev after : List Pool
+  after = remaining body (take (b .live) (tableOf ns ks)) ++ bringing body (b .values .lastMessageId + 1) (d .trade)
+
+  live-is : liveMoved (callOn b ns ks body room) ≡ after
+  unfolding liveMoved
+  live-is = rw (x .decided .trade (x .passes))
+
+  pub after-fits : length after ≤ length ns
+  after-fits = omega (arith, ap length live-is, length-table ns ks, moved-fits (callOn b ns ks body room) ok sure)
+
+  pub moved-is : set (b .values .trades) (d .trade) (withOpenPar (getD (b .values .trades) (d .trade) noTrade) ((getD (b .values .trades) (d .trade) noTrade .openPar + d .off) - d .brought))
+      ≡ tradesMoved (callOn b ns ks body room)
+  unfolding tradesMoved
+  moved-is = rw (x .decided .trade (x .passes), x .decided .off (x .passes), x .decided .brought (x .passes), there)
+
+  pub filled-is : filled (length ns) after ≡ tableMoved (callOn b ns ks body room)
+  unfolding tableMoved
+  filled-is = rw (live-is, length-table ns ks)
+
+  pub live-after : length after ≡ length (liveMoved (callOn b ns ks body room))
+  live-after = sym (ap length live-is)
+
+-- ---- all that an accepted call leaves
+module _ (b : Book) (ns ks : List (List ℕ)) (body time out : List ℕ) (d : Decision) (x : Acceptable b ns ks body (length out) d) where
+  book-is : (moved : List Trade) (counted : Book) (n : ℕ) → moved ≡ tradesMoved (callOn b ns ks body (length out)) → n ≡ length (liveMoved (callOn b ns ks body (length out)))
+      → counted ≡ withCounters b body (Accepted (b .values .lastMessageId + 1))
+      → _≡_ {A = Book}
+      (record {
+        values =
+            record {
+              trades = moved;
+              tradeCount = counted .values .tradeCount;
+              holidays = counted .values .holidays;
+              holidayCount = counted .values .holidayCount;
+              subscriber = counted .values .subscriber;
+              connection = counted .values .connection;
+              limits = counted .values .limits;
+              lastMessageId = b .values .lastMessageId + 1;
+              outbound = counted .values .outbound;
+            };
+        line = counted .line;
+        live = n;
+      })
+      (bookAfter (callOn b ns ks body (length out)))
+  unfolding bookAfter withCounters
+  book-is moved counted n em en ec = rw (ec, em, en, said b ns ks body (length out) d x)
+
+  table-is : tableMoved (callOn b ns ks body (length out)) ≡ tableAfter (callOn b ns ks body (length out))
+  unfolding tableAfter
+  table-is = rw (said b ns ks body (length out) d x)
+
+  output-is : outputFor b body (Accepted (b .values .lastMessageId + 1)) time out ≡ outputAfter (callOn b ns ks body (length out)) time out
+  unfolding outputAfter
+  output-is = rw (said b ns ks body (length out) d x)
+
+  pub accepted-steps : (moved : List Trade) (counted : Book) (n : ℕ) (number : Inbound) (ns′ ks′ : List (List ℕ)) (out′ : List ℕ)
+      → moved ≡ set (b .values .trades) (d .trade) (withOpenPar (getD (b .values .trades) (d .trade) noTrade) ((getD (b .values .trades) (d .trade) noTrade .openPar + d .off) - d .brought))
+      → number ≡ arrived body
+      → ((body′ : List ℕ) → number ≡ arrived body′ → counted ≡ withCounters b body′ (Accepted (b .values .lastMessageId + 1)))
+      → n ≡ length (remaining body (take (b .live) (tableOf ns ks)) ++ bringing body (b .values .lastMessageId + 1) (d .trade))
+      → tableOf ns′ ks′ ≡ filled (length ns) (remaining body (take (b .live) (tableOf ns ks)) ++ bringing body (b .values .lastMessageId + 1) (d .trade))
+      → out′ ≡ outputFor b body (Accepted (b .values .lastMessageId + 1)) time out
+      → Steps b ns ks body time out
+      (record {
+        book =
+            record {
+              values =
+                  record {
+                    trades = moved;
+                    tradeCount = counted .values .tradeCount;
+                    holidays = counted .values .holidays;
+                    holidayCount = counted .values .holidayCount;
+                    subscriber = counted .values .subscriber;
+                    connection = counted .values .connection;
+                    limits = counted .values .limits;
+                    lastMessageId = b .values .lastMessageId + 1;
+                    outbound = counted .values .outbound;
+                  };
+              line = counted .line;
+              live = n;
+            };
+        answer = Accepted (b .values .lastMessageId + 1);
+      })
+      ns′ ks′ out′
+  accepted-steps moved counted n number ns′ ks′ out′ em ea ec en et eo =
+      record {
+        answer = sym (said b ns ks body (length out) d x);
+        book = book-is moved counted n (em ∙ moved-is b ns ks body (length out) d x) (en ∙ live-after b ns ks body (length out) d x) (ec body ea);
+        table = et ∙ filled-is b ns ks body (length out) d x ∙ table-is;
+        output = eo ∙ output-is;
+      }

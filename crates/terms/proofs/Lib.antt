@@ -1,3 +1,0 @@
-pub mod Agreeing
-pub mod Searching
-pub mod Weights

@@ -1,3 +1,0 @@
-pub mod Compared
-pub mod Named
-pub mod Deciding
