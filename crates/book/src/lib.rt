@@ -21,7 +21,7 @@ pub const ID_MAX: usize = trade_id::ID_LENGTH_MAX;
 // The room that 44 asks for: a TX and an AA.
 pub const ROOM_LEAST: usize = acknowledgment::TX_LENGTH + acknowledgment::AA_LENGTH;
 
-// A trade. Only the first length bytes of id are its ID; price has nine decimals, par and left are cents, left is the open par.
+// A trade. Only the first length bytes of id are its ID; price has nine decimals, par and open par are cents.
 pub struct Trade {
     pub id: [u8; ID_MAX],
     pub length: usize,
@@ -43,7 +43,7 @@ pub struct Limits {
     pub least: u64,
 }
 
-// What opening lends: the first count trades and the first days holidays count; last is the last message ID used, outbound the last outbound number.
+// What opening lends: of trades and holidays the first so many count; outbound is the last outbound number used.
 pub struct Values {
     pub trades: [Trade; TRADES_MAX],
     pub tradeCount: usize,

@@ -34,16 +34,8 @@ not-whole (Whole place n) (inr e) = absurd (omega (arith, e))
 not-whole Broken h = refl
 not-whole Absent h = refl
 
-unnamed : (body : List ℕ) (id : TradeId) → isWhole id ≡ false → (t : Trade) → isNamedBy body id t ≡ false
-unnamed body (Whole place n) e t = absurd (let z : true ≡ false = e in let w : _≡_ {A = ℕ} 0 1 = cc in omega arith)
-unnamed body Broken e t = refl
-unnamed body Absent e t = refl
-
 module _ (body : List ℕ) (ts : List Trade) where
   -- ---- the trade that an ID names
-  pub named-none : (id : TradeId) → id ≡ idIn body → isWhole id ≡ false → length ts ≡ namedTrade body ts
-  named-none id e w = none-passes (λ (t : Trade) (left : ℕ). isNamedBy body (idIn body) t) (λ t left. ap (λ (x : TradeId). isNamedBy body x t) (sym e) ∙ unnamed body id w t) ts
-
   pub named-whole : (place n : ℕ) → idIn body ≡ Whole place n → firstTrade (λ (t : Trade) (left : ℕ). isNamedBy body (Whole place n) t) 0 ts (openPars ts) ≡ namedTrade body ts
   named-whole place n e = ap (λ (id : TradeId). firstTrade (λ (t : Trade) (left : ℕ). isNamedBy body id t) 0 ts (openPars ts)) (sym e)
 

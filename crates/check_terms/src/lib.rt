@@ -1,4 +1,4 @@
-// Trades' terms: whether a message's agree with them, with which trades they do, and what the message brings to one.
+// Trades' terms: whether a message's agree with them, which trade an ID names and where an ON goes, and checks 31 and 32.
 use book::Reason;
 use book::Trade;
 use book::Values;

@@ -1,4 +1,4 @@
-// An answer in two numbers, and the answer that two numbers say.
+// Numbers for C and Rust: an answer in two numbers and the answer that two numbers say, and numbers written into a lent slice.
 use book::Answer;
 use book::Reason;
 ghost use mathlib.Core.Path.{_≡_};

@@ -1,4 +1,5 @@
-// What the header of a body says: type, sequence number, trade ID, version, fillers and parties (checks 10, 11, 13 to 15 and 17).
+// What the header of a body says, and each test of it alone: length (10), sequence (11), type (13), version (14), fillers (15), amounts (16), parties (17),
+// a CC's replacements and settlement (22, 23), a DK's reason and trade ID (24, 25), an ON's millions (33).
 use book::Reason;
 use book::Trade;
 use book::Values;

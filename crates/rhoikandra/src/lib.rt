@@ -155,14 +155,14 @@ pub extern "C" fn rhoikandra_figures(image: &[u64], pools: &[Pool], trade: usize
 }
 
 // The tally goes in and comes back; it stands beside the frame call.
-fn tally_after(body: &[u8], answer: Answer, tally: Tally) -> Tally
-    ensures { λ r. ⌜ r ≡ tallyAfter (now (body .entry)) answer tally ⌝ }
+fn tally_after(body: &[u8], said: Answer, tally: Tally) -> Tally
+    ensures { λ r. ⌜ r ≡ tallyAfter (now (body .entry)) said tally ⌝ }
 {
-    if answers::is_silent(answer) {
+    if answers::is_silent(said) {
         return tally;
     }
     let kind = header::message_type(body);
-    let outcome = answers::outcome_of(answer);
+    let outcome = answers::outcome_of(said);
     tally::raise(tally, kind, outcome)
 }
 

@@ -23,7 +23,7 @@ use Rattle.book.proofs.Passed.{fine}
 use Rattle.book.proofs.Reached.{is-sound, moved-fits}
 use Rattle.rows_move.proofs.Taking.{keep-most}
 use Rattle.rows_step.proofs.Bounds.{zeros-are}
-use Rattle.rows_enough.specs.Staged.{bringsMax}
+use Rattle.rows_enough.specs.FirstRows.{bringsMax}
 use Rattle.rows_enough.proofs.Sound.{Padded, whole, same-live, same-sound}
 use Rattle.rows_enough.proofs.Alike.{on, live-alike, answer-alike, book-alike, output-alike}
 

@@ -10,7 +10,7 @@ use Rattle.lists.proofs.Tables.{take-tab, tab-same}
 use Rattle.book.specs.declared.Pool.{Pool}
 use Rattle.rows.specs.Rows.{recordAt, tableOf}
 use Rattle.rows.proofs.Rows.{length-table, take-table, drop-table}
-use Rattle.rows_enough.specs.Staged.{stored}
+use Rattle.rows_enough.specs.FirstRows.{stored}
 
 -- the table of the first n rows
 pub table-take : (ns ks : List (List ℕ)) (n : ℕ) → n ≤ length ns → tableOf (take n ns) (take n ks) ≡ take n (tableOf ns ks)

@@ -14,7 +14,7 @@ use Rattle.book.specs.Soundness.{isSound}
 use Rattle.rows.specs.Rows.{tableOf}
 use Rattle.calls.specs.declared.Figures.{Figures}
 use Rattle.calls.specs.Figures.{unknown, figuresOf}
-use Rattle.rows_enough.specs.Staged.{rowsOf}
+use Rattle.rows_enough.specs.FirstRows.{rowsOf}
 use Rattle.rows_enough.specs.Moving.{SaysRows}
 use Rattle.rows_enough.proofs.Sound.{Padded, same-live, same-sound}
 use Rattle.rows_enough.proofs.Staging.{counted, test-unsound, test-padded, staged-rows}

@@ -18,11 +18,11 @@ use Rattle.book.specs.Opening.{recordsMax}
 use Rattle.book.specs.Soundness.{isNone, isSound}
 use Rattle.book.proofs.ListLaws.{or-split, neither-left}
 use Rattle.rows.specs.Rows.{tableOf}
-use Rattle.rows_enough.specs.Staged.{wanted, rowsOf, Staged}
+use Rattle.rows_enough.specs.FirstRows.{wanted, rowsOf, FirstRows}
 use Rattle.rows_enough.proofs.Sound.{Padded, too-long, not-zeros}
 use Rattle.rows_enough.proofs.Rows.{table-take}
 
--- a part of as many rows as are staged
+-- a part of as many rows as are loaded
 pub counted : {A : Type 0} (n m : ℕ) (xs : List A) → n ≡ m → m ≤ length xs → n ≡ length (take n xs)
 counted n m xs e h = sym (length-take-le n xs (omega arith))
 
@@ -40,7 +40,7 @@ neither-right false b e = e
 neither-right true b e = clash refl e
 
 -- where the live records and n more are wanted, as far as a table has them
-module _ (b : Book) (want n : ℕ) (w : min recordsMax want ≡ min recordsMax (b .live + n)) (ns ks : List (List ℕ)) (records : ℕ) (rest : Bool) (t : List Pool) (s : Staged want ns ks records rest t) where
+module _ (b : Book) (want n : ℕ) (w : min recordsMax want ≡ min recordsMax (b .live + n)) (ns ks : List (List ℕ)) (records : ℕ) (rest : Bool) (t : List Pool) (s : FirstRows want ns ks records rest t) where
   abbrev m : ℕ
   m = rowsOf records want
 

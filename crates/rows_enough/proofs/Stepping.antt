@@ -22,7 +22,7 @@ use Rattle.calls.specs.declared.Stepped.{Stepped}
 use Rattle.rows_step.specs.Frames.{Steps, Frames}
 use Rattle.rows_step.proofs.Answering.{unsound-answer}
 use Rattle.rows_enough.specs.declared.Moved.{Moved}
-use Rattle.rows_enough.specs.Staged.{bringsMax, wanted, rowsOf, fromOf, toOf, stored, Staged}
+use Rattle.rows_enough.specs.FirstRows.{bringsMax, wanted, rowsOf, fromOf, toOf, stored, FirstRows}
 use Rattle.calls.specs.Calls.{Framed}
 use Rattle.rows_enough.specs.Moving.{Moves, StepsRows}
 use Rattle.rows_enough.proofs.Sound.{Padded}
@@ -85,7 +85,7 @@ module _ (b : Book) (body time out : List ℕ) where
       long-keys : length (js ++ drop rows ks) ≡ length ks
       long-keys = length-front ks js rows lk
 
-      rows-move : (t : List Pool) → Staged (wanted (b .live) (length body)) ns ks records rest t
+      rows-move : (t : List Pool) → FirstRows (wanted (b .live) (length body)) ns ks records rest t
           → Moves b t body time out (record { stepped = r; from = from; to = to }) (ms ++ drop rows ns) (js ++ drop rows ks) out′
       rows-move t s =
           record {

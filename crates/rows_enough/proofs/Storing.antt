@@ -14,7 +14,7 @@ use Rattle.book.specs.Checks.{Call, answerOf}
 use Rattle.message_type.specs.Questions.{isOn}
 use Rattle.book.specs.Step.{accepted, bookAfter, tableAfter}
 use Rattle.rows.specs.Rows.{recordAt, tableOf}
-use Rattle.rows_enough.specs.Staged.{bringsMax, fromOf, toOf, stored}
+use Rattle.rows_enough.specs.FirstRows.{bringsMax, fromOf, toOf, stored}
 use Rattle.rows_enough.proofs.Sound.{Padded}
 use Rattle.rows_enough.proofs.Alike.{on}
 use Rattle.rows_enough.proofs.Calls.{same-answer, same-book, table-padded}

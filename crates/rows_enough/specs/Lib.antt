@@ -1,2 +1,2 @@
-pub mod Staged
+pub mod FirstRows
 pub mod Moving

@@ -13,7 +13,7 @@ use Rattle.book.specs.Step.{bookAfter, tableAfter, outputAfter, callWith}
 use Rattle.calls.specs.declared.Figures.{Figures}
 use Rattle.rows_enough.specs.declared.Moved.{Moved}
 use Rattle.rows_enough.specs.declared.Cleared.{Cleared}
-use Rattle.rows_enough.specs.Staged.{wanted, Staged, stored}
+use Rattle.rows_enough.specs.FirstRows.{wanted, FirstRows, stored}
 use Rattle.calls.specs.Calls.{Says}
 
 -- a frame call on rows of a table: with the records that it names taken from the rows, the table is that after the call
@@ -28,13 +28,13 @@ pub record Moves (b : Book) (pools : List Pool) (body time out : List ℕ) (r : 
   pub stagedKeys : r .to ≤ length ks′
 
 pub record StepsRows (b : Book) (ns ks : List (List ℕ)) (records : ℕ) (rest : Bool) (body time out : List ℕ) (r : Moved) (ns′ ks′ : List (List ℕ)) (out′ : List ℕ) : Type 0 where
-  pub moves : (pools : List Pool) → Staged (wanted (b .live) (length body)) ns ks records rest pools → Moves b pools body time out r ns′ ks′ out′
+  pub moves : (pools : List Pool) → FirstRows (wanted (b .live) (length body)) ns ks records rest pools → Moves b pools body time out r ns′ ks′ out′
   pub numbers : length ns′ ≡ length ns
   pub keys : length ks′ ≡ length ks
 
 -- a trade's figures from rows of a table
 pub record SaysRows (b : Book) (ns ks : List (List ℕ)) (records : ℕ) (rest : Bool) (trade : ℕ) (r : Figures) : Type 0 where
-  pub says : (pools : List Pool) → Staged (b .live) ns ks records rest pools → Says b pools trade r
+  pub says : (pools : List Pool) → FirstRows (b .live) ns ks records rest pools → Says b pools trade r
 
 -- an opening of a table of so many records: whether it passes, the opened book, and how many records are to be zeros
 pub record OpensRecords (v : Values) (records : ℕ) (r : Cleared) : Type 0 where

@@ -11,7 +11,7 @@ ghost use mathlib.Core.Path.{_≡_};
 ghost use Prim.Native.Nat.{_-_, _≤_, min};
 ghost use lib.ListN.{length};
 ghost use Rattle.book.specs.Opening.{recordsMax};
-ghost use Rattle.rows_enough.specs.Staged.{wanted, rowsOf, fromOf, toOf};
+ghost use Rattle.rows_enough.specs.FirstRows.{wanted, rowsOf, fromOf, toOf};
 ghost use Rattle.rows_enough.specs.Moving.{StepsRows, SaysRows, OpensRecords};
 
 // What a frame call on rows gives back: the book and the answer, and the records that changed, from one up to another.
@@ -55,7 +55,7 @@ fn rows_most(want: usize) -> usize
     book::RECORDS_MAX
 }
 
-// How many rows of a table are staged, where so many are wanted.
+// How many rows of a table are loaded, where so many are wanted.
 pub fn rows_of(records: usize, want: usize) -> usize
     ensures { λ r. ⌜ r ≡ rowsOf records want ⌝ }
 {

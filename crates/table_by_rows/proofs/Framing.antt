@@ -12,10 +12,10 @@ use Rattle.book.specs.declared.Book.{Book}
 use Rattle.book.specs.declared.Pool.{Pool}
 use Rattle.book.specs.Opening.{recordsMax}
 use Rattle.rows_enough.specs.declared.Moved.{Moved}
-use Rattle.rows_enough.specs.Staged.{wanted, rowsOf, stored}
+use Rattle.rows_enough.specs.FirstRows.{wanted, rowsOf, stored}
 use Rattle.rows_enough.specs.Moving.{Moves, StepsRows}
 use Rattle.calls.specs.Calls.{Framed}
-use Rattle.table_by_rows.specs.Stages.{Stages}
+use Rattle.table_by_rows.specs.LoadsRows.{LoadsRows}
 
 -- a part of a tape is as long as its places are apart
 pub part-size : (tape : List ℕ) (from to : ℕ) → from ≤ to → to ≤ length tape → length (part tape from (to - from)) ≡ to - from
@@ -32,7 +32,7 @@ pub rows-enough : (records want : ℕ) (rows : ℕ) → rows ≡ recordsMax → 
 rows-enough records want rows e = omega (arith, e, min-le-right records (min 4096 want), min-le-left 4096 want)
 
 module _ (b : Book) (pools : List Pool) (ns ks ns₁ ks₁ ns₂ ks₂ : List (List ℕ)) (rest : Bool) (body time out : List ℕ) (r : Moved) (out′ : List ℕ) (bytes : ℕ) (size : length body ≡ bytes)
-    (staged : Stages pools (wanted (b .live) bytes) ns ks rest ns₁ ks₁) (stepped : StepsRows b ns₁ ks₁ (length pools) rest body time out r ns₂ ks₂ out′) where
+    (staged : LoadsRows pools (wanted (b .live) bytes) ns ks rest ns₁ ks₁) (stepped : StepsRows b ns₁ ks₁ (length pools) rest body time out r ns₂ ks₂ out′) where
   pub moves : Moves b pools body time out r ns₂ ks₂ out′
   moves = stepped .moves pools (rw size (record { size = refl; rows = staged .rows; others = staged .others }))
 

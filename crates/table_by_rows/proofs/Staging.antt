@@ -13,8 +13,8 @@ use Rattle.rows.specs.Rows.{rowOf, keyOf, tableOf}
 use Rattle.table_load.specs.Fit.{Fit}
 use Rattle.table_load.specs.Loaded.{loadTo}
 use Rattle.table_load.proofs.Loaded.{length-load, load-table}
-use Rattle.rows_enough.specs.Staged.{rowsOf}
-use Rattle.table_by_rows.specs.Stages.{Stages}
+use Rattle.rows_enough.specs.FirstRows.{rowsOf}
+use Rattle.table_by_rows.specs.LoadsRows.{LoadsRows}
 
 pub rows-within : (records want : ℕ) → rowsOf records want ≤ records
 rows-within records want = min-le-left records (min 4096 want)
@@ -24,7 +24,7 @@ module _ (pools : List Pool) (want : ℕ) (ns ks ns′ ks′ : List (List ℕ)) 
   rows = rowsOf (length pools) want
 
   pub stages : (r : Bool) → rows ≤ length ns → rows ≤ length ks
-      → (ns′ ≡ loadTo rowOf pools rows ns) × (ks′ ≡ loadTo keyOf pools rows ks) × ((k : ℕ) → k < rows → Fit (getD pools k noPool)) → r ≡ all isNone (drop rows pools) → Stages pools want ns ks r ns′ ks′
+      → (ns′ ≡ loadTo rowOf pools rows ns) × (ks′ ≡ loadTo keyOf pools rows ks) × ((k : ℕ) → k < rows → Fit (getD pools k noPool)) → r ≡ all isNone (drop rows pools) → LoadsRows pools want ns ks r ns′ ks′
   stages r hn hk h e = record {
     rows = ap (λ (ms : List (List ℕ)). take rows (tableOf ms ks′)) (h .0) ∙ ap (λ (js : List (List ℕ)). take rows (tableOf (loadTo rowOf pools rows ns) js)) (h .1) ∙ load-table pools rows ns ks (rows-within (length pools) want) hn hk (h .2);
     others = e;

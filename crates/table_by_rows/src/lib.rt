@@ -6,15 +6,20 @@ use rows_enough::Moved;
 ghost use Prim.Native.Nat.{_-_, _≤_};
 ghost use lib.ListN.{length};
 ghost use Rattle.lists.specs.Lists.{part};
-ghost use Rattle.rows_enough.specs.Staged.{wanted, rowsOf};
+ghost use Rattle.rows_enough.specs.FirstRows.{wanted, rowsOf};
 ghost use Rattle.rows_enough.specs.Moving.{StepsRows};
 ghost use Rattle.calls.specs.Calls.{Framed};
-ghost use Rattle.table_by_rows.specs.Stages.{Stages};
+ghost use Rattle.table_by_rows.specs.LoadsRows.{LoadsRows};
 
 // Copies the records that a call works on into the rows, where so many are wanted, and tells whether all others are zeros.
-pub fn stage(pools: &[Pool], want: usize, numbers: &mut [[u64; 6]], keys: &mut [[u8; 22]]) -> bool
+pub fn load_rows(
+    pools: &[Pool],
+    want: usize,
+    numbers: &mut [[u64; 6]],
+    keys: &mut [[u8; 22]],
+) -> bool
     requires { ⌜ (rowsOf (length (now pools)) want ≤ length (now numbers)) × (rowsOf (length (now pools)) want ≤ length (now keys)) ⌝ }
-    ensures { λ r. ⌜ Stages (now (pools .entry)) want (now (numbers .entry)) (now (keys .entry)) r (now (numbers .exit)) (now (keys .exit)) ⌝ }
+    ensures { λ r. ⌜ LoadsRows (now (pools .entry)) want (now (numbers .entry)) (now (keys .entry)) r (now (numbers .exit)) (now (keys .exit)) ⌝ }
 {
     let rows = rows_enough::rows_of(pools.len(), want);
     table_load::load(pools, rows, numbers, keys);
@@ -64,7 +69,7 @@ pub fn step_with(
     requires { ⌜ (rowsOf (length (now pools)) (wanted (book .live) (to - from)) ≤ length (now numbers)) × (rowsOf (length (now pools)) (wanted (book .live) (to - from)) ≤ length (now keys)) × (from ≤ to) × (to ≤ length (now tape)) ⌝ }
     ensures { λ r. ⌜ Framed book (now (pools .entry)) (part (now (tape .entry)) from (to - from)) time (now (out .entry)) r (now (pools .exit)) (now (out .exit)) ⌝ }
 {
-    let rest = stage(
+    let rest = load_rows(
         pools,
         rows_enough::rows_wanted(book, from, to),
         numbers,

@@ -9,8 +9,8 @@ use Rattle.book.specs.declared.Pool.{Pool}
 use Rattle.calls.specs.declared.Figures.{Figures}
 use Rattle.rows_enough.specs.Moving.{SaysRows}
 use Rattle.calls.specs.Calls.{Says}
-use Rattle.table_by_rows.specs.Stages.{Stages}
+use Rattle.table_by_rows.specs.LoadsRows.{LoadsRows}
 
 module _ (b : Book) (pools : List Pool) (ns ks ns₁ ks₁ : List (List ℕ)) (rest : Bool) (trade : ℕ) (r : Figures) where
-  pub says-figures : Stages pools (b .live) ns ks rest ns₁ ks₁ → SaysRows b ns₁ ks₁ (length pools) rest trade r → Says b pools trade r
+  pub says-figures : LoadsRows pools (b .live) ns ks rest ns₁ ks₁ → SaysRows b ns₁ ks₁ (length pools) rest trade r → Says b pools trade r
   says-figures staged told = told .says pools (record { size = refl; rows = staged .rows; others = staged .others })

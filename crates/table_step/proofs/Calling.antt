@@ -57,7 +57,7 @@ use Rattle.table_by_rows.proofs.step_with as sw
 use Rattle.table_by_rows.proofs.step_with.Symbol.{name as #table-by-rows·step-with}
 use Rattle.slice_laws.proofs.Blanks.{blanks, length-blanks, RowR, zeros, rowVal, rows-typed, rows-out}
 use Rattle.slice_laws.proofs.Scratch.{repeatVal, elems-room}
-use Rattle.rows_enough.specs.Staged.{wanted, rowsOf}
+use Rattle.rows_enough.specs.FirstRows.{wanted, rowsOf}
 use Rattle.table_step.proofs.step_many as f
 
 abbrev Rows : Type 0

@@ -7,7 +7,7 @@ ghost use Prim.Native.Nat.{_-_, _≤_};
 ghost use lib.Dec.{leb};
 ghost use lib.ListN.{length};
 ghost use Rattle.lists.specs.Lists.{part};
-ghost use Rattle.rows_enough.specs.Staged.{wanted, rowsOf};
+ghost use Rattle.rows_enough.specs.FirstRows.{wanted, rowsOf};
 ghost use Rattle.calls.specs.Calls.{Framed};
 
 // How many rows a call clears where its live pools and what a message brings are few.

@@ -1,3 +1,4 @@
+-- A silent refusal leaves the tally, and every other answer raises its cell.
 use Rattle.rhoikandra.proofs.Tallying.{stays, raises}
 use borrow.Author.Needs.{needs}
 use Rattle.rhoikandra.proofs.tally_after.Statement.{statement}
@@ -7,7 +8,7 @@ is-silent-requires : tie.Need-is-silent-requires
 is-silent-requires c κs = search needs
 
 returns : tie.Need-returns
-returns c = stays (c .before .before .before .args .body .now) (c .before .before .before .args .answer) _ _ (c .before .is-silent .ensures) (c .if1 .taken)
+returns c = stays (c .before .before .before .args .body .now) (c .before .before .before .args .said) _ _ (c .before .is-silent .ensures) (c .if1 .taken)
 
 message-type-requires : tie.Need-message-type-requires
 message-type-requires c κs = search needs
@@ -19,7 +20,7 @@ raise-requires : tie.Need-raise-requires
 raise-requires c κs = search needs
 
 returns-2 : tie.Need-returns-2
-returns-2 c = raises (c .before .before .before .before .before .before .args .body .now) (c .before .before .before .before .before .before .args .answer) _ _ (c .before .before .before .before .is-silent .ensures) (c .before .before .before .if1 .left) _ _ _ (c .before .before .message-type .ensures) (c .before .outcome-of .ensures) (c .raise .ensures)
+returns-2 c = raises (c .before .before .before .before .before .before .args .body .now) (c .before .before .before .before .before .before .args .said) _ _ (c .before .before .before .before .is-silent .ensures) (c .before .before .before .if1 .left) _ _ _ (c .before .before .message-type .ensures) (c .before .outcome-of .ensures) (c .raise .ensures)
 
 pub tally-after-spec : {M : Type 1} → statement M
 tally-after-spec =

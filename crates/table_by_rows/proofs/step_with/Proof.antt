@@ -1,5 +1,5 @@
--- `step_with` meets its contract, by a walk of its MIR with four calls: the rows that the message wants are counted, the records are staged, the engine steps on the rows, and the records that moved are written back.
--- The slices of rows are lent on for each call. The table is lent to `stage` and then handed to `store` for good, and the output is handed to the step on rows.
+-- `step_with` meets its contract, by a walk of its MIR with four calls: the rows that the message wants are counted, the records are loaded, the engine steps on the rows, and the records that moved are written back.
+-- The slices of rows are lent on for each call. The table is lent to `load_rows` and then handed to `store` for good, and the output is handed to the step on rows.
 use mathlib.Core.Path.{_≡_, refl, sym, _∙_, ap, subst}
 use Prim.Native.Nat.{ℕ, _-_, _<_, _≤_, _^_}
 use mathlib.Core.Bool.{Bool}
@@ -47,20 +47,20 @@ use Rattle.book.specs.declared.Pool.{Pool}
 use Rattle.calls.specs.declared.Stepped.{Stepped}
 use Rattle.table_load.proofs.Row.{R}
 use Rattle.rows_enough.specs.declared.Moved.{Moved}
-use Rattle.rows_enough.specs.Staged.{wanted, rowsOf, stored}
+use Rattle.rows_enough.specs.FirstRows.{wanted, rowsOf, stored}
 use Rattle.rows_enough.specs.Moving.{StepsRows}
 use Rattle.calls.specs.Calls.{Framed}
-use Rattle.table_by_rows.specs.Stages.{Stages}
+use Rattle.table_by_rows.specs.LoadsRows.{LoadsRows}
 use Rattle.table_by_rows.proofs.Framing.{part-size, storable, framed}
 use Rattle.table_by_rows.proofs.Values.{BookR, bookVal, bookVals, book-tells, book-makes, book-typed, SteppedR, steppedVal, steppedVals, stepped-makes, stepped-typed, MovedR, movedVal, moved-typed, moved-is, moved-its, stepped-of, from-fits, to-fits, TimeR, timeVal, timeVals, time-tells, time-makes, time-typed}
 use Rattle.rows_enough.proofs.rows_wanted as wa
 use Rattle.rows_enough.proofs.rows_wanted.Symbol as wanted-def
 use Rattle.rows_enough.proofs.rows_wanted.Symbol.{name as #rows-enough·rows-wanted}
 use Rattle.rows_enough.proofs.rows_wanted.Met as wanted-thm
-use Rattle.table_by_rows.proofs.stage as sg
-use Rattle.table_by_rows.proofs.stage.Symbol as stage-def
-use Rattle.table_by_rows.proofs.stage.Symbol.{name as #table-by-rows·stage}
-use Rattle.table_by_rows.proofs.stage.Met as stage-thm
+use Rattle.table_by_rows.proofs.load_rows as sg
+use Rattle.table_by_rows.proofs.load_rows.Symbol as stage-def
+use Rattle.table_by_rows.proofs.load_rows.Symbol.{name as #table-by-rows·load-rows}
+use Rattle.table_by_rows.proofs.load_rows.Met as stage-thm
 use Rattle.table_by_rows.proofs.step_part_rows as sp
 use Rattle.table_by_rows.proofs.step_part_rows.Symbol as step-def
 use Rattle.table_by_rows.proofs.step_part_rows.Symbol.{name as #table-by-rows·step-part-rows}
@@ -85,8 +85,8 @@ abbrev Arg : Type 0
 Arg = Book × (RefT (List Pool) × (RefT Rows × (RefT Rows × (RefT (List ℕ) × (ℕ × (ℕ × (List ℕ × (RefT (List ℕ) × Unit {0}))))))))
 
 -- the last values that each call says
-abbrev Staged : Type 0
-Staged = Unit {0} × (Unit {0} × (Rows × (Rows × Unit {0})))
+abbrev FirstRows : Type 0
+FirstRows = Unit {0} × (Unit {0} × (Rows × (Rows × Unit {0})))
 
 abbrev Stepping : Type 0
 Stepping = Unit {0} × (Rows × (Rows × (Unit {0} × (Unit {0} × (Unit {0} × (Unit {0} × (Unit {0} × (Unit {0} × (List ℕ × Unit {0})))))))))
@@ -251,7 +251,7 @@ module _ {M : Type 1} (𝓤 : URA M) (H : Heap 𝓤) (A : Atoms 𝓤) (W : Given
   said-wanted : (r : ℕ) → ent 𝓤 (ensured 𝓤 H A wa.ended (wa.clauses 𝓤 H A mem run) tt (k, (start, (past, tt))) tt r) (fact 𝓤 (r ≡ want))
   said-wanted r = exE 𝓤 _ (λ zs. snd∗ 𝓤 (sem 𝓤 H A (lasts wa.ended tt (k, (start, (past, tt))) zs)) (fact 𝓤 (r ≡ want)))
 
-  -- what the triple of `stage` binds outside, and that the caller has what it asks: the table is lent for ν, and the rows for ν₂ and ν₃
+  -- what the triple of `load_rows` binds outside, and that the caller has what it asks: the table is lent for ν, and the rows for ν₂ and ν₃
   abbrev stage-args : GName → GName → GName → RefT (List Pool) × (ℕ × (RefT Rows × (RefT Rows × Unit {0})))
   stage-args δ δ₂ δ₃ = (x δ ys, (want, (y δ₂ us, (z δ₃ vs, tt))))
 
@@ -340,7 +340,7 @@ module _ {M : Type 1} (𝓤 : URA M) (H : Heap 𝓤) (A : Atoms 𝓤) (W : Given
         nothing ! $ move ! (2 ∷ 0 ∷ []) $ fjoin ! $ move ! (1 ∷ 0 ∷ []) $ fjoin ! $ owned ! usize (Is usize) (uint-makes 𝓤 H A W w64) (r .to) _ (refl, gp) $ fjoin ! $
         owned ! usize (Is usize) (uint-makes 𝓤 H A W w64) (r .from) _ (refl, gs) $ fjoin ! $ move ! (1 ∷ 0 ∷ []) $ fjoin ! $ done !
 
-  module _ (𝓣 : Tables 𝓤 H) (known-wanted : Triple 𝓤 (𝓣 .C #rows-enough·rows-wanted) (Wanted 𝓤 H A mem run)) (known-stage : Triple 𝓤 (𝓣 .C #table-by-rows·stage) (Stage 𝓤 H A mem run)) (known-step : Triple 𝓤 (𝓣 .C #table-by-rows·step-part-rows) (Step 𝓤 H A mem run)) (known-store : Triple 𝓤 (𝓣 .C #table-store·store) (Store 𝓤 H A mem run))
+  module _ (𝓣 : Tables 𝓤 H) (known-wanted : Triple 𝓤 (𝓣 .C #rows-enough·rows-wanted) (Wanted 𝓤 H A mem run)) (known-stage : Triple 𝓤 (𝓣 .C #table-by-rows·load-rows) (Stage 𝓤 H A mem run)) (known-step : Triple 𝓤 (𝓣 .C #table-by-rows·step-part-rows) (Step 𝓤 H A mem run)) (known-store : Triple 𝓤 (𝓣 .C #table-store·store) (Store 𝓤 H A mem run))
       (gk : Is BookR k (bookVals k)) (room : Room R (length ys)) (room₂ : Room N (length us)) (room₃ : Room K (length vs)) (room₄ : Room u8 (length ts)) (gs : start < 2 ^ 64) (gp : past < 2 ^ 64) (gt : Is TimeR time (timeVals time)) (room₅ : Room u8 (length os))
       (within : (rowsOf (length ys) want ≤ length us) × (rowsOf (length ys) want ≤ length vs) × (start ≤ past) × (past ≤ length ts)) where
     size : length frame-body ≡ past - start
@@ -354,7 +354,7 @@ module _ {M : Type 1} (𝓤 : URA M) (H : Heap 𝓤) (A : Atoms 𝓤) (W : Given
       abbrev Lasting : List (Item 𝓤)
       Lasting = ‵ (fat fullShare (τ 9) l₉ 0 s₅) ∷ ‵ (fdies (τ 9) l₉) ∷ ‵ (fat fullShare (τ 8) l₈ 0 (timeVal time)) ∷ ‵ (fdies (τ 8) l₈) ∷ ‵ (fat fullShare (τ 7) l₇ 0 (vint w64 past)) ∷ ‵ (fdies (τ 7) l₇) ∷ ‵ (fat fullShare (τ 6) l₆ 0 (vint w64 start)) ∷ ‵ (fdies (τ 6) l₆) ∷ ‵ (fat fullShare (τ 5) l₅ 0 s₄) ∷ ‵ (fdies (τ 5) l₅) ∷ ‵ (fat fullShare (τ 4) l₄ 0 (s₃ (length vs))) ∷ ‵ (fdies (τ 4) l₄) ∷ ‵ (fat fullShare (τ 3) l₃ 0 (s₂ (length us))) ∷ ‵ (fdies (τ 3) l₃) ∷ ‵ (fat fullShare (τ 2) l₂ 0 s) ∷ ‵ (fdies (τ 2) l₂) ∷ ‵ (fat fullShare (τ 1) l₁ 0 (bookVal k)) ∷ ‵ (fdies (τ 1) l₁) ∷ ‵ (froom (τ 0) l₀ 0) ∷ ‵ (fdies (τ 0) l₀) ∷ []
 
-      module _ (rest : Bool) (ns ks : Rows) (staged : Stages ys want us vs rest ns ks) (ln : length ns ≡ length us) (lk : length ks ≡ length vs) where
+      module _ (rest : Bool) (ns ks : Rows) (staged : LoadsRows ys want us vs rest ns ks) (ln : length ns ≡ length us) (lk : length ks ≡ length vs) where
         module _ (r : Moved) (gr : Is MovedR r (movedVal r ∷ [])) (ns₂ ks₂ : Rows) (ws : List ℕ) (stepped : StepsRows k ns ks (length ys) rest frame-body time os r ns₂ ks₂ ws) (ln₂ : length ns₂ ≡ length ns) (lk₂ : length ks₂ ≡ length ks) (lw : length ws ≡ length os) where
           -- the context where the records that moved are written back
           abbrev AtStore : List (Item 𝓤)
@@ -471,7 +471,7 @@ module _ {M : Type 1} (𝓤 : URA M) (H : Heap 𝓤) (A : Atoms 𝓤) (W : Given
         assigns ! (agg ! (and-then ! (load ! (from ! (stop !)) (look ! 42 refl)) (and-then ! (load ! (from ! (fld ! refl (stop !))) (look-in ! 66 (sub ! 1 refl (whole !)))) (no-more !)))) (from ! (stop !)) (init ! 40 refl (tt, (tt, (record { fits = room₂ .0 }, tt)))) $
         assigns ! (addr ! (from ! (fld ! refl (hop ! (look-in ! 64 (sub ! 0 refl (whole !))) (stop !))))) (from ! (stop !)) (init ! 38 refl (tt, tt)) $
         assigns ! (agg ! (and-then ! (load ! (from ! (stop !)) (look ! 38 refl)) (and-then ! (load ! (from ! (fld ! refl (stop !))) (look-in ! 64 (sub ! 1 refl (whole !)))) (no-more !)))) (from ! (stop !)) (init ! 36 refl (tt, (tt, (record { fits = room₃ .0 }, tt)))) $
-        -- `stage`: the table is lent as a `&`, for ν, and the rows as `&mut`, for ν₂ and ν₃
+        -- `load_rows`: the table is lent as a `&`, for ν, and the rows as `&mut`, for ν₂ and ν₃
         lft-new ! tt (λ ν. move ! (1 ∷ 2 ∷ []) $
         use2 W (later (some (λ (δ : GName). ‵ (ShrSlice (named 0) (ν ∷ []) R .own (x δ ys) (s ∷ [])) ⊛ ‵ (LentShared R κ (ν ∷ []) q γ b o ys)))) (lends-shared R κ (ν ∷ []) q γ b o 𝓤 H A W (named 0) (named 0) ys) $ await ! tt $ pick ! (λ δ. split ! $
         lft-new ! tt (λ ν₂. move ! (4 ∷ 5 ∷ []) $
@@ -481,12 +481,12 @@ module _ {M : Type 1} (𝓤 : URA M) (H : Heap 𝓤) (A : Atoms 𝓤) (W : Given
         -- [keys lent; what is kept; the token of ν₃; numbers lent; what is kept; the token of ν₂; pools lent; what is kept; the token of ν; tape; …]
         nothing ! $ move ! (3 ∷ 0 ∷ []) $ join ! $ move ! (5 ∷ 0 ∷ []) $ join ! $ move ! (7 ∷ 0 ∷ []) $ join ! $ move ! (3 ∷ 1 ∷ []) $ join ! $ move ! (1 ∷ 4 ∷ 0 ∷ []) $
         use3 W (raw (Stage 𝓤 H A mem run .pre (to-stage ν δ ν₂ δ₂ ν₃ δ₃))) (goes-stage ν δ ν₂ δ₂ ν₃ δ₃ (is₀ .1) (within .0, within .1)) $
-        -- [what `stage` asks; what is kept of keys, of numbers, of pools; tape; its token; output; its token; _31 at 8; …]
+        -- [what `load_rows` asks; what is kept of keys, of numbers, of pools; tape; its token; output; its token; _31 at 8; …]
         calls-at ! (fmOf 𝓤 H (W .laws) 𝓣) (Stage 𝓤 H A mem run) known-stage (to-stage ν δ ν₂ δ₂ ν₃ δ₃)
         (and-then ! (load ! (from ! (stop !)) (look ! 44 refl)) (and-then ! (load ! (from ! (stop !)) (look ! 42 refl)) (and-then ! (load ! (from ! (stop !)) (look ! 38 refl)) (and-then ! (load ! (from ! (stop !)) (look ! 34 refl)) (no-more !))))) (λ w.
         use1 W (later (some (λ (r : Bool). (StageTokens ν ν₂ ν₃ ⊛ ‵ (bool .own r (w ∷ []))) ⊛ raw (ensured 𝓤 H A sg.ended (sg.clauses 𝓤 H A mem run) (ν ∷ [], (ν₂ ∷ [], (ν₃ ∷ [], tt))) (stage-args δ δ₂ δ₃) tt r)))) (id⊢ 𝓤 _) $ await ! tt $ pick ! (λ rest.
-        split ! $ move ! (1 ∷ []) $ use1 W (some (λ (zs : Staged). ‵ (lasts sg.ended (ν ∷ [], (ν₂ ∷ [], (ν₃ ∷ [], tt))) (stage-args δ δ₂ δ₃) zs) ⊛ raw (fact 𝓤 (Stages ys want us vs rest (zs .1 .1 .0) (zs .1 .1 .1 .0))))) (id⊢ 𝓤 _) $ pick ! (λ zs.
-        split ! $ move ! (1 ∷ []) $ heard ! (Stages ys want us vs rest (zs .1 .1 .0) (zs .1 .1 .1 .0)) (λ e. fsplit ! $ drop ! $ fsplit ! $ drop ! $ fsplit ! $ fsplit ! $ move ! (1 ∷ []) $ feqL ! (λ ln. move ! (1 ∷ []) $ fsplit ! $ fsplit ! $ move ! (1 ∷ []) $ feqL ! (λ lk.
+        split ! $ move ! (1 ∷ []) $ use1 W (some (λ (zs : FirstRows). ‵ (lasts sg.ended (ν ∷ [], (ν₂ ∷ [], (ν₃ ∷ [], tt))) (stage-args δ δ₂ δ₃) zs) ⊛ raw (fact 𝓤 (LoadsRows ys want us vs rest (zs .1 .1 .0) (zs .1 .1 .1 .0))))) (id⊢ 𝓤 _) $ pick ! (λ zs.
+        split ! $ move ! (1 ∷ []) $ heard ! (LoadsRows ys want us vs rest (zs .1 .1 .0) (zs .1 .1 .1 .0)) (λ e. fsplit ! $ drop ! $ fsplit ! $ drop ! $ fsplit ! $ fsplit ! $ move ! (1 ∷ []) $ feqL ! (λ ln. move ! (1 ∷ []) $ fsplit ! $ fsplit ! $ move ! (1 ∷ []) $ feqL ! (λ lk.
         -- [the last keys; true; the last numbers; the tokens and the result; what is kept of keys, of numbers, of pools; tape; its token; output; its token; _31 at 11; …]
         move ! (3 ∷ []) $ split ! $ move ! (1 ∷ []) $ peeks ! bool (Is bool) (shows 𝓤 H A bool) rest (w ∷ []) (λ is. land ! (from ! (stop !)) (init ! 54 refl (bool-lawful 𝓤 H A W .typed rest _ is .0)) $
         rewrite ! 54 (λ (u : Val). ‵ (fat fullShare (τ 10) l₁₀ 0 u)) (ap only is) refl $ drop ! $
@@ -500,7 +500,7 @@ module _ {M : Type 1} (𝓤 : URA M) (H : Heap 𝓤) (A : Atoms 𝓤) (W : Given
         by ! (stepping l₀ l₁ l₂ l₃ l₄ l₅ l₆ l₇ l₈ l₉ l₁₀ l₁₁ l₁₂ l₁₃ l₁₄ l₁₅ l₁₆ l₁₇ l₁₈ l₁₉ l₂₀ l₂₁ l₂₂ l₂₃ l₂₄ l₂₅ l₂₆ l₂₇ l₂₈ l₂₉ l₃₀ l₃₁ rest (zs .1 .1 .0) (zs .1 .1 .1 .0) e ln lk))))))))))))))))))))))))))))))))))))))))))))))))))
 
 module _ {M : Type 1} (𝓤 : URA M) (H : Heap 𝓤) (A : Atoms 𝓤) (W : Given 𝓤 H A) (mem : Memory → SProp 𝓤) (run : Routine → Fun 𝓤) where
-  step-with-walks : (𝓣 : Tables 𝓤 H) → Triple 𝓤 (𝓣 .C #rows-enough·rows-wanted) (Wanted 𝓤 H A mem run) → Triple 𝓤 (𝓣 .C #table-by-rows·stage) (Stage 𝓤 H A mem run) → Triple 𝓤 (𝓣 .C #table-by-rows·step-part-rows) (Step 𝓤 H A mem run) → Triple 𝓤 (𝓣 .C #table-store·store) (Store 𝓤 H A mem run)
+  step-with-walks : (𝓣 : Tables 𝓤 H) → Triple 𝓤 (𝓣 .C #rows-enough·rows-wanted) (Wanted 𝓤 H A mem run) → Triple 𝓤 (𝓣 .C #table-by-rows·load-rows) (Stage 𝓤 H A mem run) → Triple 𝓤 (𝓣 .C #table-by-rows·step-part-rows) (Step 𝓤 H A mem run) → Triple 𝓤 (𝓣 .C #table-store·store) (Store 𝓤 H A mem run)
       → Walks 𝓤 H A f.ended stayed (WpFn 𝓤 H (𝓣 .C) (𝓣 .Λ) code.function) (f.clauses 𝓤 H A mem run)
   step-with-walks 𝓣 known-wanted known-stage known-step known-store = walked 𝓤 H A f.ended stayed (f.clauses 𝓤 H A mem run) (WpFn 𝓤 H (𝓣 .C) (𝓣 .Λ) code.function)
       (λ κs. (bookVals, (slice-vals, (slice-vals, (slice-vals, (slice-vals, (uint-vals w64, (uint-vals w64, (timeVals, (slice-vals, tt))))))))))
@@ -513,7 +513,7 @@ module _ {M : Type 1} (𝓤 : URA M) (H : Heap 𝓤) (A : Atoms 𝓤) (W : Given
       𝓣 known-wanted known-stage known-step known-store (are .0) (are .1 .0 .0 .1) (are .1 .1 .0 .0 .1) (are .1 .1 .1 .0 .0 .1) (are .1 .1 .1 .1 .0 .0 .1) (are .1 .1 .1 .1 .1 .0 .1) (are .1 .1 .1 .1 .1 .1 .0 .1) (are .1 .1 .1 .1 .1 .1 .1 .0) (are .1 .1 .1 .1 .1 .1 .1 .1 .0 .0 .1)))
 
 step-with-meets : {M : Type 1} (𝓤 : URA M) (H : Heap 𝓤) (A : Atoms 𝓤) → Given 𝓤 H A → (mem : Memory → SProp 𝓤) (run : Routine → Fun 𝓤) (𝓣 : Tables 𝓤 H)
-    → Triple 𝓤 (𝓣 .C #rows-enough·rows-wanted) (Wanted 𝓤 H A mem run) → Triple 𝓤 (𝓣 .C #table-by-rows·stage) (Stage 𝓤 H A mem run) → Triple 𝓤 (𝓣 .C #table-by-rows·step-part-rows) (Step 𝓤 H A mem run) → Triple 𝓤 (𝓣 .C #table-store·store) (Store 𝓤 H A mem run)
+    → Triple 𝓤 (𝓣 .C #rows-enough·rows-wanted) (Wanted 𝓤 H A mem run) → Triple 𝓤 (𝓣 .C #table-by-rows·load-rows) (Stage 𝓤 H A mem run) → Triple 𝓤 (𝓣 .C #table-by-rows·step-part-rows) (Step 𝓤 H A mem run) → Triple 𝓤 (𝓣 .C #table-store·store) (Store 𝓤 H A mem run)
     → Meets 𝓤 H A f.signature (WpFn 𝓤 H (𝓣 .C) (𝓣 .Λ) code.function) (f.spec 𝓤 H A mem run)
 step-with-meets 𝓤 H A W mem run 𝓣 known-wanted known-stage known-step known-store =
     walk-meets 𝓤 H A f.ended stayed W (
@@ -550,6 +550,6 @@ step-with-spec 𝓤 H 𝓜 𝓖 𝓡 =
     (tables 𝓤 H 𝓜 𝓡 code.env .C) (tables 𝓤 H 𝓜 𝓡 code.env .Λ) #table-by-rows·step-with code.function (code.unfolded 𝓤 H 𝓜 𝓡)
     (step-with-meets 𝓤 H (𝓖 .A) (givenOf 𝓤 H 𝓜 𝓖) (𝓜 .mem) (𝓡 .run) (tablesOf 𝓤 H 𝓜 (tables 𝓤 H 𝓜 𝓡 code.env))
     (cited 𝓤 H (Wanted 𝓤 H (𝓖 .A) (𝓜 .mem) (𝓡 .run)) 𝓜 𝓡 code.env #rows-enough·rows-wanted wanted-def.routine code.calls-rows-enough·rows-wanted (wanted-thm.met 𝓤 H 𝓜 𝓖 𝓡))
-    (cited 𝓤 H (Stage 𝓤 H (𝓖 .A) (𝓜 .mem) (𝓡 .run)) 𝓜 𝓡 code.env #table-by-rows·stage stage-def.routine code.calls-table-by-rows·stage (stage-thm.met 𝓤 H 𝓜 𝓖 𝓡))
+    (cited 𝓤 H (Stage 𝓤 H (𝓖 .A) (𝓜 .mem) (𝓡 .run)) 𝓜 𝓡 code.env #table-by-rows·load-rows stage-def.routine code.calls-table-by-rows·load-rows (stage-thm.met 𝓤 H 𝓜 𝓖 𝓡))
     (cited 𝓤 H (Step 𝓤 H (𝓖 .A) (𝓜 .mem) (𝓡 .run)) 𝓜 𝓡 code.env #table-by-rows·step-part-rows step-def.routine code.calls-table-by-rows·step-part-rows (step-thm.met 𝓤 H 𝓜 𝓖 𝓡))
     (cited 𝓤 H (Store 𝓤 H (𝓖 .A) (𝓜 .mem) (𝓡 .run)) 𝓜 𝓡 code.env #table-store·store store-def.routine code.calls-table-store·store (store-thm.met 𝓤 H 𝓜 𝓖 𝓡)))

@@ -1,4 +1,4 @@
--- `table_figures` meets its contract, by a walk of its MIR with two calls: the records are staged in two local arrays, and the figures are read from the rows there.
+-- `table_figures` meets its contract, by a walk of its MIR with two calls: the records are loaded in two local arrays, and the figures are read from the rows there.
 use mathlib.Core.Path.{_≡_, refl, sym, _∙_, ap, subst}
 use Prim.Native.Nat.{ℕ, _<_, _≤_, _^_}
 use mathlib.Core.Bool.{Bool}
@@ -49,18 +49,18 @@ use Rattle.book.specs.declared.Book.{Book}
 use Rattle.book.specs.declared.Pool.{Pool}
 use Rattle.calls.specs.declared.Figures.{Figures}
 use Rattle.table_load.proofs.Row.{R}
-use Rattle.rows_enough.specs.Staged.{rowsOf}
+use Rattle.rows_enough.specs.FirstRows.{rowsOf}
 use Rattle.rows_enough.specs.Moving.{SaysRows}
 use Rattle.calls.specs.Calls.{Says}
-use Rattle.table_by_rows.specs.Stages.{Stages}
+use Rattle.table_by_rows.specs.LoadsRows.{LoadsRows}
 use Rattle.table_by_rows.proofs.Framing.{rows-enough}
 use Rattle.table_by_rows.proofs.Values.{BookR, bookVal, bookVals, book-tells, book-makes, book-typed, live-fits}
 use Rattle.table_figures.proofs.MachineValues.{FiguresR, figuresVal, figuresVals, figures-makes, figures-typed, figures-is, figures-its}
 use Rattle.table_figures.proofs.Saying.{says-figures}
-use Rattle.table_by_rows.proofs.stage as sg
-use Rattle.table_by_rows.proofs.stage.Symbol as stage-def
-use Rattle.table_by_rows.proofs.stage.Symbol.{name as #table-by-rows·stage}
-use Rattle.table_by_rows.proofs.stage.Met as stage-thm
+use Rattle.table_by_rows.proofs.load_rows as sg
+use Rattle.table_by_rows.proofs.load_rows.Symbol as stage-def
+use Rattle.table_by_rows.proofs.load_rows.Symbol.{name as #table-by-rows·load-rows}
+use Rattle.table_by_rows.proofs.load_rows.Met as stage-thm
 use Rattle.rows_enough.proofs.figures_rows as fr
 use Rattle.rows_enough.proofs.figures_rows.Symbol as figures-def
 use Rattle.rows_enough.proofs.figures_rows.Symbol.{name as #rows-enough·figures-rows}
@@ -80,7 +80,7 @@ Rows = List (List ℕ)
 abbrev Arg : Type 0
 Arg = Book × (RefT (List Pool) × (ℕ × Unit {0}))
 
--- the last values that `stage` says
+-- the last values that `load_rows` says
 abbrev Last : Type 0
 Last = Unit {0} × (Unit {0} × (Rows × (Rows × Unit {0})))
 
@@ -177,7 +177,7 @@ module _ {M : Type 1} (𝓤 : URA M) (H : Heap 𝓤) (A : Atoms 𝓤) (W : Given
       nothing ! $ move ! (1 ∷ 0 ∷ []) $ join ! $ frame ! $ drop ! $ nothing ! $ nothing ! $ fjoin ! $ nothing ! $ fjoin ! $ nothing ! $ fjoin ! $ frame ! $
       owned ! FiguresR (Is FiguresR) (figures-makes 𝓤 H A) r _ gr $ done !
 
-  -- what the triple of `stage` binds outside, and that the caller has what it asks: the arrays at l and l′ are lent for ν and ν₂
+  -- what the triple of `load_rows` binds outside, and that the caller has what it asks: the arrays at l and l′ are lent for ν and ν₂
   module _ (l l′ : ℕ) where
     abbrev stage-args : GName → GName → RefT (List Pool) × (ℕ × (RefT Rows × (RefT Rows × Unit {0})))
     stage-args δ δ₂ = (x, (k .live, (y l δ us, (y l′ δ₂ vs, tt))))
@@ -234,7 +234,7 @@ module _ {M : Type 1} (𝓤 : URA M) (H : Heap 𝓤) (A : Atoms 𝓤) (W : Given
           → ent 𝓤 (ensured 𝓤 H A fr.ended (fr.clauses 𝓤 H A mem run) (ν ∷ [], (ν₂ ∷ [], tt)) (figures-args δ δ₂) tt r) (fact 𝓤 (SaysRows k ns ks (length ys) rest trade r))
       said-figures ν δ ν₂ δ₂ r = exE 𝓤 _ (λ zs. snd∗ 𝓤 (sem 𝓤 H A (lasts fr.ended (ν ∷ [], (ν₂ ∷ [], tt)) (figures-args δ δ₂) zs)) (fact 𝓤 (SaysRows k ns ks (length ys) rest trade r)))
 
-  module _ (𝓣 : Tables 𝓤 H) (known-stage : Triple 𝓤 (𝓣 .C #table-by-rows·stage) (Stage 𝓤 H A mem run)) (known-figures : Triple 𝓤 (𝓣 .C #rows-enough·figures-rows) (FiguresRows 𝓤 H A mem run)) where
+  module _ (𝓣 : Tables 𝓤 H) (known-stage : Triple 𝓤 (𝓣 .C #table-by-rows·load-rows) (Stage 𝓤 H A mem run)) (known-figures : Triple 𝓤 (𝓣 .C #rows-enough·figures-rows) (FiguresRows 𝓤 H A mem run)) where
     walk : Is BookR k (bookVals k) → Room R (length ys) → trade < 2 ^ 64 → ent 𝓤 (onEntry 𝓤 H A f.signature (κ, tt) (q, tt) a at) (WpFn 𝓤 H (𝓣 .C) (𝓣 .Λ) code.function given Post)
     walk gk room gt =
         qed W ((‵ (flft κ q) ⊛ ‵ ftrue) ∷ ‵ (owns (BookR ∷ ShrSlice (named 0) κ R ∷ usize ∷ []) a at) ∷ []) ∵ enter ! (𝓣 .C) (𝓣 .Λ) code.function given _ $
@@ -251,7 +251,7 @@ module _ {M : Type 1} (𝓤 : URA M) (H : Heap 𝓤) (A : Atoms 𝓤) (W : Given
         assigns ! (agg ! (and-then ! (load ! (from ! (stop !)) (look ! 18 refl)) (and-then ! (big-lit ! (record { fits = lit< tt })) (no-more !)))) (from ! (stop !)) (init ! 16 refl (tt, (tt, (record { fits = lit< tt }, tt)))) $
         assigns ! (addr ! (from ! (stop !))) (from ! (stop !)) (init ! 14 refl (tt, tt)) $
         assigns ! (agg ! (and-then ! (load ! (from ! (stop !)) (look ! 14 refl)) (and-then ! (big-lit ! (record { fits = lit< tt })) (no-more !)))) (from ! (stop !)) (init ! 12 refl (tt, (tt, (record { fits = lit< tt }, tt)))) $
-        -- `stage`: the arrays' rows are lent as `&mut`, for ν and ν₂, with a copy of the slice of records
+        -- `load_rows`: the arrays' rows are lent as `&mut`, for ν and ν₂, with a copy of the slice of records
         move ! (28 ∷ 26 ∷ []) $ use1 W (‵ (cells (memory.mem N) us l₄ 0)) (numbers-out 𝓤 H A W 4096 l₄) $ move ! (1 ∷ []) $ use1 W (‵ (cells (memory.mem K) vs l₅ 0)) (keys-out 𝓤 H A W 4096 l₅) $
         -- [keys; numbers; the token; pools; _17 at 4; …; _6 at 26; that _5 dies at 28, _4 at 29; _3 at 30; _2 at 32; _1 at 34; _0 at 36]
         lft-new ! tt (λ ν. move ! (2 ∷ []) $
@@ -263,12 +263,12 @@ module _ {M : Type 1} (𝓤 : URA M) (H : Heap 𝓤) (A : Atoms 𝓤) (W : Given
         move ! (7 ∷ []) $ use1 W (Pools ⊛ Pools) (shr-slice-copy 𝓤 H A W (named 0) κ R .twice x (s ∷ [])) $ split ! $
         nothing ! $ move ! (5 ∷ 0 ∷ []) $ join ! $ move ! (7 ∷ 0 ∷ []) $ join ! $ move ! (7 ∷ 0 ∷ []) $ join ! $ move ! (5 ∷ 3 ∷ []) $ join ! $ move ! (1 ∷ 2 ∷ 0 ∷ []) $
         use3 W (raw (Stage 𝓤 H A mem run .pre (to-stage l₄ l₅ ν δ ν₂ δ₂))) (goes-stage l₄ l₅ ν δ ν₂ δ₂ (live-fits k gk) (rows-enough (length ys) (k .live) (length us) many-us, rows-enough (length ys) (k .live) (length vs) many-vs)) $
-        -- [what `stage` asks; pools; the lender's part of keys, of numbers; _17 at 4; …; _12 at 14; …; _10 at 18; …; _2 at 32; _1 at 34; _0 at 36]
+        -- [what `load_rows` asks; pools; the lender's part of keys, of numbers; _17 at 4; …; _12 at 14; …; _10 at 18; …; _2 at 32; _1 at 34; _0 at 36]
         calls-at ! (fmOf 𝓤 H (W .laws) 𝓣) (Stage 𝓤 H A mem run) known-stage (to-stage l₄ l₅ ν δ ν₂ δ₂)
         (and-then ! (load ! (from ! (stop !)) (look ! 32 refl)) (and-then ! (load ! (from ! (fld ! refl (stop !))) (look-in ! 34 (sub ! 2 refl (whole !)))) (and-then ! (load ! (from ! (stop !)) (look ! 18 refl)) (and-then ! (load ! (from ! (stop !)) (look ! 14 refl)) (no-more !))))) (λ w.
         use1 W (later (some (λ (r : Bool). (StageTokens l₄ l₅ ν ν₂ ⊛ ‵ (bool .own r (w ∷ []))) ⊛ raw (ensured 𝓤 H A sg.ended (sg.clauses 𝓤 H A mem run) (κ, (ν ∷ [], (ν₂ ∷ [], tt))) (stage-args l₄ l₅ δ δ₂) tt r)))) (id⊢ 𝓤 _) $ await ! tt $ pick ! (λ rest.
-        split ! $ move ! (1 ∷ []) $ use1 W (some (λ (zs : Last). ‵ (lasts sg.ended (κ, (ν ∷ [], (ν₂ ∷ [], tt))) (stage-args l₄ l₅ δ δ₂) zs) ⊛ raw (fact 𝓤 (Stages ys (k .live) us vs rest (zs .1 .1 .0) (zs .1 .1 .1 .0))))) (id⊢ 𝓤 _) $ pick ! (λ zs.
-        split ! $ move ! (1 ∷ []) $ heard ! (Stages ys (k .live) us vs rest (zs .1 .1 .0) (zs .1 .1 .1 .0)) (λ e₁. fsplit ! $ drop ! $ fsplit ! $ drop ! $ fsplit ! $ fsplit ! $ move ! (1 ∷ []) $ feqL ! (λ ln. move ! (1 ∷ []) $ fsplit ! $ fsplit ! $ move ! (1 ∷ []) $ feqL ! (λ lk.
+        split ! $ move ! (1 ∷ []) $ use1 W (some (λ (zs : Last). ‵ (lasts sg.ended (κ, (ν ∷ [], (ν₂ ∷ [], tt))) (stage-args l₄ l₅ δ δ₂) zs) ⊛ raw (fact 𝓤 (LoadsRows ys (k .live) us vs rest (zs .1 .1 .0) (zs .1 .1 .1 .0))))) (id⊢ 𝓤 _) $ pick ! (λ zs.
+        split ! $ move ! (1 ∷ []) $ heard ! (LoadsRows ys (k .live) us vs rest (zs .1 .1 .0) (zs .1 .1 .1 .0)) (λ e₁. fsplit ! $ drop ! $ fsplit ! $ drop ! $ fsplit ! $ fsplit ! $ move ! (1 ∷ []) $ feqL ! (λ ln. move ! (1 ∷ []) $ fsplit ! $ fsplit ! $ move ! (1 ∷ []) $ feqL ! (λ lk.
         -- [the last keys; true; the last numbers; the tokens and the result; pools; the lender's part of keys, of numbers; _17 at 7; …]
         move ! (3 ∷ []) $ split ! $ move ! (1 ∷ []) $ peeks ! bool (Is bool) (shows 𝓤 H A bool) rest (w ∷ []) (λ is. land ! (from ! (stop !)) (init ! 30 refl (bool-lawful 𝓤 H A W .typed rest _ is .0)) $
         rewrite ! 30 (λ (u : Val). ‵ (fat fullShare (τ 6) l₆ 0 u)) (ap only is) refl $ drop ! $
@@ -313,7 +313,7 @@ module _ {M : Type 1} (𝓤 : URA M) (H : Heap 𝓤) (A : Atoms 𝓤) (W : Given
         by ! (exits r (figures-its r w₂ gr) (says-figures k ys us vs (zs .1 .1 .0) (zs .1 .1 .1 .0) rest trade r e₁ e₂)))))))))))))))))))))))))))))))))))))))
 
 module _ {M : Type 1} (𝓤 : URA M) (H : Heap 𝓤) (A : Atoms 𝓤) (W : Given 𝓤 H A) (mem : Memory → SProp 𝓤) (run : Routine → Fun 𝓤) where
-  table-figures-walks : (𝓣 : Tables 𝓤 H) → Triple 𝓤 (𝓣 .C #table-by-rows·stage) (Stage 𝓤 H A mem run) → Triple 𝓤 (𝓣 .C #rows-enough·figures-rows) (FiguresRows 𝓤 H A mem run)
+  table-figures-walks : (𝓣 : Tables 𝓤 H) → Triple 𝓤 (𝓣 .C #table-by-rows·load-rows) (Stage 𝓤 H A mem run) → Triple 𝓤 (𝓣 .C #rows-enough·figures-rows) (FiguresRows 𝓤 H A mem run)
       → Walks 𝓤 H A f.ended stayed (WpFn 𝓤 H (𝓣 .C) (𝓣 .Λ) code.function) (f.clauses 𝓤 H A mem run)
   table-figures-walks 𝓣 known-stage known-figures = walked 𝓤 H A f.ended stayed (f.clauses 𝓤 H A mem run) (WpFn 𝓤 H (𝓣 .C) (𝓣 .Λ) code.function)
       (λ κs. (bookVals, (slice-vals, (uint-vals w64, tt)))) (λ κs. (book-tells, (shr-slice-tells (named 0) (κs .0) R, (uint-tells w64, tt))))
@@ -321,7 +321,7 @@ module _ {M : Type 1} (𝓤 : URA M) (H : Heap 𝓤) (A : Atoms 𝓤) (W : Given
       (walk 𝓤 H A W mem run (κs .0) (qs .0) (a .0) (a .1 .0 .ptr .0) (a .1 .0 .ptr .1) (a .1 .0 .name) (a .1 .0 .now) (a .1 .1 .0) 𝓣 known-stage known-figures (are .0) (are .1 .0 .0 .1) (are .1 .1 .0 .1)))
 
 table-figures-meets : {M : Type 1} (𝓤 : URA M) (H : Heap 𝓤) (A : Atoms 𝓤) → Given 𝓤 H A → (mem : Memory → SProp 𝓤) (run : Routine → Fun 𝓤) (𝓣 : Tables 𝓤 H)
-    → Triple 𝓤 (𝓣 .C #table-by-rows·stage) (Stage 𝓤 H A mem run) → Triple 𝓤 (𝓣 .C #rows-enough·figures-rows) (FiguresRows 𝓤 H A mem run) → Meets 𝓤 H A f.signature (WpFn 𝓤 H (𝓣 .C) (𝓣 .Λ) code.function) (f.spec 𝓤 H A mem run)
+    → Triple 𝓤 (𝓣 .C #table-by-rows·load-rows) (Stage 𝓤 H A mem run) → Triple 𝓤 (𝓣 .C #rows-enough·figures-rows) (FiguresRows 𝓤 H A mem run) → Meets 𝓤 H A f.signature (WpFn 𝓤 H (𝓣 .C) (𝓣 .Λ) code.function) (f.spec 𝓤 H A mem run)
 table-figures-meets 𝓤 H A W mem run 𝓣 known-stage known-figures =
     walk-meets 𝓤 H A f.ended stayed W
     (goes-dropped 𝓤 H A W 1 (plain (λ _. BookR)) yes (λ κs x f. refl), (goes-dropped 𝓤 H A W 1 pools-slot yes (λ κs x f. refl), (goes-dropped 𝓤 H A W 1 (plain (λ _. usize)) yes (λ κs x f. refl), tt))) (f.clauses 𝓤 H A mem run)
@@ -333,5 +333,5 @@ table-figures-spec 𝓤 H 𝓜 𝓖 𝓡 =
     entered 𝓤 H (tripleOf 𝓤 H (𝓖 .A) f.signature (f.spec 𝓤 H (𝓖 .A) (𝓜 .mem) (𝓡 .run)))
     (tables 𝓤 H 𝓜 𝓡 code.env .C) (tables 𝓤 H 𝓜 𝓡 code.env .Λ) #table-figures·table-figures code.function (code.unfolded 𝓤 H 𝓜 𝓡)
     (table-figures-meets 𝓤 H (𝓖 .A) (givenOf 𝓤 H 𝓜 𝓖) (𝓜 .mem) (𝓡 .run) (tablesOf 𝓤 H 𝓜 (tables 𝓤 H 𝓜 𝓡 code.env))
-    (cited 𝓤 H (Stage 𝓤 H (𝓖 .A) (𝓜 .mem) (𝓡 .run)) 𝓜 𝓡 code.env #table-by-rows·stage stage-def.routine code.calls-table-by-rows·stage (stage-thm.met 𝓤 H 𝓜 𝓖 𝓡))
+    (cited 𝓤 H (Stage 𝓤 H (𝓖 .A) (𝓜 .mem) (𝓡 .run)) 𝓜 𝓡 code.env #table-by-rows·load-rows stage-def.routine code.calls-table-by-rows·load-rows (stage-thm.met 𝓤 H 𝓜 𝓖 𝓡))
     (cited 𝓤 H (FiguresRows 𝓤 H (𝓖 .A) (𝓜 .mem) (𝓡 .run)) 𝓜 𝓡 code.env #rows-enough·figures-rows figures-def.routine code.calls-rows-enough·figures-rows (figures-thm.met 𝓤 H 𝓜 𝓖 𝓡)))

@@ -3,7 +3,7 @@ use borrow.Author.Needs.{needs}
 use mathlib.Core.Path.{ap, _∙_}
 use Prim.Native.Nat.{ℕ}
 use lib.Dec.{leb}
-use Rattle.rows_enough.specs.Staged.{rowsOf}
+use Rattle.rows_enough.specs.FirstRows.{rowsOf}
 use Rattle.table_step.proofs.few_enough.Statement.{statement}
 use Rattle.table_step.proofs.few_enough.Tie as tie
 

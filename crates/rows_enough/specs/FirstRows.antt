@@ -23,12 +23,12 @@ bringsMax bytes = bytes / detailWidth
 abbrev pub wanted : ℕ → ℕ → ℕ
 wanted live bytes = min recordsMax (live + bringsMax bytes)
 
--- how many rows of a table are staged, where so many are wanted
+-- how many rows of a table are loaded, where so many are wanted
 abbrev pub rowsOf : ℕ → ℕ → ℕ
 rowsOf records want = min records (min recordsMax want)
 
 -- a table whose first rows are those of the slices; rest tells whether its other records are zeros
-pub record Staged (want : ℕ) (ns ks : List (List ℕ)) (records : ℕ) (rest : Bool) (pools : List Pool) : Type 0 where
+pub record FirstRows (want : ℕ) (ns ks : List (List ℕ)) (records : ℕ) (rest : Bool) (pools : List Pool) : Type 0 where
   pub size : length pools ≡ records
   pub rows : take (rowsOf records want) (tableOf ns ks) ≡ take (rowsOf records want) pools
   pub others : rest ≡ all isNone (drop (rowsOf records want) pools)

@@ -1,4 +1,4 @@
--- `stage` meets its contract, by a walk of its MIR with three calls. The slices of rows are handed on to `load` for good, and the slice of records is lent to both `load` and `blank_from`.
+-- `load_rows` meets its contract, by a walk of its MIR with three calls. The slices of rows are handed on to `load` for good, and the slice of records is lent to both `load` and `blank_from`.
 use mathlib.Core.Path.{_≡_, refl, ap}
 use Prim.Native.Nat.{ℕ, _<_, _≤_, _^_}
 use mathlib.Core.Bool.{Bool}
@@ -46,8 +46,8 @@ use Rattle.rows.specs.Rows.{rowOf, keyOf}
 use Rattle.table_load.specs.Fit.{Fit}
 use Rattle.table_load.specs.Loaded.{loadTo}
 use Rattle.table_load.proofs.Row.{R}
-use Rattle.rows_enough.specs.Staged.{rowsOf}
-use Rattle.table_by_rows.specs.Stages.{Stages}
+use Rattle.rows_enough.specs.FirstRows.{rowsOf}
+use Rattle.table_by_rows.specs.LoadsRows.{LoadsRows}
 use Rattle.table_by_rows.proofs.Staging.{rows-within, stages}
 use Rattle.rows_enough.proofs.rows_of as ro
 use Rattle.rows_enough.proofs.rows_of.Symbol as rows-def
@@ -61,10 +61,10 @@ use Rattle.table_load.proofs.blank_from as bf
 use Rattle.table_load.proofs.blank_from.Symbol as blank-def
 use Rattle.table_load.proofs.blank_from.Symbol.{name as #table-load·blank-from}
 use Rattle.table_load.proofs.blank_from.Met as blank-thm
-use Rattle.table_by_rows.proofs.stage.Key.{name as #table-by-rows·stage}
-use Rattle.table_by_rows.proofs.stage as f
-use Rattle.table_by_rows.proofs.stage.Statement as stated
-use Rattle.table_by_rows.proofs.stage.Code as code
+use Rattle.table_by_rows.proofs.load_rows.Key.{name as #table-by-rows·load-rows}
+use Rattle.table_by_rows.proofs.load_rows as f
+use Rattle.table_by_rows.proofs.load_rows.Statement as stated
+use Rattle.table_by_rows.proofs.load_rows.Code as code
 
 abbrev τ : ℕ → Ty
 τ = tyOf code.function
@@ -160,7 +160,7 @@ module _ {M : Type 1} (𝓤 : URA M) (H : Heap 𝓤) (A : Atoms 𝓤) (W : Given
   abbrev Left : Rows → Rows → List (Item 𝓤)
   Left ns ks = (‵ (flft κ q) ⊛ ‵ ftrue) ∷ Pools ∷ Rest ∷ ‵ (finally K γ₃ ks) ∷ ‵ ftrue ∷ ‵ (finally N γ₂ ns) ∷ []
 
-  exits : v < 2 ^ 64 → (r : Bool) (ns ks : Rows) → Stages ys v us vs r ns ks → ent 𝓤 (⋆ 𝓤 H A (Left ns ks)) (Post (vbool r))
+  exits : v < 2 ^ 64 → (r : Bool) (ns ks : Rows) → LoadsRows ys v us vs r ns ks → ent 𝓤 (⋆ 𝓤 H A (Left ns ks)) (Post (vbool r))
   exits gv r ns ks e =
       qed W (Left ns ks) ∵ suffices ! _ (ends-at 𝓤 H A f.ended stayed (f.clauses 𝓤 H A mem run) W bound (vbool r) r (tt, (tt, (ns, (ks, tt)))) (tt, (tt, (e .numbers, (e .keys, tt))))) $ says ! e $
       split ! $ move ! (1 ∷ []) $ drop ! $ move ! (0 ∷ 2 ∷ []) $ join ! $ frame ! $
@@ -259,11 +259,11 @@ stage-meets 𝓤 H A W mem run 𝓣 known-rows known-load known-blank =
     (goes-none-slice 𝓤 H A W 3 (0 ∷ []) tt (plain (λ _. R)) yes, (goes-none 𝓤 H A W 3 (λ _. usize) yes (λ κs x f. refl), (goes-gave-slice 𝓤 H A W 3 1 tt numbers-slot, (goes-gave-slice 𝓤 H A W 3 2 tt keys-slot, tt)))) (f.clauses 𝓤 H A mem run)
     (WpFn 𝓤 H (𝓣 .C) (𝓣 .Λ) code.function) (WpFn-mono 𝓤 H (W .laws) 𝓣 code.function) (stage-walks 𝓤 H A W mem run 𝓣 known-rows known-load known-blank)
 
-pub stage-spec : {M : Type 1} → stated.statement M
+pub load-rows-spec : {M : Type 1} → stated.statement M
 unfolding code.routine tablesOf
-stage-spec 𝓤 H 𝓜 𝓖 𝓡 =
+load-rows-spec 𝓤 H 𝓜 𝓖 𝓡 =
     entered 𝓤 H (tripleOf 𝓤 H (𝓖 .A) f.signature (f.spec 𝓤 H (𝓖 .A) (𝓜 .mem) (𝓡 .run)))
-    (tables 𝓤 H 𝓜 𝓡 code.env .C) (tables 𝓤 H 𝓜 𝓡 code.env .Λ) #table-by-rows·stage code.function (code.unfolded 𝓤 H 𝓜 𝓡)
+    (tables 𝓤 H 𝓜 𝓡 code.env .C) (tables 𝓤 H 𝓜 𝓡 code.env .Λ) #table-by-rows·load-rows code.function (code.unfolded 𝓤 H 𝓜 𝓡)
     (stage-meets 𝓤 H (𝓖 .A) (givenOf 𝓤 H 𝓜 𝓖) (𝓜 .mem) (𝓡 .run) (tablesOf 𝓤 H 𝓜 (tables 𝓤 H 𝓜 𝓡 code.env))
     (cited 𝓤 H (RowsOf 𝓤 H (𝓖 .A) (𝓜 .mem) (𝓡 .run)) 𝓜 𝓡 code.env #rows-enough·rows-of rows-def.routine code.calls-rows-enough·rows-of (rows-thm.met 𝓤 H 𝓜 𝓖 𝓡))
     (cited 𝓤 H (Load 𝓤 H (𝓖 .A) (𝓜 .mem) (𝓡 .run)) 𝓜 𝓡 code.env #table-load·load load-def.routine code.calls-table-load·load (load-thm.met 𝓤 H 𝓜 𝓖 𝓡))
