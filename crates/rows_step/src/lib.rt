@@ -126,7 +126,7 @@ fn accept(
     let line = counted.line;
     let mut after = counted.values;
     after.trades = moved;
-    after.last = message;
+    after.lastMessageId = message;
     Stepped {
         book: Book {
             values: after,

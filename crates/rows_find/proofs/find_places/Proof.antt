@@ -139,9 +139,9 @@ returns c =
     let o = c .before .before .listed in
     ⊎-elim
     (λ w. absurd (omega (arith, w .left, c .if5 .taken)))
-    (λ w. sought-not (a .body .now) (a .keys .now) (o .d) (c .before .before .before .before .message-type .result) (w .1 .result) (w .2 .result) (c .before .before .before .before .message-type .ensures) (w .1 .ensures) (w .2 .ensures) (a .run) (w .3 .openPar)
+    (λ w. sought-not (a .body .now) (a .keys .now) (o .d) (c .before .before .before .before .message-type .result) (w .1 .result) (w .2 .result) (c .before .before .before .before .message-type .ensures) (w .1 .ensures) (w .2 .ensures) (a .run) (w .3 .left)
     (omega (arith, c .before .before .before .pool-count .ensures, c .if5 .taken)) (c .before .before .before .before .before .before .pre .0) (w .4 .result) (w .4 .ensures)
-    (round-done (a .keys .now) (rowFields (w .4 .result)) (a .run .start) (a .run .stop) (o .next) (w .5 .again) (w .5 .end) (w .5 .j) (w .7 .taken) (w .5 .inv .3) (w .6 .openPar)))
+    (round-done (a .keys .now) (rowFields (w .4 .result)) (a .run .start) (a .run .stop) (o .next) (w .5 .again) (w .5 .end) (w .5 .j) (w .7 .taken) (w .5 .inv .3) (w .6 .left)))
     (c .before .listed-test .came)
 
 returns-2 : tie.Need-returns-2 Inv-live μ-live Inv-listed μ-listed
