@@ -60,19 +60,19 @@ abbrev pub trades : Call → List Trade
 trades c = tradesOf (c .book .values)
 
 -- ---- 42 to 44: the operator
--- 42: unsound book
+-- 42: a book or table that cannot have come about by the calls
 abbrev pub unsound : Call → Bool
 unsound c = not (isSound (c .book) (c .table))
 
--- 43: the last ID is the highest, or the last outbound number over 999997
+-- 43: no message ID is left, or fewer than two outbound numbers
 abbrev pub numbersSpent : Values → Bool
 numbersSpent v = leb elevenDigitsMax (v .lastMessageId) || outboundSpent (v .outbound)
 
--- 44 asks for room for a TX and an AA
+-- the room that a TX and an AA take
 abbrev pub roomLeast : ℕ
 roomLeast = txLength + aaLength
 
--- 44: output under 217 bytes
+-- 44: an output with less room than that
 abbrev pub outputShort : Call → Bool
 outputShort c = ltb (c .room) roomLeast
 
@@ -82,7 +82,7 @@ abbrev pub notNumber : (ℕ → Bool) → Field → Bool
 notNumber p (Number n) = not (p n)
 notNumber p NotDigits = true
 
--- 10: the length is not 187 + n × D, n from 1 to 250
+-- 10: a body that is not a header and 1 to 250 whole details
 abbrev pub lengthWrong : List ℕ → Bool
 lengthWrong body = not (lengthFits body)
 
@@ -91,7 +91,7 @@ abbrev pub isNoSequence : Field → Bool
 isNoSequence (Number n) = isRefused n
 isNoSequence NotDigits = true
 
--- 11: sequence not digits, or 999999
+-- 11: a sequence that is no number, or one that the line never takes
 abbrev pub sequenceFails : List ℕ → Bool
 sequenceFails body = isNoSequence (numberIn body columns.sequence)
 
@@ -108,7 +108,7 @@ isDuplicate Gap = false
 abbrev pub repeatsLast : Line → List ℕ → Bool
 repeatsLast line body = isDuplicate (arrivalOf line (arrived body))
 
--- 12: duplicate sequence
+-- 12: the number that came last comes again
 abbrev pub sequenceRepeats : Call → Bool
 sequenceRepeats c = repeatsLast (c .book .line) (c .body)
 
@@ -116,7 +116,7 @@ sequenceRepeats c = repeatsLast (c .book .line) (c .body)
 abbrev pub typeUnknown : List ℕ → Bool
 typeUnknown body = isOther (typeOf body)
 
--- 14: version not 002
+-- 14: another version than ours
 abbrev pub versionWrong : List ℕ → Bool
 versionWrong body = not (same (bytesIn body columns.version) version)
 
@@ -133,7 +133,7 @@ posDupFine s = same s possiblyDuplicate || same s (blanks (columns.posDup .width
 abbrev pub fillersFine : List ℕ → Bool
 fillersFine body = (blankIn body columns.fillerOne && (blankIn body columns.fillerTwo && blankIn body columns.fillerThree)) && posDupFine (bytesIn body columns.posDup)
 
--- 15: header filler not blank, or Pos Dup not X or blank
+-- 15: something in a filler, or another character in Pos Dup
 abbrev pub fillersFail : List ℕ → Bool
 fillersFail body = not (fillersFine body)
 
@@ -146,7 +146,7 @@ amountsWrong ceiling body =
     notNumber (leb 1) (numberIn body columns.par)
     || (notNumber (leb 1) (numberIn body columns.price) || notNumber (atMost ceiling) (numberIn body columns.gdmm))
 
--- 16: par or price not digits or 0, GDMM not digits or over the ceiling
+-- 16: par or price is no number above 0, or GDMM no number up to the ceiling
 abbrev pub amountsFail : Values → List ℕ → Bool
 amountsFail v body = amountsWrong (v .limits .ceiling) body
 
@@ -161,7 +161,7 @@ partiesFine v body =
     && (any (isSide body) (tradesOf v)
     && (same (bytesIn body columns.contra) ftba || same (bytesIn body columns.contra) fsti)))
 
--- 17: subscriber or connection not the book's, submitter in no trade, contra neither FTBA nor FSTI
+-- 17: a party that the book does not know
 abbrev pub partiesFail : Values → List ℕ → Bool
 partiesFail v body = not (partiesFine v body)
 
@@ -169,30 +169,30 @@ partiesFail v body = not (partiesFine v body)
 abbrev pub always : Call → Bool
 always c = true
 
--- 19: terminator or lot form
+-- 19: terminators that make no whole lots
 abbrev pub lotFormFails : List ℕ → Bool
 lotFormFails body = not (formedFor (isCc (typeOf body)) (details body))
 
--- 20: groups
+-- 20: lots that make no groups
 abbrev pub groupsFail : List ℕ → Bool
 groupsFail body = not (groupsFormed (details body))
 
--- 21: sums
+-- 21: a group whose two runs differ in millions
 abbrev pub sumsFail : List ℕ → Bool
 sumsFail body = not (groupsBalanced (details body))
 
--- 22: number of pools not the replacement count
+-- 22: another number of pools than there are replacements
 abbrev pub replacementsFail : List ℕ → Bool
 replacementsFail body = notNumber (eqb (replacementCount (details body))) (numberIn body columns.numberOfPools)
 
--- 23: settlement not a business date
+-- 23: a settlement on no business date
 abbrev pub isBusinessDate : List ℕ → ℕ → Bool
 isBusinessDate holidays n = businessDate n holidays
 
 abbrev pub settlementFails : Values → List ℕ → Bool
 settlementFails v body = notNumber (isBusinessDate (holidaysOf v)) (numberIn body columns.settlement)
 
--- 24: reason not digits, or 0000
+-- 24: a reason that is no number above 0
 abbrev pub reasonFails : List ℕ → Bool
 reasonFails body = notNumber (leb 1) (numberIn body columns.reason)
 
@@ -202,12 +202,12 @@ isWhole (Whole place n) = true
 isWhole Broken = false
 isWhole Absent = false
 
--- 25: contra FSTI and no whole TRID
+-- 25: a stipulated DK that names no trade
 abbrev pub tradeIdMissing : List ℕ → Bool
 tradeIdMissing body = isStipulated body && not (isWhole (idIn body))
 
 -- ---- 30 to 40: the trader
--- 30: no live pool under the target
+-- 30: nothing lives under the target
 abbrev pub targetGone : Call → Bool
 targetGone c = not (any (under (targetOf (c .body))) (live c))
 
@@ -250,7 +250,7 @@ idFails body ts target (Whole place n) = not (namedFine body ts target (namedTra
 idFails body ts target Broken = true
 idFails body ts target Absent = isStipulated body
 
--- 31: TRID begun but not whole, or naming no trade with agreeing terms or another than the target's; on FSTI, absent
+-- 31: a trade ID that is broken, missing where it must stand, or leads to no trade that fits
 abbrev pub tradeIdFails : Call → Bool
 tradeIdFails c = idFails (c .body) (trades c) (targetTrade (c .body) (live c)) (idIn (c .body))
 
@@ -260,11 +260,11 @@ termsFail body ts target (Whole place n) = false
 termsFail body ts target Broken = false
 termsFail body ts target Absent = cond (isOn (typeOf body)) (not (any (agrees body) ts)) (not (agrees body (tradeAt ts target)))
 
--- 32: no trade, or not the target's trade, agrees
+-- 32: without a trade ID, terms that lead to no trade that fits
 abbrev pub termsDiffer : Call → Bool
 termsDiffer c = termsFail (c .body) (trades c) (targetTrade (c .body) (live c)) (idIn (c .body))
 
--- 33: GDMM not the sum of good millions
+-- 33: GDMM differs from the millions of the good lots
 abbrev pub millionsFail : List ℕ → Bool
 millionsFail body = notNumber (eqb (goodMillions (details body))) (numberIn body columns.gdmm)
 

@@ -30,4 +30,4 @@ pub record Opens (v : Values) (pools : List Pool) (r : Opened) (pools′ : List 
 
 -- a trade's figures: open par and standing millions, where the book is sound and has the trade
 pub record Says (b : Book) (pools : List Pool) (trade : ℕ) (r : Figures) : Type 0 where
-  pub figures : r ≡ figuresOf true b pools trade
+  pub figures : r ≡ figuresOf b pools trade

@@ -16,9 +16,9 @@ use Rattle.calls.specs.declared.Figures.{Figures}
 abbrev pub unknown : Figures
 unknown = record { known = false; openPar = 0; millions = 0 }
 
--- the open par and the standing millions of a trade that is opened, where the slices are paired and the book is sound; else nothing
-unfoldable pub figuresOf : Bool → Book → List Pool → ℕ → Figures
-figuresOf paired b table trade =
-    cond (paired && (isSound b table && ltb trade (length (tradesOf (b .values)))))
+-- the open par and the standing millions of a trade that is opened, where the book is sound; else nothing
+unfoldable pub figuresOf : Book → List Pool → ℕ → Figures
+figuresOf b table trade =
+    cond (isSound b table && ltb trade (length (tradesOf (b .values))))
     (record { known = true; openPar = tradeAt (tradesOf (b .values)) trade .openPar; millions = standingMillions trade (liveOf b table) })
     unknown

@@ -78,7 +78,7 @@ reports v zeros o opens b is tape d left p b′ is′ f says r e =
     let opens₀ : Opens v (replicate 512 noPool) o zeros = subst (λ (l : List Pool). Opens v l o zeros) (sym (no-pools-are 512)) opens in
     let p₀ : Passes (o .book) zeros tape d left = subst (λ (c : Book). Passes c zeros tape d left) is p in
     let first = begins v 512 zeros o opens₀ in
-    let said : f ≡ saidOf (afterAll (startOf v) (putsOf tape)) 0 = says .figures ∙ ap (λ (c : Book). figuresOf true c left 0) is′ ∙ ap (λ (s : State). saidOf s 0) (p₀ .state ∙ ap (λ (s : State). afterAll s (putsOf tape)) first) in
+    let said : f ≡ saidOf (afterAll (startOf v) (putsOf tape)) 0 = says .figures ∙ ap (λ (c : Book). figuresOf c left 0) is′ ∙ ap (λ (s : State). saidOf s 0) (p₀ .state ∙ ap (λ (s : State). afterAll s (putsOf tape)) first) in
     subst (ReportsOver v tape) (sym e)
     (record {
       accepted = p₀ .accepted ∙ ap (λ (s : State). acceptedAmong (fed s (putsOf tape))) first;

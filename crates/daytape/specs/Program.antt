@@ -58,7 +58,7 @@ start = startOf valuesGiven
 
 -- what is said of a trade of a state
 abbrev pub saidOf : State → ℕ → Figures
-saidOf s trade = figuresOf true (s .book) (s .table) trade
+saidOf s trade = figuresOf (s .book) (s .table) trade
 
 -- the counts of a day, and a trade's figures
 abbrev pub reportOf : Day → Figures → Report

@@ -20,7 +20,7 @@ pub figures-written : (out out′ : List ℕ) (f : Figures) (k : ℕ) → k ≡ 
 unfolding figuresNumbers
 figures-written out out′ f k e w = rw e at w
 
-unsound-unknown : (b : Book) (pools : List Pool) (trade : ℕ) → isSound b pools ≡ false → figuresOf true b pools trade ≡ unknown
+unsound-unknown : (b : Book) (pools : List Pool) (trade : ℕ) → isSound b pools ≡ false → figuresOf b pools trade ≡ unknown
 unfolding figuresOf
 unsound-unknown b pools trade e = rw e
 
@@ -28,6 +28,6 @@ pub figures-said : (ws : List ℕ) (pools : List Pool) (trade : ℕ) (b : Book) 
 unfolding figuresIn
 figures-said ws pools trade b f reads said = go (isImage ws) reads
   where
-    go : (k : Bool) → Reads k ws b → f ≡ cond k (figuresOf true (bookIn ws) pools trade) unknown
-    go true r = said .figures ∙ ap (λ (k : Book). figuresOf true k pools trade) (r .book refl)
+    go : (k : Bool) → Reads k ws b → f ≡ cond k (figuresOf (bookIn ws) pools trade) unknown
+    go true r = said .figures ∙ ap (λ (k : Book). figuresOf k pools trade) (r .book refl)
     go false r = said .figures ∙ unsound-unknown b pools trade (values-unsound b pools (r .none refl))

@@ -14,4 +14,4 @@ figuresNumbers f = bit (f .known) ∷ f .openPar ∷ f .millions ∷ []
 
 -- nothing where the words are no book's
 unfoldable pub figuresIn : List ℕ → List Pool → ℕ → Figures
-figuresIn ws pools trade = cond (isImage ws) (figuresOf true (bookIn ws) pools trade) unknown
+figuresIn ws pools trade = cond (isImage ws) (figuresOf (bookIn ws) pools trade) unknown

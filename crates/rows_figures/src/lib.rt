@@ -10,7 +10,7 @@ ghost use Rattle.book.specs.Opening.{recordsMax};
 ghost use Rattle.rows.specs.Rows.{tableOf};
 ghost use Rattle.rows.specs.Runs.{runSum, millionsShare, shareOf};
 ghost use Rattle.check_soundness.specs.Parts.{recordOf, Light};
-ghost use Rattle.calls.specs.Figures.{figuresOf};
+ghost use Rattle.rows_figures.specs.Saying.{rowsSay};
 
 // What a record adds to a trade's standing millions.
 fn share(row: [u64; 6], trade: u64, begins: bool) -> u64
@@ -48,7 +48,7 @@ fn standing(numbers: &[[u64; 6]], live: usize, trade: u64) -> u64
 
 // What a book says of the trade of an index. Only a sound book says anything.
 pub fn trade_figures(book: Book, numbers: &[[u64; 6]], keys: &[[u8; 22]], trade: usize) -> Figures
-    ensures { λ r. ⌜ r ≡ figuresOf (eqb (length (now (keys .entry))) (length (now (numbers .entry)))) book (tableOf (now (numbers .entry)) (now (keys .entry))) trade ⌝ }
+    ensures { λ r. ⌜ r ≡ rowsSay (now (numbers .entry)) (now (keys .entry)) book trade ⌝ }
 {
     let v = book.values;
     let count = v.tradeCount;
