@@ -3,6 +3,7 @@ use book::Book;
 use book::Pool;
 use calls::Stepped;
 use rows_enough::Moved;
+ghost use mathlib.Core.Path.{_≡_};
 ghost use Prim.Native.Nat.{_-_, _≤_};
 ghost use lib.ListN.{length};
 ghost use Rattle.lists.specs.Lists.{part};
@@ -54,6 +55,27 @@ fn step_part_rows(
     )
 }
 
+// The first record that a call changed.
+fn changed_from(moved: Moved) -> usize
+    ensures { λ r. ⌜ r ≡ moved .from ⌝ }
+{
+    moved.from
+}
+
+// The end of the records that a call changed.
+fn changed_to(moved: Moved) -> usize
+    ensures { λ r. ⌜ r ≡ moved .to ⌝ }
+{
+    moved.to
+}
+
+// The book and the answer after a call.
+fn stepped_of(moved: Moved) -> Stepped
+    ensures { λ r. ⌜ r ≡ moved .stepped ⌝ }
+{
+    moved.stepped
+}
+
 // The frame call on a lent table, by rows that are lent too.
 pub fn step_with(
     book: Book,
@@ -87,6 +109,8 @@ pub fn step_with(
         time,
         out,
     );
-    table_store::store(pools, moved.from, moved.to, numbers, keys);
-    moved.stepped
+    let first = changed_from(moved);
+    let end = changed_to(moved);
+    table_store::store(pools, first, end, numbers, keys);
+    stepped_of(moved)
 }
