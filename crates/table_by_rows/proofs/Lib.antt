@@ -1,3 +1,2 @@
 pub mod Staging
 pub mod Values
-pub mod Framing

@@ -3,10 +3,12 @@ use mathlib.Core.Path.{_≡_, _∙_, ap}
 use mathlib.Core.List.{List}
 use mathlib.Core.Bool.{Bool}
 use Prim.Native.Nat.{ℕ, _<_, _≤_, min}
-use native.Mathlib.Nat.{min-le-left}
+use native.Mathlib.Nat.{min-le-left, min-le-right}
+use native.Mathlib.Omega.{arith}
 use lib.ListN.{length, getD, take, drop}
 use Rattle.lists.specs.Lists.{all}
 use Rattle.book.specs.declared.Pool.{Pool}
+use Rattle.book.specs.Opening.{recordsMax}
 use Rattle.book.specs.Records.{noPool}
 use Rattle.book.specs.Soundness.{isNone}
 use Rattle.rows.specs.Rows.{rowOf, keyOf, tableOf}
@@ -18,6 +20,10 @@ use Rattle.table_by_rows.specs.LoadsRows.{LoadsRows}
 
 pub rows-within : (records want : ℕ) → rowsOf records want ≤ records
 rows-within records want = min-le-left records (min 4096 want)
+
+-- as many rows as a table has at most are enough
+pub rows-enough : (records want : ℕ) (rows : ℕ) → rows ≡ recordsMax → rowsOf records want ≤ rows
+rows-enough records want rows e = omega (arith, e, min-le-right records (min 4096 want), min-le-left 4096 want)
 
 module _ (pools : List Pool) (want : ℕ) (ns ks ns′ ks′ : List (List ℕ)) where
   abbrev rows : ℕ

@@ -53,8 +53,8 @@ use Rattle.calls.proofs.Stepped.Laws as S′
 use Rattle.table_load.proofs.Row.{R}
 use Rattle.calls.specs.Calls.{Framed}
 use Rattle.table_by_rows.proofs.Values.{BookR, bookVal, bookVals, book-tells, book-makes, SteppedR, stepped-makes, stepped-typed, TimeR, timeVal, timeVals, time-tells, time-makes}
-use Rattle.table_by_rows.proofs.step_with as sw
-use Rattle.table_by_rows.proofs.step_with.Symbol.{name as #table-by-rows·step-with}
+use Rattle.table_step.proofs.step_with as sw
+use Rattle.table_step.proofs.step_with.Symbol.{name as #table-step·step-with}
 use Rattle.slice_laws.proofs.Blanks.{blanks, length-blanks, RowR, zeros, rowVal, rows-typed, rows-out}
 use Rattle.slice_laws.proofs.Scratch.{repeatVal, elems-room}
 use Rattle.rows_enough.specs.FirstRows.{wanted, rowsOf}
@@ -164,7 +164,7 @@ module _ (m : ℕ) where
 
 -- the code of the call, with the slices of table, numbers, keys and output in _13, _15, _17 and _19
 abbrev call-with : Body
-call-with = seq (call #table-by-rows·step-with (copy (place 1 []) ∷ copy (place 13 []) ∷ copy (place 15 []) ∷ copy (place 17 []) ∷ copy (place 3 []) ∷ copy (place 4 []) ∷ copy (place 5 []) ∷ copy (place 6 []) ∷ copy (place 19 []) ∷ []) (place 0 [])) return
+call-with = seq (call #table-step·step-with (copy (place 1 []) ∷ copy (place 13 []) ∷ copy (place 15 []) ∷ copy (place 17 []) ∷ copy (place 3 []) ∷ copy (place 4 []) ∷ copy (place 5 []) ∷ copy (place 6 []) ∷ copy (place 19 []) ∷ []) (place 0 [])) return
 
 module _ {M : Type 1} (𝓤 : URA M) (H : Heap 𝓤) (A : Atoms 𝓤) (W : Given 𝓤 H A) (mem : Memory → SProp 𝓤) (run : Routine → Fun 𝓤) (κs : Lfts 3) (qs : Shares 3) (a : Arg) where
   abbrev k : Book
@@ -291,7 +291,7 @@ module _ {M : Type 1} (𝓤 : URA M) (H : Heap 𝓤) (A : Atoms 𝓤) (W : Given
     abbrev Stepping : Stepped → Lasts → Type 0
     Stepping r zs = Framed k ys frame-body time os r (zs .1 .0) (zs .1 .1 .1 .1 .1 .1 .1 .1 .0)
 
-    module _ (𝓣 : Tables 𝓤 H) (known : Triple 𝓤 (𝓣 .C #table-by-rows·step-with) (With 𝓤 H A mem run))
+    module _ (𝓣 : Tables 𝓤 H) (known : Triple 𝓤 (𝓣 .C #table-step·step-with) (With 𝓤 H A mem run))
         (gk : Is BookR k (bookVals k)) (gs : start < 2 ^ 64) (gp : past < 2 ^ 64) (gt : Is TimeR time (timeVals time)) (enough : rowsOf (length ys) (wanted (k .live) (past - start)) ≤ m) (within : (start ≤ past) × (past ≤ length ts)) (room-numbers : Room N m) (room-keys : Room K m)
         (τ : ℕ → Ty) (is-stepped : steppedTy ≡ τ 0) (is-numbers : numbersTy m ≡ τ 8) (is-keys : keysTy m ≡ τ 9) (l₀ l₁ l₂ l₃ l₄ l₅ l₆ l₇ l₈ l₉ l₁₀ l₁₁ l₁₂ l₁₃ l₁₄ l₁₅ l₁₆ l₁₇ l₁₈ l₁₉ : ℕ) where
       many-numbers : length (numbers m) ≡ m

@@ -2,12 +2,14 @@
 use book::Book;
 use book::Pool;
 use calls::Stepped;
+use rows_enough::Moved;
 ghost use mathlib.Core.Path.{_≡_};
 ghost use Prim.Native.Nat.{_-_, _≤_};
 ghost use lib.Dec.{leb};
 ghost use lib.ListN.{length};
 ghost use Rattle.lists.specs.Lists.{part};
 ghost use Rattle.rows_enough.specs.FirstRows.{wanted, rowsOf};
+ghost use Rattle.rows_enough.specs.Moving.{StepsRows};
 ghost use Rattle.calls.specs.Calls.{Framed};
 
 // How many rows a call clears where its live pools and what a message brings are few.
@@ -18,6 +20,94 @@ fn few_enough(book: Book, records: usize, from: usize, to: usize) -> bool
     ensures { λ r. ⌜ r ≡ leb (rowsOf records (wanted (book .live) (to - from))) 512 ⌝ }
 {
     rows_enough::rows_of(records, rows_enough::rows_wanted(book, from, to)) <= FEW
+}
+
+// The frame call on the rows of a table, with the body that lies in a tape from one place up to another.
+fn step_part_rows(
+    book: Book,
+    numbers: &mut [[u64; 6]],
+    keys: &mut [[u8; 22]],
+    records: usize,
+    rest: bool,
+    tape: &[u8],
+    from: usize,
+    to: usize,
+    time: [u8; 6],
+    out: &mut [u8],
+) -> Moved
+    requires { ⌜ (rowsOf records (wanted (book .live) (to - from)) ≤ length (now numbers)) × (rowsOf records (wanted (book .live) (to - from)) ≤ length (now keys)) × (from ≤ to) × (to ≤ length (now tape)) ⌝ }
+    ensures { λ r. ⌜ StepsRows book (now (numbers .entry)) (now (keys .entry)) records rest (part (now (tape .entry)) from (to - from)) time (now (out .entry)) r (now (numbers .exit)) (now (keys .exit)) (now (out .exit)) ⌝ }
+{
+    rows_enough::step_rows(
+        book,
+        &mut *numbers,
+        &mut *keys,
+        records,
+        rest,
+        &tape[from..to],
+        time,
+        &mut *out,
+    )
+}
+
+// The first record that a call changed.
+fn changed_from(moved: Moved) -> usize
+    ensures { λ r. ⌜ r ≡ moved .from ⌝ }
+{
+    moved.from
+}
+
+// The end of the records that a call changed.
+fn changed_to(moved: Moved) -> usize
+    ensures { λ r. ⌜ r ≡ moved .to ⌝ }
+{
+    moved.to
+}
+
+// The book and the answer after a call.
+fn stepped_of(moved: Moved) -> Stepped
+    ensures { λ r. ⌜ r ≡ moved .stepped ⌝ }
+{
+    moved.stepped
+}
+
+// The frame call on a lent table, by rows that are lent too.
+fn step_with(
+    book: Book,
+    pools: &mut [Pool],
+    numbers: &mut [[u64; 6]],
+    keys: &mut [[u8; 22]],
+    tape: &[u8],
+    from: usize,
+    to: usize,
+    time: [u8; 6],
+    out: &mut [u8],
+) -> Stepped
+    requires { ⌜ (rowsOf (length (now pools)) (wanted (book .live) (to - from)) ≤ length (now numbers)) × (rowsOf (length (now pools)) (wanted (book .live) (to - from)) ≤ length (now keys)) × (from ≤ to) × (to ≤ length (now tape)) ⌝ }
+    ensures { λ r. ⌜ Framed book (now (pools .entry)) (part (now (tape .entry)) from (to - from)) time (now (out .entry)) r (now (pools .exit)) (now (out .exit)) ⌝ }
+{
+    let rest = table_by_rows::load_rows(
+        pools,
+        rows_enough::rows_wanted(book, from, to),
+        numbers,
+        keys,
+    );
+    let moved = step_part_rows(
+        book,
+        numbers,
+        keys,
+        pools.len(),
+        rest,
+        tape,
+        from,
+        to,
+        time,
+        out,
+    );
+    let first = changed_from(moved);
+    let end = changed_to(moved);
+    table_store::store(pools, first, end, numbers, keys);
+    stepped_of(moved)
 }
 
 // The frame call by few rows.
@@ -35,7 +125,7 @@ fn step_few(
 {
     let mut numbers = [[0u64; 6]; FEW];
     let mut keys = [[0u8; 22]; FEW];
-    table_by_rows::step_with(
+    step_with(
         book,
         pools,
         &mut numbers,
@@ -63,7 +153,7 @@ fn step_many(
 {
     let mut numbers = [[0u64; 6]; book::RECORDS_MAX];
     let mut keys = [[0u8; 22]; book::RECORDS_MAX];
-    table_by_rows::step_with(
+    step_with(
         book,
         pools,
         &mut numbers,

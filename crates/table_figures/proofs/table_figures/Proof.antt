@@ -53,7 +53,7 @@ use Rattle.rows_enough.specs.FirstRows.{rowsOf}
 use Rattle.rows_enough.specs.Moving.{SaysRows}
 use Rattle.calls.specs.Calls.{Says}
 use Rattle.table_by_rows.specs.LoadsRows.{LoadsRows}
-use Rattle.table_by_rows.proofs.Framing.{rows-enough}
+use Rattle.table_by_rows.proofs.Staging.{rows-enough}
 use Rattle.table_by_rows.proofs.Values.{BookR, bookVal, bookVals, book-tells, book-makes, book-typed, live-fits}
 use Rattle.table_figures.proofs.MachineValues.{FiguresR, figuresVal, figuresVals, figures-makes, figures-typed, figures-is, figures-its}
 use Rattle.table_figures.proofs.Saying.{says-figures}

@@ -1,9 +1,9 @@
 -- The body is a part of the tape, so what the rows promise of it is promised of that part.
 use borrow.Author.Needs.{needs}
 use Rattle.lists.specs.Lists.{part}
-use Rattle.table_by_rows.proofs.Framing.{part-fits}
-use Rattle.table_by_rows.proofs.step_part_rows.Statement.{statement}
-use Rattle.table_by_rows.proofs.step_part_rows.Tie as tie
+use Rattle.table_step.proofs.Framing.{part-fits}
+use Rattle.table_step.proofs.step_part_rows.Statement.{statement}
+use Rattle.table_step.proofs.step_part_rows.Tie as tie
 
 sub-step-rows : tie.Need-sub-step-rows
 sub-step-rows c = search needs

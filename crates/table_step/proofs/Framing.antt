@@ -2,20 +2,18 @@
 use mathlib.Core.Path.{_≡_, refl, _∙_}
 use mathlib.Core.List.{List}
 use mathlib.Core.Bool.{Bool}
-use Prim.Native.Nat.{ℕ, _-_, _≤_, min}
-use native.Mathlib.Nat.{min-le-left, min-le-right}
+use Prim.Native.Nat.{ℕ, _-_, _≤_}
 use native.Mathlib.Omega.{arith}
 use lib.ListN.{length, take, drop}
 use Rattle.lists.specs.Lists.{part}
 use Rattle.lists.proofs.Parts.{length-part}
 use Rattle.book.specs.declared.Book.{Book}
 use Rattle.book.specs.declared.Pool.{Pool}
-use Rattle.book.specs.Opening.{recordsMax}
 use Rattle.rows_enough.specs.declared.Moved.{Moved}
 use Rattle.rows_enough.specs.FirstRows.{wanted, rowsOf, stored}
 use Rattle.rows_enough.specs.Moving.{Moves, StepsRows}
 use Rattle.calls.specs.Calls.{Framed}
 use Rattle.table_by_rows.specs.LoadsRows.{LoadsRows}
 
 -- a part of a tape is as long as its places are apart
 pub part-size : (tape : List ℕ) (from to : ℕ) → from ≤ to → to ≤ length tape → length (part tape from (to - from)) ≡ to - from
@@ -26,10 +24,6 @@ pub part-fits : (records live : ℕ) (tape : List ℕ) (from to room : ℕ) → 
     → rowsOf records (wanted live (length (take (to - from) (drop from tape)))) ≤ room
 unfolding part
 part-fits records live tape from to room h l fits = rw (part-size tape from to h l) fits
-
--- as many rows as a table has at most are enough
-pub rows-enough : (records want : ℕ) (rows : ℕ) → rows ≡ recordsMax → rowsOf records want ≤ rows
-rows-enough records want rows e = omega (arith, e, min-le-right records (min 4096 want), min-le-left 4096 want)
 
 module _ (b : Book) (pools : List Pool) (ns ks ns₁ ks₁ ns₂ ks₂ : List (List ℕ)) (rest : Bool) (body time out : List ℕ) (r : Moved) (out′ : List ℕ) (bytes : ℕ) (size : length body ≡ bytes)
     (staged : LoadsRows pools (wanted (b .live) bytes) ns ks rest ns₁ ks₁) (stepped : StepsRows b ns₁ ks₁ (length pools) rest body time out r ns₂ ks₂ out′) where
