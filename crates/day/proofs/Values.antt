@@ -23,7 +23,7 @@ use denote.Steps.{only}
 use denote.Struct.Laws as LL
 use Rattle.book.specs.declared.Book.{Book}
 use Rattle.calls.specs.declared.Stepped.{Stepped}
-use Rattle.table_by_rows.proofs.Values.{BookR, bookVal, bookVals, book-tells, SteppedR, steppedVal, steppedVals, TimeR, timeVals}
+use Rattle.table_rows.proofs.Values.{BookR, bookVal, bookVals, book-tells, SteppedR, steppedVal, steppedVals, TimeR, timeVals}
 use Rattle.day.specs.declared.Day.{Day}
 use Rattle.day.specs.declared.Going.{Going}
 use Rattle.day.specs.declared.Place.{Place}

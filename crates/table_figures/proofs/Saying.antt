@@ -9,7 +9,7 @@ use Rattle.book.specs.declared.Pool.{Pool}
 use Rattle.calls.specs.declared.Figures.{Figures}
 use Rattle.rows_enough.specs.Moving.{SaysRows}
 use Rattle.calls.specs.Calls.{Says}
-use Rattle.table_by_rows.specs.LoadsRows.{LoadsRows}
+use Rattle.table_rows.specs.LoadsRows.{LoadsRows}
 
 module _ (b : Book) (pools : List Pool) (ns ks ns₁ ks₁ : List (List ℕ)) (rest : Bool) (trade : ℕ) (r : Figures) where
   pub says-figures : LoadsRows pools (b .live) ns ks rest ns₁ ks₁ → SaysRows b ns₁ ks₁ (length pools) rest trade r → Says b pools trade r

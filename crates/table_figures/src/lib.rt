@@ -10,6 +10,6 @@ pub fn table_figures(book: Book, pools: &[Pool], trade: usize) -> Figures
 {
     let mut numbers = [[0u64; 6]; book::RECORDS_MAX];
     let mut keys = [[0u8; 22]; book::RECORDS_MAX];
-    let rest = table_by_rows::load_rows(pools, book.live, &mut numbers, &mut keys);
+    let rest = table_rows::load_rows(pools, book.live, &mut numbers, &mut keys);
     rows_enough::figures_rows(book, &numbers, &keys, pools.len(), rest, trade)
 }

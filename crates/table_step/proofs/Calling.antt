@@ -52,7 +52,7 @@ use Rattle.calls.specs.declared.Stepped.{Stepped}
 use Rattle.calls.proofs.Stepped.Laws as S′
 use Rattle.table_load.proofs.Row.{R}
 use Rattle.calls.specs.Calls.{Framed}
-use Rattle.table_by_rows.proofs.Values.{BookR, bookVal, bookVals, book-tells, book-makes, SteppedR, stepped-makes, stepped-typed, TimeR, timeVal, timeVals, time-tells, time-makes}
+use Rattle.table_rows.proofs.Values.{BookR, bookVal, bookVals, book-tells, book-makes, SteppedR, stepped-makes, stepped-typed, TimeR, timeVal, timeVals, time-tells, time-makes}
 use Rattle.table_step.proofs.step_with as sw
 use Rattle.table_step.proofs.step_with.Symbol.{name as #table-step·step-with}
 use Rattle.slice_laws.proofs.Blanks.{blanks, length-blanks, RowR, zeros, rowVal, rows-typed, rows-out}

@@ -13,7 +13,7 @@ use Rattle.rows_enough.specs.declared.Moved.{Moved}
 use Rattle.rows_enough.specs.FirstRows.{wanted, rowsOf, stored}
 use Rattle.rows_enough.specs.Moving.{Moves, StepsRows}
 use Rattle.calls.specs.Calls.{Framed}
-use Rattle.table_by_rows.specs.LoadsRows.{LoadsRows}
+use Rattle.table_rows.specs.LoadsRows.{LoadsRows}
 
 -- a part of a tape is as long as its places are apart
 pub part-size : (tape : List ℕ) (from to : ℕ) → from ≤ to → to ≤ length tape → length (part tape from (to - from)) ≡ to - from

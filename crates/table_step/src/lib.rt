@@ -86,7 +86,7 @@ fn step_with(
     requires { ⌜ (rowsOf (length (now pools)) (wanted (book .live) (to - from)) ≤ length (now numbers)) × (rowsOf (length (now pools)) (wanted (book .live) (to - from)) ≤ length (now keys)) × (from ≤ to) × (to ≤ length (now tape)) ⌝ }
     ensures { λ r. ⌜ Framed book (now (pools .entry)) (part (now (tape .entry)) from (to - from)) time (now (out .entry)) r (now (pools .exit)) (now (out .exit)) ⌝ }
 {
-    let rest = table_by_rows::load_rows(
+    let rest = table_rows::load_rows(
         pools,
         rows_enough::rows_wanted(book, from, to),
         numbers,

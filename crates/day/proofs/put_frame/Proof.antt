@@ -55,7 +55,7 @@ use Rattle.day.specs.declared.Going.{Going}
 use Rattle.day.specs.declared.Place.{Place}
 use Rattle.day.specs.Turns.{placeAfter, countedOf, turn}
 use Rattle.day.proofs.Turning.{outgoing, outgoing-are, outgoing-long, turned}
-use Rattle.table_by_rows.proofs.Values.{BookR, bookVals, book-makes, book-typed, SteppedR, steppedVals, stepped-makes, stepped-typed, TimeR, timeVals, time-makes, time-typed}
+use Rattle.table_rows.proofs.Values.{BookR, bookVals, book-makes, book-typed, SteppedR, steppedVals, stepped-makes, stepped-typed, TimeR, timeVals, time-makes, time-typed}
 use Rattle.day.proofs.Values.{book-is, book-its, stepped-is, stepped-its, midnight, midnight-is, GoingR, goingVal, goingVals, going-tells, going-makes, going-typed, going-is, going-its, PlaceR, placeVals, place-makes, place-typed, place-is, place-its}
 use Rattle.day.proofs.frame_after as fa
 use Rattle.day.proofs.frame_after.Symbol as after-def

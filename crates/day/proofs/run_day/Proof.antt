@@ -49,7 +49,7 @@ use Rattle.day.specs.declared.Going.{Going}
 use Rattle.day.specs.Turns.{framesIn, begunOf, turn, turns}
 use Rattle.day.proofs.Counting.{frames-at-most}
 use Rattle.day.proofs.Turning.{accepted-at-most, others-at-most, passes}
-use Rattle.table_by_rows.proofs.Values.{BookR, bookVal, bookVals, book-tells, book-makes, book-typed}
+use Rattle.table_rows.proofs.Values.{BookR, bookVal, bookVals, book-tells, book-makes, book-typed}
 use Rattle.day.proofs.Values.{DayR, dayVal, day-makes, day-typed, GoingR, goingVal, goingVals, going-makes, going-typed, going-is, going-its, day-of}
 use Rattle.day.proofs.frames_in as fi
 use Rattle.day.proofs.frames_in.Symbol as frames-def

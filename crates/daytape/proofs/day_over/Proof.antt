@@ -56,7 +56,7 @@ use Rattle.calls.specs.declared.Opened.{Opened}
 use Rattle.calls.specs.declared.Figures.{Figures}
 use Rattle.day.specs.declared.Day.{Day}
 use Rattle.day.specs.Days.{Passes}
-use Rattle.table_by_rows.proofs.Values.{BookR, bookVals, book-makes, book-typed}
+use Rattle.table_rows.proofs.Values.{BookR, bookVals, book-makes, book-typed}
 use Rattle.day.proofs.Values.{book-is, book-its, DayR, dayVals, day-makes, day-typed, day-is, day-its}
 use Rattle.table_open.proofs.MachineValues.{ValuesR, valuesVal, valuesVals, values-tells, values-makes, values-typed, OpenedR, openedVals, opened-makes, opened-typed, opened-is, opened-its}
 use Rattle.table_figures.proofs.MachineValues.{FiguresR, figuresVals, figures-makes, figures-typed, figures-is, figures-its}

@@ -43,7 +43,7 @@ use Rattle.image.specs.Images.{isImage}
 use Rattle.calls.specs.Calls.{Says}
 use Rattle.rhoikandra.specs.Reading.{Reads}
 use Rattle.rhoikandra.specs.Figures.{figuresNumbers, figuresIn}
-use Rattle.table_by_rows.proofs.Values.{BookR, book-makes, book-typed}
+use Rattle.table_rows.proofs.Values.{BookR, book-makes, book-typed}
 use Rattle.table_figures.proofs.MachineValues.{FiguresR, figures-makes, figures-typed}
 use Rattle.rhoikandra.proofs.Saying.{figures-said}
 use Rattle.rhoikandra.proofs.book_of as bo

@@ -44,7 +44,7 @@ use Rattle.table_load.proofs.Row.{R}
 use Rattle.calls.specs.Calls.{Framed}
 use Rattle.rhoikandra.specs.Reading.{Reads}
 use Rattle.rhoikandra.specs.Calls.{timeWidth, callable, Finishes, Calls}
-use Rattle.table_by_rows.proofs.Values.{BookR, SteppedR, TimeR, book-makes, stepped-makes, time-makes, book-typed, stepped-typed, time-typed}
+use Rattle.table_rows.proofs.Values.{BookR, SteppedR, TimeR, book-makes, stepped-makes, time-makes, book-typed, stepped-typed, time-typed}
 use Rattle.rhoikandra.proofs.Calling.{called}
 use Rattle.rhoikandra.proofs.start as sa
 use Rattle.rhoikandra.proofs.start.Symbol as start-def

@@ -52,15 +52,15 @@ use Rattle.table_load.proofs.Row.{R}
 use Rattle.rows_enough.specs.FirstRows.{rowsOf}
 use Rattle.rows_enough.specs.Moving.{SaysRows}
 use Rattle.calls.specs.Calls.{Says}
-use Rattle.table_by_rows.specs.LoadsRows.{LoadsRows}
-use Rattle.table_by_rows.proofs.Staging.{rows-enough}
-use Rattle.table_by_rows.proofs.Values.{BookR, bookVal, bookVals, book-tells, book-makes, book-typed, live-fits}
+use Rattle.table_rows.specs.LoadsRows.{LoadsRows}
+use Rattle.table_rows.proofs.Staging.{rows-enough}
+use Rattle.table_rows.proofs.Values.{BookR, bookVal, bookVals, book-tells, book-makes, book-typed, live-fits}
 use Rattle.table_figures.proofs.MachineValues.{FiguresR, figuresVal, figuresVals, figures-makes, figures-typed, figures-is, figures-its}
 use Rattle.table_figures.proofs.Saying.{says-figures}
-use Rattle.table_by_rows.proofs.load_rows as sg
-use Rattle.table_by_rows.proofs.load_rows.Symbol as stage-def
-use Rattle.table_by_rows.proofs.load_rows.Symbol.{name as #table-by-rows·load-rows}
-use Rattle.table_by_rows.proofs.load_rows.Met as stage-thm
+use Rattle.table_rows.proofs.load_rows as sg
+use Rattle.table_rows.proofs.load_rows.Symbol as stage-def
+use Rattle.table_rows.proofs.load_rows.Symbol.{name as #table-rows·load-rows}
+use Rattle.table_rows.proofs.load_rows.Met as stage-thm
 use Rattle.rows_enough.proofs.figures_rows as fr
 use Rattle.rows_enough.proofs.figures_rows.Symbol as figures-def
 use Rattle.rows_enough.proofs.figures_rows.Symbol.{name as #rows-enough·figures-rows}
@@ -234,7 +234,7 @@ module _ {M : Type 1} (𝓤 : URA M) (H : Heap 𝓤) (A : Atoms 𝓤) (W : Given
           → ent 𝓤 (ensured 𝓤 H A fr.ended (fr.clauses 𝓤 H A mem run) (ν ∷ [], (ν₂ ∷ [], tt)) (figures-args δ δ₂) tt r) (fact 𝓤 (SaysRows k ns ks (length ys) rest trade r))
       said-figures ν δ ν₂ δ₂ r = exE 𝓤 _ (λ zs. snd∗ 𝓤 (sem 𝓤 H A (lasts fr.ended (ν ∷ [], (ν₂ ∷ [], tt)) (figures-args δ δ₂) zs)) (fact 𝓤 (SaysRows k ns ks (length ys) rest trade r)))
 
-  module _ (𝓣 : Tables 𝓤 H) (known-stage : Triple 𝓤 (𝓣 .C #table-by-rows·load-rows) (Stage 𝓤 H A mem run)) (known-figures : Triple 𝓤 (𝓣 .C #rows-enough·figures-rows) (FiguresRows 𝓤 H A mem run)) where
+  module _ (𝓣 : Tables 𝓤 H) (known-stage : Triple 𝓤 (𝓣 .C #table-rows·load-rows) (Stage 𝓤 H A mem run)) (known-figures : Triple 𝓤 (𝓣 .C #rows-enough·figures-rows) (FiguresRows 𝓤 H A mem run)) where
     walk : Is BookR k (bookVals k) → Room R (length ys) → trade < 2 ^ 64 → ent 𝓤 (onEntry 𝓤 H A f.signature (κ, tt) (q, tt) a at) (WpFn 𝓤 H (𝓣 .C) (𝓣 .Λ) code.function given Post)
     walk gk room gt =
         qed W ((‵ (flft κ q) ⊛ ‵ ftrue) ∷ ‵ (owns (BookR ∷ ShrSlice (named 0) κ R ∷ usize ∷ []) a at) ∷ []) ∵ enter ! (𝓣 .C) (𝓣 .Λ) code.function given _ $
@@ -313,7 +313,7 @@ module _ {M : Type 1} (𝓤 : URA M) (H : Heap 𝓤) (A : Atoms 𝓤) (W : Given
         by ! (exits r (figures-its r w₂ gr) (says-figures k ys us vs (zs .1 .1 .0) (zs .1 .1 .1 .0) rest trade r e₁ e₂)))))))))))))))))))))))))))))))))))))))
 
 module _ {M : Type 1} (𝓤 : URA M) (H : Heap 𝓤) (A : Atoms 𝓤) (W : Given 𝓤 H A) (mem : Memory → SProp 𝓤) (run : Routine → Fun 𝓤) where
-  table-figures-walks : (𝓣 : Tables 𝓤 H) → Triple 𝓤 (𝓣 .C #table-by-rows·load-rows) (Stage 𝓤 H A mem run) → Triple 𝓤 (𝓣 .C #rows-enough·figures-rows) (FiguresRows 𝓤 H A mem run)
+  table-figures-walks : (𝓣 : Tables 𝓤 H) → Triple 𝓤 (𝓣 .C #table-rows·load-rows) (Stage 𝓤 H A mem run) → Triple 𝓤 (𝓣 .C #rows-enough·figures-rows) (FiguresRows 𝓤 H A mem run)
       → Walks 𝓤 H A f.ended stayed (WpFn 𝓤 H (𝓣 .C) (𝓣 .Λ) code.function) (f.clauses 𝓤 H A mem run)
   table-figures-walks 𝓣 known-stage known-figures = walked 𝓤 H A f.ended stayed (f.clauses 𝓤 H A mem run) (WpFn 𝓤 H (𝓣 .C) (𝓣 .Λ) code.function)
       (λ κs. (bookVals, (slice-vals, (uint-vals w64, tt)))) (λ κs. (book-tells, (shr-slice-tells (named 0) (κs .0) R, (uint-tells w64, tt))))
@@ -321,7 +321,7 @@ module _ {M : Type 1} (𝓤 : URA M) (H : Heap 𝓤) (A : Atoms 𝓤) (W : Given
       (walk 𝓤 H A W mem run (κs .0) (qs .0) (a .0) (a .1 .0 .ptr .0) (a .1 .0 .ptr .1) (a .1 .0 .name) (a .1 .0 .now) (a .1 .1 .0) 𝓣 known-stage known-figures (are .0) (are .1 .0 .0 .1) (are .1 .1 .0 .1)))
 
 table-figures-meets : {M : Type 1} (𝓤 : URA M) (H : Heap 𝓤) (A : Atoms 𝓤) → Given 𝓤 H A → (mem : Memory → SProp 𝓤) (run : Routine → Fun 𝓤) (𝓣 : Tables 𝓤 H)
-    → Triple 𝓤 (𝓣 .C #table-by-rows·load-rows) (Stage 𝓤 H A mem run) → Triple 𝓤 (𝓣 .C #rows-enough·figures-rows) (FiguresRows 𝓤 H A mem run) → Meets 𝓤 H A f.signature (WpFn 𝓤 H (𝓣 .C) (𝓣 .Λ) code.function) (f.spec 𝓤 H A mem run)
+    → Triple 𝓤 (𝓣 .C #table-rows·load-rows) (Stage 𝓤 H A mem run) → Triple 𝓤 (𝓣 .C #rows-enough·figures-rows) (FiguresRows 𝓤 H A mem run) → Meets 𝓤 H A f.signature (WpFn 𝓤 H (𝓣 .C) (𝓣 .Λ) code.function) (f.spec 𝓤 H A mem run)
 table-figures-meets 𝓤 H A W mem run 𝓣 known-stage known-figures =
     walk-meets 𝓤 H A f.ended stayed W
     (goes-dropped 𝓤 H A W 1 (plain (λ _. BookR)) yes (λ κs x f. refl), (goes-dropped 𝓤 H A W 1 pools-slot yes (λ κs x f. refl), (goes-dropped 𝓤 H A W 1 (plain (λ _. usize)) yes (λ κs x f. refl), tt))) (f.clauses 𝓤 H A mem run)
@@ -333,5 +333,5 @@ table-figures-spec 𝓤 H 𝓜 𝓖 𝓡 =
     entered 𝓤 H (tripleOf 𝓤 H (𝓖 .A) f.signature (f.spec 𝓤 H (𝓖 .A) (𝓜 .mem) (𝓡 .run)))
     (tables 𝓤 H 𝓜 𝓡 code.env .C) (tables 𝓤 H 𝓜 𝓡 code.env .Λ) #table-figures·table-figures code.function (code.unfolded 𝓤 H 𝓜 𝓡)
     (table-figures-meets 𝓤 H (𝓖 .A) (givenOf 𝓤 H 𝓜 𝓖) (𝓜 .mem) (𝓡 .run) (tablesOf 𝓤 H 𝓜 (tables 𝓤 H 𝓜 𝓡 code.env))
-    (cited 𝓤 H (Stage 𝓤 H (𝓖 .A) (𝓜 .mem) (𝓡 .run)) 𝓜 𝓡 code.env #table-by-rows·load-rows stage-def.routine code.calls-table-by-rows·load-rows (stage-thm.met 𝓤 H 𝓜 𝓖 𝓡))
+    (cited 𝓤 H (Stage 𝓤 H (𝓖 .A) (𝓜 .mem) (𝓡 .run)) 𝓜 𝓡 code.env #table-rows·load-rows stage-def.routine code.calls-table-rows·load-rows (stage-thm.met 𝓤 H 𝓜 𝓖 𝓡))
     (cited 𝓤 H (FiguresRows 𝓤 H (𝓖 .A) (𝓜 .mem) (𝓡 .run)) 𝓜 𝓡 code.env #rows-enough·figures-rows figures-def.routine code.calls-rows-enough·figures-rows (figures-thm.met 𝓤 H 𝓜 𝓖 𝓡)))

@@ -43,7 +43,7 @@ use Rattle.book.specs.declared.Pool.{Pool}
 use Rattle.calls.specs.declared.Stepped.{Stepped}
 use Rattle.table_load.proofs.Row.{R}
 use Rattle.calls.specs.Calls.{Framed}
-use Rattle.table_by_rows.proofs.Values.{BookR, bookVal, bookVals, book-tells, book-makes, book-typed, SteppedR, stepped-makes, stepped-typed, TimeR, timeVal, timeVals, time-tells, time-makes, time-typed}
+use Rattle.table_rows.proofs.Values.{BookR, bookVal, bookVals, book-tells, book-makes, book-typed, SteppedR, stepped-makes, stepped-typed, TimeR, timeVal, timeVals, time-tells, time-makes, time-typed}
 use Rattle.table_step.proofs.step_part as sp
 use Rattle.table_step.proofs.step_part.Symbol as part-def
 use Rattle.table_step.proofs.step_part.Symbol.{name as #table-step·step-part}

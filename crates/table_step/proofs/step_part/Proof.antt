@@ -44,7 +44,7 @@ use Rattle.calls.specs.declared.Stepped.{Stepped}
 use Rattle.table_load.proofs.Row.{R}
 use Rattle.rows_enough.specs.FirstRows.{wanted, rowsOf}
 use Rattle.calls.specs.Calls.{Framed}
-use Rattle.table_by_rows.proofs.Values.{BookR, bookVals, book-makes, book-typed, SteppedR, stepped-typed, TimeR, timeVals, time-makes, time-typed}
+use Rattle.table_rows.proofs.Values.{BookR, bookVals, book-makes, book-typed, SteppedR, stepped-typed, TimeR, timeVals, time-makes, time-typed}
 use Rattle.table_step.proofs.Calling.{Arg, stayed, all-vals, all-tell, all-go, at, given, Post, Pools, Tape, Output, Rest, exits}
 use Rattle.table_step.proofs.few_enough as fe
 use Rattle.table_step.proofs.few_enough.Symbol as enough-def

@@ -50,17 +50,17 @@ use Rattle.rows_enough.specs.declared.Moved.{Moved}
 use Rattle.rows_enough.specs.FirstRows.{wanted, rowsOf, stored}
 use Rattle.rows_enough.specs.Moving.{StepsRows}
 use Rattle.calls.specs.Calls.{Framed}
-use Rattle.table_by_rows.specs.LoadsRows.{LoadsRows}
+use Rattle.table_rows.specs.LoadsRows.{LoadsRows}
 use Rattle.table_step.proofs.Framing.{part-size, storable, framed}
-use Rattle.table_by_rows.proofs.Values.{BookR, bookVal, bookVals, book-tells, book-makes, book-typed, SteppedR, stepped-makes, stepped-typed, MovedR, moved-makes, moved-typed, TimeR, timeVal, timeVals, time-tells, time-makes, time-typed}
+use Rattle.table_rows.proofs.Values.{BookR, bookVal, bookVals, book-tells, book-makes, book-typed, SteppedR, stepped-makes, stepped-typed, MovedR, moved-makes, moved-typed, TimeR, timeVal, timeVals, time-tells, time-makes, time-typed}
 use Rattle.rows_enough.proofs.rows_wanted as wa
 use Rattle.rows_enough.proofs.rows_wanted.Symbol as wanted-def
 use Rattle.rows_enough.proofs.rows_wanted.Symbol.{name as #rows-enough·rows-wanted}
 use Rattle.rows_enough.proofs.rows_wanted.Met as wanted-thm
-use Rattle.table_by_rows.proofs.load_rows as sg
-use Rattle.table_by_rows.proofs.load_rows.Symbol as stage-def
-use Rattle.table_by_rows.proofs.load_rows.Symbol.{name as #table-by-rows·load-rows}
-use Rattle.table_by_rows.proofs.load_rows.Met as stage-thm
+use Rattle.table_rows.proofs.load_rows as sg
+use Rattle.table_rows.proofs.load_rows.Symbol as stage-def
+use Rattle.table_rows.proofs.load_rows.Symbol.{name as #table-rows·load-rows}
+use Rattle.table_rows.proofs.load_rows.Met as stage-thm
 use Rattle.table_step.proofs.step_part_rows as sp
 use Rattle.table_step.proofs.step_part_rows.Symbol as step-def
 use Rattle.table_step.proofs.step_part_rows.Symbol.{name as #table-step·step-part-rows}
@@ -174,7 +174,7 @@ module _ {M : Type 1} (𝓤 : URA M) (H : Heap 𝓤) (A : Atoms 𝓤) (mem : Mem
 
   -- that the seven callees meet theirs
   abbrev Known : Tables 𝓤 H → Type 1
-  Known 𝓣 = Triple 𝓤 (𝓣 .C #rows-enough·rows-wanted) Wanted × Triple 𝓤 (𝓣 .C #table-by-rows·load-rows) Stage × Triple 𝓤 (𝓣 .C #table-step·step-part-rows) Step × Triple 𝓤 (𝓣 .C #table-step·changed-from) ChangedFrom
+  Known 𝓣 = Triple 𝓤 (𝓣 .C #rows-enough·rows-wanted) Wanted × Triple 𝓤 (𝓣 .C #table-rows·load-rows) Stage × Triple 𝓤 (𝓣 .C #table-step·step-part-rows) Step × Triple 𝓤 (𝓣 .C #table-step·changed-from) ChangedFrom
       × Triple 𝓤 (𝓣 .C #table-step·changed-to) ChangedTo × Triple 𝓤 (𝓣 .C #table-store·store) Store × Triple 𝓤 (𝓣 .C #table-step·stepped-of) SteppedOf
 
 module _ {M : Type 1} (𝓤 : URA M) (H : Heap 𝓤) (A : Atoms 𝓤) (W : Given 𝓤 H A) (mem : Memory → SProp 𝓤) (run : Routine → Fun 𝓤) (κ κ₂ κ₃ κ₄ κ₅ : Lft) (q q₂ q₃ q₄ q₅ : Share) (k : Book) (b o : ℕ) (γ : GName) (ys : List Pool) (b₂ o₂ : ℕ) (γ₂ : GName) (us : Rows) (b₃ o₃ : ℕ) (γ₃ : GName) (vs : Rows) (b₄ o₄ : ℕ) (γ₄ : GName) (ts : List ℕ) (start past : ℕ) (time : List ℕ) (b₅ o₅ : ℕ) (γ₅ : GName) (os : List ℕ) where
@@ -619,7 +619,7 @@ step-with-spec 𝓤 H 𝓜 𝓖 𝓡 =
     (tables 𝓤 H 𝓜 𝓡 code.env .C) (tables 𝓤 H 𝓜 𝓡 code.env .Λ) #table-step·step-with code.function (code.unfolded 𝓤 H 𝓜 𝓡)
     (step-with-meets 𝓤 H (𝓖 .A) (givenOf 𝓤 H 𝓜 𝓖) (𝓜 .mem) (𝓡 .run) (tablesOf 𝓤 H 𝓜 (tables 𝓤 H 𝓜 𝓡 code.env)) (
       cited 𝓤 H (Wanted 𝓤 H (𝓖 .A) (𝓜 .mem) (𝓡 .run)) 𝓜 𝓡 code.env #rows-enough·rows-wanted wanted-def.routine code.calls-rows-enough·rows-wanted (wanted-thm.met 𝓤 H 𝓜 𝓖 𝓡),
-      cited 𝓤 H (Stage 𝓤 H (𝓖 .A) (𝓜 .mem) (𝓡 .run)) 𝓜 𝓡 code.env #table-by-rows·load-rows stage-def.routine code.calls-table-by-rows·load-rows (stage-thm.met 𝓤 H 𝓜 𝓖 𝓡),
+      cited 𝓤 H (Stage 𝓤 H (𝓖 .A) (𝓜 .mem) (𝓡 .run)) 𝓜 𝓡 code.env #table-rows·load-rows stage-def.routine code.calls-table-rows·load-rows (stage-thm.met 𝓤 H 𝓜 𝓖 𝓡),
       cited 𝓤 H (Step 𝓤 H (𝓖 .A) (𝓜 .mem) (𝓡 .run)) 𝓜 𝓡 code.env #table-step·step-part-rows step-def.routine code.calls-table-step·step-part-rows (step-thm.met 𝓤 H 𝓜 𝓖 𝓡),
       cited 𝓤 H (ChangedFrom 𝓤 H (𝓖 .A) (𝓜 .mem) (𝓡 .run)) 𝓜 𝓡 code.env #table-step·changed-from from-def.routine code.calls-table-step·changed-from (from-thm.met 𝓤 H 𝓜 𝓖 𝓡),
       cited 𝓤 H (ChangedTo 𝓤 H (𝓖 .A) (𝓜 .mem) (𝓡 .run)) 𝓜 𝓡 code.env #table-step·changed-to to-def.routine code.calls-table-step·changed-to (to-thm.met 𝓤 H 𝓜 𝓖 𝓡),

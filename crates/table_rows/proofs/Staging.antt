@@ -16,7 +16,7 @@ use Rattle.table_load.specs.Fit.{Fit}
 use Rattle.table_load.specs.Loaded.{loadTo}
 use Rattle.table_load.proofs.Loaded.{length-load, load-table}
 use Rattle.rows_enough.specs.FirstRows.{rowsOf}
-use Rattle.table_by_rows.specs.LoadsRows.{LoadsRows}
+use Rattle.table_rows.specs.LoadsRows.{LoadsRows}
 
 pub rows-within : (records want : ℕ) → rowsOf records want ≤ records
 rows-within records want = min-le-left records (min 4096 want)

@@ -3,7 +3,7 @@ use book::Pool;
 ghost use Prim.Native.Nat.{_≤_};
 ghost use lib.ListN.{length};
 ghost use Rattle.rows_enough.specs.FirstRows.{rowsOf};
-ghost use Rattle.table_by_rows.specs.LoadsRows.{LoadsRows};
+ghost use Rattle.table_rows.specs.LoadsRows.{LoadsRows};
 
 // Copies the records that a call works on into the rows, where so many are wanted, and tells whether all others are zeros.
 pub fn load_rows(

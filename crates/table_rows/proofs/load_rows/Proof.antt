@@ -47,8 +47,8 @@ use Rattle.table_load.specs.Fit.{Fit}
 use Rattle.table_load.specs.Loaded.{loadTo}
 use Rattle.table_load.proofs.Row.{R}
 use Rattle.rows_enough.specs.FirstRows.{rowsOf}
-use Rattle.table_by_rows.specs.LoadsRows.{LoadsRows}
-use Rattle.table_by_rows.proofs.Staging.{rows-within, stages}
+use Rattle.table_rows.specs.LoadsRows.{LoadsRows}
+use Rattle.table_rows.proofs.Staging.{rows-within, stages}
 use Rattle.rows_enough.proofs.rows_of as ro
 use Rattle.rows_enough.proofs.rows_of.Symbol as rows-def
 use Rattle.rows_enough.proofs.rows_of.Symbol.{name as #rows-enough·rows-of}
@@ -61,10 +61,10 @@ use Rattle.table_load.proofs.blank_from as bf
 use Rattle.table_load.proofs.blank_from.Symbol as blank-def
 use Rattle.table_load.proofs.blank_from.Symbol.{name as #table-load·blank-from}
 use Rattle.table_load.proofs.blank_from.Met as blank-thm
-use Rattle.table_by_rows.proofs.load_rows.Key.{name as #table-by-rows·load-rows}
-use Rattle.table_by_rows.proofs.load_rows as f
-use Rattle.table_by_rows.proofs.load_rows.Statement as stated
-use Rattle.table_by_rows.proofs.load_rows.Code as code
+use Rattle.table_rows.proofs.load_rows.Key.{name as #table-rows·load-rows}
+use Rattle.table_rows.proofs.load_rows as f
+use Rattle.table_rows.proofs.load_rows.Statement as stated
+use Rattle.table_rows.proofs.load_rows.Code as code
 
 abbrev τ : ℕ → Ty
 τ = tyOf code.function
@@ -263,7 +263,7 @@ pub load-rows-spec : {M : Type 1} → stated.statement M
 unfolding code.routine tablesOf
 load-rows-spec 𝓤 H 𝓜 𝓖 𝓡 =
     entered 𝓤 H (tripleOf 𝓤 H (𝓖 .A) f.signature (f.spec 𝓤 H (𝓖 .A) (𝓜 .mem) (𝓡 .run)))
-    (tables 𝓤 H 𝓜 𝓡 code.env .C) (tables 𝓤 H 𝓜 𝓡 code.env .Λ) #table-by-rows·load-rows code.function (code.unfolded 𝓤 H 𝓜 𝓡)
+    (tables 𝓤 H 𝓜 𝓡 code.env .C) (tables 𝓤 H 𝓜 𝓡 code.env .Λ) #table-rows·load-rows code.function (code.unfolded 𝓤 H 𝓜 𝓡)
     (stage-meets 𝓤 H (𝓖 .A) (givenOf 𝓤 H 𝓜 𝓖) (𝓜 .mem) (𝓡 .run) (tablesOf 𝓤 H 𝓜 (tables 𝓤 H 𝓜 𝓡 code.env))
     (cited 𝓤 H (RowsOf 𝓤 H (𝓖 .A) (𝓜 .mem) (𝓡 .run)) 𝓜 𝓡 code.env #rows-enough·rows-of rows-def.routine code.calls-rows-enough·rows-of (rows-thm.met 𝓤 H 𝓜 𝓖 𝓡))
     (cited 𝓤 H (Load 𝓤 H (𝓖 .A) (𝓜 .mem) (𝓡 .run)) 𝓜 𝓡 code.env #table-load·load load-def.routine code.calls-table-load·load (load-thm.met 𝓤 H 𝓜 𝓖 𝓡))
