@@ -71,7 +71,7 @@ fn stepped_of(moved: Moved) -> Stepped
     moved.stepped
 }
 
-// The frame call on a lent table, by rows that are lent too.
+// The frame call on a lent table, by rows that are lent too: the records that it works on are copied into the rows, the engine steps there, and the records that changed are written back.
 fn step_with(
     book: Book,
     pools: &mut [Pool],

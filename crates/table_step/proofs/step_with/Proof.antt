@@ -1,4 +1,4 @@
--- `step_with` meets its contract, by a walk of its MIR with four calls: the rows that the message wants are counted, the records are loaded, the engine steps on the rows, and the records that moved are written back.
+-- `step_with` meets its contract, by a walk of its MIR with seven calls: the rows that the message wants are counted, the records are loaded, the engine steps on the rows, three read what it gave, and one writes the records that changed back.
 -- The slices of rows are lent on for each call. The table is lent to `load_rows` and then handed to `store` for good, and the output is handed to the step on rows.
 use mathlib.Core.Path.{_≡_, refl, sym, _∙_, ap, subst}
 use Prim.Native.Nat.{ℕ, _-_, _<_, _≤_, _^_}
@@ -339,37 +339,22 @@ module _ {M : Type 1} (𝓤 : URA M) (H : Heap 𝓤) (A : Atoms 𝓤) (W : Given
         owned ! usize (Is usize) (uint-makes 𝓤 H A W w64) start _ (refl, gs) $ fjoin ! $ move ! (1 ∷ 0 ∷ []) $ fjoin ! $ owned ! bool (Is bool) (bool-makes 𝓤 H A W) rest _ refl $ fjoin ! $
         owned ! usize (Is usize) (uint-makes 𝓤 H A W w64) (length ys) _ (refl, gn) $ fjoin ! $ move ! (1 ∷ 0 ∷ []) $ fjoin ! $ move ! (1 ∷ 0 ∷ []) $ fjoin ! $ owned ! BookR (Is BookR) (book-makes 𝓤 H A) k _ gk $ fjoin ! $ done !
 
-  -- what the triples of the three readings of what a step gave bind outside, that the caller has what they ask, and what they say
+  -- what the triple of each reading of what a step gave binds outside, that the caller has what it asks, and what it says
   module _ (r : Moved) (w : Val) where
-    abbrev read-args : Moved × Unit {0}
-    read-args = (r, tt)
+    abbrev to-read : ChangedFrom 𝓤 H A mem run .Ghost
+    to-read = ((tt, tt, tt, (r, tt), (w ∷ [], tt)), tt)
 
-    abbrev to-from : ChangedFrom 𝓤 H A mem run .Ghost
-    to-from = ((tt, tt, tt, read-args, (w ∷ [], tt)), tt)
+    goes-read : Is MovedR r (w ∷ []) → ent 𝓤 (emp 𝓤) (ChangedFrom 𝓤 H A mem run .pre to-read)
+    goes-read gr = qed W [] ∵ nothing ! $ owned ! MovedR (Is MovedR) (moved-makes 𝓤 H A) r _ gr $ fjoin ! $ nothing ! $ join ! $ frame ! $ done !
 
-    abbrev to-to : ChangedTo 𝓤 H A mem run .Ghost
-    to-to = ((tt, tt, tt, read-args, (w ∷ [], tt)), tt)
+    said-from : (i : ℕ) → ent 𝓤 (ensured 𝓤 H A cf.ended (cf.clauses 𝓤 H A mem run) tt (r, tt) tt i) (fact 𝓤 (i ≡ r .from))
+    said-from i = exE 𝓤 _ (λ zs. snd∗ 𝓤 (sem 𝓤 H A (lasts cf.ended tt (r, tt) zs)) (fact 𝓤 (i ≡ r .from)))
 
-    abbrev to-stepped : SteppedOf 𝓤 H A mem run .Ghost
-    to-stepped = ((tt, tt, tt, read-args, (w ∷ [], tt)), tt)
+    said-to : (i : ℕ) → ent 𝓤 (ensured 𝓤 H A ct.ended (ct.clauses 𝓤 H A mem run) tt (r, tt) tt i) (fact 𝓤 (i ≡ r .to))
+    said-to i = exE 𝓤 _ (λ zs. snd∗ 𝓤 (sem 𝓤 H A (lasts ct.ended tt (r, tt) zs)) (fact 𝓤 (i ≡ r .to)))
 
-    goes-from : Is MovedR r (w ∷ []) → ent 𝓤 (emp 𝓤) (ChangedFrom 𝓤 H A mem run .pre to-from)
-    goes-from gr = qed W [] ∵ nothing ! $ owned ! MovedR (Is MovedR) (moved-makes 𝓤 H A) r _ gr $ fjoin ! $ nothing ! $ join ! $ frame ! $ done !
-
-    goes-to : Is MovedR r (w ∷ []) → ent 𝓤 (emp 𝓤) (ChangedTo 𝓤 H A mem run .pre to-to)
-    goes-to gr = qed W [] ∵ nothing ! $ owned ! MovedR (Is MovedR) (moved-makes 𝓤 H A) r _ gr $ fjoin ! $ nothing ! $ join ! $ frame ! $ done !
-
-    goes-stepped : Is MovedR r (w ∷ []) → ent 𝓤 (emp 𝓤) (SteppedOf 𝓤 H A mem run .pre to-stepped)
-    goes-stepped gr = qed W [] ∵ nothing ! $ owned ! MovedR (Is MovedR) (moved-makes 𝓤 H A) r _ gr $ fjoin ! $ nothing ! $ join ! $ frame ! $ done !
-
-    said-from : (i : ℕ) → ent 𝓤 (ensured 𝓤 H A cf.ended (cf.clauses 𝓤 H A mem run) tt read-args tt i) (fact 𝓤 (i ≡ r .from))
-    said-from i = exE 𝓤 _ (λ zs. snd∗ 𝓤 (sem 𝓤 H A (lasts cf.ended tt read-args zs)) (fact 𝓤 (i ≡ r .from)))
-
-    said-to : (i : ℕ) → ent 𝓤 (ensured 𝓤 H A ct.ended (ct.clauses 𝓤 H A mem run) tt read-args tt i) (fact 𝓤 (i ≡ r .to))
-    said-to i = exE 𝓤 _ (λ zs. snd∗ 𝓤 (sem 𝓤 H A (lasts ct.ended tt read-args zs)) (fact 𝓤 (i ≡ r .to)))
-
-    said-stepped : (t : Stepped) → ent 𝓤 (ensured 𝓤 H A so.ended (so.clauses 𝓤 H A mem run) tt read-args tt t) (fact 𝓤 (t ≡ r .stepped))
-    said-stepped t = exE 𝓤 _ (λ zs. snd∗ 𝓤 (sem 𝓤 H A (lasts so.ended tt read-args zs)) (fact 𝓤 (t ≡ r .stepped)))
+    said-stepped : (t : Stepped) → ent 𝓤 (ensured 𝓤 H A so.ended (so.clauses 𝓤 H A mem run) tt (r, tt) tt t) (fact 𝓤 (t ≡ r .stepped))
+    said-stepped t = exE 𝓤 _ (λ zs. snd∗ 𝓤 (sem 𝓤 H A (lasts so.ended tt (r, tt) zs)) (fact 𝓤 (t ≡ r .stepped)))
 
   -- what the triple of `store` binds outside: the table is handed on, and the rows are lent for ν and ν₂
   module _ (ns ks : Rows) (r : Moved) where
@@ -424,14 +409,14 @@ module _ {M : Type 1} (𝓤 : URA M) (H : Heap 𝓤) (A : Atoms 𝓤) (W : Given
           writing =
               qed W AtStore ∵ exec ! (𝓣 .C) (𝓣 .Λ) En body.t-17 (atRet En Post) $
               -- [pools; its token; numbers; its token; keys; its token; the tokens of tape and output; the last output; _33 at 8; …; _13 at 48; _12 at 50; _11 at 52; …]
-              use0 W (raw (ChangedFrom 𝓤 H A mem run .pre (to-from r v))) (goes-from r v gr) $
-              calls-at ! (fmOf 𝓤 H (W .laws) 𝓣) (ChangedFrom 𝓤 H A mem run) (known .3) (to-from r v) (and-then ! (load ! (from ! (stop !)) (look ! 53 refl)) (no-more !)) (λ w₁.
-              use1 W (later (some (λ (i : ℕ). (‵ ftrue ⊛ ‵ (usize .own i (w₁ ∷ []))) ⊛ raw (ensured 𝓤 H A cf.ended (cf.clauses 𝓤 H A mem run) tt (read-args r v) tt i)))) (id⊢ 𝓤 _) $ await ! tt $ pick ! (λ i₁.
+              use0 W (raw (ChangedFrom 𝓤 H A mem run .pre (to-read r v))) (goes-read r v gr) $
+              calls-at ! (fmOf 𝓤 H (W .laws) 𝓣) (ChangedFrom 𝓤 H A mem run) (known .3) (to-read r v) (and-then ! (load ! (from ! (stop !)) (look ! 53 refl)) (no-more !)) (λ w₁.
+              use1 W (later (some (λ (i : ℕ). (‵ ftrue ⊛ ‵ (usize .own i (w₁ ∷ []))) ⊛ raw (ensured 𝓤 H A cf.ended (cf.clauses 𝓤 H A mem run) tt (r, tt) tt i)))) (id⊢ 𝓤 _) $ await ! tt $ pick ! (λ i₁.
               split ! $ move ! (1 ∷ []) $ use1 W (raw (fact 𝓤 (i₁ ≡ r .from))) (said-from r v i₁) $ heard ! (i₁ ≡ r .from) (λ e₁. split ! $ drop ! $ rewrite ! 0 (λ (i : ℕ). ‵ (usize .own i (w₁ ∷ []))) e₁ refl $
               peeks ! usize (Is usize) (shows 𝓤 H A usize) (r .from) (w₁ ∷ []) (λ g₁. land ! (from ! (stop !)) (init ! 51 refl (uint-lawful 𝓤 H A W w64 .typed (r .from) _ g₁ .0)) $ rewrite ! 51 (λ (u : Val). ‵ (fat fullShare (τ 12) l₁₂ 0 u)) (ap only (g₁ .0)) refl $ drop ! $
-              use0 W (raw (ChangedTo 𝓤 H A mem run .pre (to-to r v))) (goes-to r v gr) $
-              calls-at ! (fmOf 𝓤 H (W .laws) 𝓣) (ChangedTo 𝓤 H A mem run) (known .4) (to-to r v) (and-then ! (load ! (from ! (stop !)) (look ! 53 refl)) (no-more !)) (λ w₂.
-              use1 W (later (some (λ (i : ℕ). (‵ ftrue ⊛ ‵ (usize .own i (w₂ ∷ []))) ⊛ raw (ensured 𝓤 H A ct.ended (ct.clauses 𝓤 H A mem run) tt (read-args r v) tt i)))) (id⊢ 𝓤 _) $ await ! tt $ pick ! (λ i₂.
+              use0 W (raw (ChangedTo 𝓤 H A mem run .pre (to-read r v))) (goes-read r v gr) $
+              calls-at ! (fmOf 𝓤 H (W .laws) 𝓣) (ChangedTo 𝓤 H A mem run) (known .4) (to-read r v) (and-then ! (load ! (from ! (stop !)) (look ! 53 refl)) (no-more !)) (λ w₂.
+              use1 W (later (some (λ (i : ℕ). (‵ ftrue ⊛ ‵ (usize .own i (w₂ ∷ []))) ⊛ raw (ensured 𝓤 H A ct.ended (ct.clauses 𝓤 H A mem run) tt (r, tt) tt i)))) (id⊢ 𝓤 _) $ await ! tt $ pick ! (λ i₂.
               split ! $ move ! (1 ∷ []) $ use1 W (raw (fact 𝓤 (i₂ ≡ r .to))) (said-to r v i₂) $ heard ! (i₂ ≡ r .to) (λ e₂. split ! $ drop ! $ rewrite ! 0 (λ (i : ℕ). ‵ (usize .own i (w₂ ∷ []))) e₂ refl $
               peeks ! usize (Is usize) (shows 𝓤 H A usize) (r .to) (w₂ ∷ []) (λ g₂. land ! (from ! (stop !)) (init ! 49 refl (uint-lawful 𝓤 H A W w64 .typed (r .to) _ g₂ .0)) $ rewrite ! 49 (λ (u : Val). ‵ (fat fullShare (τ 13) l₁₃ 0 u)) (ap only (g₂ .0)) refl $ drop ! $
               assigns ! (addr ! (from ! (fld ! refl (hop ! (look-in ! 70 (sub ! 0 refl (whole !))) (stop !))))) (from ! (stop !)) (init ! 18 refl (tt, tt)) $
@@ -463,9 +448,9 @@ module _ {M : Type 1} (𝓤 : URA M) (H : Heap 𝓤) (A : Atoms 𝓤) (W : Given
               use2 W (later (Keys ks₂ (length ks₂) ⊛ ‵ (flft κ₃ q₃))) (shared-back K κ₃ (ν₂ ∷ []) q₃ γ₃ b₃ o₃ 𝓤 H A W (named 2) (named 2) ks₂ (subst (Room K) (sym (lk₂ ∙ lk)) room₃)) $ await ! tt $ split ! $
               rewrite ! 0 (λ (m : ℕ). Keys ks₂ m) (lk₂ ∙ lk) refl $ rewrite ! 3 (λ (m : ℕ). Numbers ns₂ m) (ln₂ ∙ ln) refl $ move ! (2 ∷ []) $ drop ! $
               -- [keys; its token; numbers; its token; the table's token; the last table; the other tokens; the last output; _33 at 8; …]
-              use0 W (raw (SteppedOf 𝓤 H A mem run .pre (to-stepped r v))) (goes-stepped r v gr) $
-              calls-at ! (fmOf 𝓤 H (W .laws) 𝓣) (SteppedOf 𝓤 H A mem run) (known .6) (to-stepped r v) (and-then ! (load ! (from ! (stop !)) (look ! 53 refl)) (no-more !)) (λ w₃.
-              use1 W (later (some (λ (i : Stepped). (‵ ftrue ⊛ ‵ (SteppedR .own i (w₃ ∷ []))) ⊛ raw (ensured 𝓤 H A so.ended (so.clauses 𝓤 H A mem run) tt (read-args r v) tt i)))) (id⊢ 𝓤 _) $ await ! tt $ pick ! (λ i₃.
+              use0 W (raw (SteppedOf 𝓤 H A mem run .pre (to-read r v))) (goes-read r v gr) $
+              calls-at ! (fmOf 𝓤 H (W .laws) 𝓣) (SteppedOf 𝓤 H A mem run) (known .6) (to-read r v) (and-then ! (load ! (from ! (stop !)) (look ! 53 refl)) (no-more !)) (λ w₃.
+              use1 W (later (some (λ (i : Stepped). (‵ ftrue ⊛ ‵ (SteppedR .own i (w₃ ∷ []))) ⊛ raw (ensured 𝓤 H A so.ended (so.clauses 𝓤 H A mem run) tt (r, tt) tt i)))) (id⊢ 𝓤 _) $ await ! tt $ pick ! (λ i₃.
               split ! $ move ! (1 ∷ []) $ use1 W (raw (fact 𝓤 (i₃ ≡ r .stepped))) (said-stepped r v i₃) $ heard ! (i₃ ≡ r .stepped) (λ e₃. split ! $ drop ! $ rewrite ! 0 (λ (i : Stepped). ‵ (SteppedR .own i (w₃ ∷ []))) e₃ refl $
               peeks ! SteppedR (Is SteppedR) (shows 𝓤 H A SteppedR) (r .stepped) (w₃ ∷ []) (λ g₃. land ! (from ! (stop !)) (init ! 75 refl (stepped-typed 𝓤 H A W (r .stepped) w₃ g₃)) $ drop ! $
               returns ! (look ! 74 refl) $ forget ! 8 refl $ forget ! 10 refl $ forget ! 12 refl $ forget ! 14 refl $ forget ! 16 refl $ forget ! 18 refl $ forget ! 20 refl $ forget ! 48 refl $ forget ! 50 refl $ forget ! 52 refl $ forget ! 54 refl $ forget ! 56 refl $ forget ! 58 refl $ forget ! 60 refl $ forget ! 62 refl $ forget ! 64 refl $ forget ! 66 refl $ forget ! 68 refl $ forget ! 70 refl $ forget ! 72 refl $ forget ! 74 refl $
