@@ -9,9 +9,11 @@ use lib.Seq.{take-suc, take-all}
 use Rattle.lists.specs.Lists.{within, pasted}
 use Rattle.lists.proofs.Parts.{in-within}
 use Rattle.lists.proofs.Pasting.{paste-in}
+use Rattle.lists.proofs.Tables.{table-of}
 use Rattle.acknowledgment.proofs.Building.{Built, first, part}
+use Rattle.book.specs.declared.Trade.{Trade}
 use Rattle.book.specs.declared.Book.{Book}
-use Rattle.image.specs.Images.{tradesWords, restWords, bookWords, tradeImage, flagOf, lastOf, restImage, imageOf}
+use Rattle.image.specs.Images.{tradesWords, restWords, bookWords, wordsOf, tradeImage, flagOf, lastOf, restImage, imageOf}
 
 module _ {A : Type 0} (f : A → List ℕ) where
   pub join-append : (xs ys : List A) → flatMap f (xs ++ ys) ≡ flatMap f xs ++ flatMap f ys
@@ -56,14 +58,33 @@ module _ {A : Type 0} (f : A → List ℕ) where
         let w : flatMap f (take i xs) ≡ flatMap f xs = ap (flatMap f) (take-all i xs (omega arith)) in
         record { is = λ k. inv .is (omega arith) ∙ ap (pasted o₀ 0) w; long = sym (ap length w) ∙ inv .long ∙ ap (λ (k : ℕ). k * 42) e }
 
+-- the words of n numbers are the numbers
+words-are : (s : List ℕ) (n : ℕ) → length s ≡ n → wordsOf s n ≡ s
+words-are s n e = sym (table-of 0 s n e)
+
+-- a trade's words, as they are written
+pub trade-made : (t : Trade) (names : List ℕ) → length (t .id) ≡ 16 → length (t .seller) ≡ 4 → length (t .buyer) ≡ 4 → length (t .contra) ≡ 4 → length (t .cusip) ≡ 9
+    → names ≡ wordsOf (t .seller) 4 ++ wordsOf (t .buyer) 4 ++ wordsOf (t .contra) 4 ++ wordsOf (t .cusip) 9
+    → wordsOf (t .id) 16 ++ (t .length ∷ []) ++ wordsOf names 21 ++ (t .settlement ∷ t .price ∷ t .par ∷ t .openPar ∷ []) ≡ tradeImage t
+unfolding tradeImage
+trade-made t names a b c d e n =
+    ap (λ (l : List ℕ). wordsOf (t .id) 16 ++ (t .length ∷ []) ++ wordsOf l 21 ++ (t .settlement ∷ t .price ∷ t .par ∷ t .openPar ∷ [])) n
+    ∙ (λ i. words-are (t .id) 16 a i ++ (t .length ∷ []) ++ words-are (t .seller) 4 b i ++ words-are (t .buyer) 4 c i ++ words-are (t .contra) 4 d i ++ words-are (t .cusip) 9 e i
+    ++ (t .settlement ∷ t .price ∷ t .par ∷ t .openPar ∷ []))
+
 -- the words after the trades, as they are written
-pub rest-made : (b : Book) (flag last : ℕ) → flag ≡ flagOf (b .line .received) → last ≡ lastOf (b .line .received)
-    → (b .values .tradeCount ∷ []) ++ b .values .holidays ++ (b .values .holidayCount ∷ []) ++ b .values .subscriber ++ b .values .connection
-    ++ (b .values .limits .ceiling ∷ b .values .limits .variance ∷ b .values .limits .poolsAMillion ∷ b .values .limits .least
-    ∷ b .values .lastMessageId ∷ b .values .outbound .0 ∷ flag ∷ last ∷ b .line .expected .0 ∷ b .live ∷ [])
-    ≡ restImage b
-unfolding restImage
-rest-made b flag last e f = rw (e, f)
+module _ (b : Book) (flag last : ℕ) (accounts : List ℕ) where
+  abbrev limits : ℕ → ℕ → List ℕ
+  limits f l = b .values .limits .ceiling ∷ b .values .limits .variance ∷ b .values .limits .poolsAMillion ∷ b .values .limits .least
+      ∷ b .values .lastMessageId ∷ b .values .outbound .0 ∷ f ∷ l ∷ b .line .expected .0 ∷ b .live ∷ []
+
+  pub rest-made : flag ≡ flagOf (b .line .received) → last ≡ lastOf (b .line .received) → length (b .values .holidays) ≡ 32 → length (b .values .subscriber) ≡ 4 → length (b .values .connection) ≡ 4
+      → accounts ≡ wordsOf (b .values .subscriber) 4 ++ wordsOf (b .values .connection) 4
+      → (b .values .tradeCount ∷ []) ++ wordsOf (b .values .holidays) 32 ++ (b .values .holidayCount ∷ []) ++ wordsOf accounts 8 ++ limits flag last ≡ restImage b
+  unfolding restImage
+  rest-made e f h s c a =
+      ap (λ (l : List ℕ). (b .values .tradeCount ∷ []) ++ wordsOf (b .values .holidays) 32 ++ (b .values .holidayCount ∷ []) ++ wordsOf l 8 ++ limits flag last) a
+      ∙ (λ i. (b .values .tradeCount ∷ []) ++ words-are (b .values .holidays) 32 h i ++ (b .values .holidayCount ∷ []) ++ words-are (b .values .subscriber) 4 s i ++ words-are (b .values .connection) 4 c i ++ limits (e i) (f i))
 
 -- the trades' words and then those of the rest are the image, where there is room for it
 pub image-written : (b : Book) (o₀ o o′ rest : List ℕ) → bookWords ≤ length o₀

@@ -25,6 +25,10 @@ abbrev pub bookWords : ℕ
 bookWords = 2740
 
 -- ---- what a book is as words
+-- a word for each of n numbers or bytes
+abbrev pub wordsOf : List ℕ → ℕ → List ℕ
+wordsOf s n = tab (λ (k : ℕ). getD s k 0) n 0
+
 unfoldable pub tradeImage : Trade → List ℕ
 tradeImage t = t .id ++ (t .length ∷ []) ++ t .seller ++ t .buyer ++ t .contra ++ t .cusip ++ (t .settlement ∷ t .price ∷ t .par ∷ t .openPar ∷ [])
 

@@ -3,11 +3,11 @@ use book::Book;
 use book::Trade;
 use sequence::Received;
 ghost use mathlib.Core.Path.{_≡_};
-ghost use mathlib.Core.List.{flatMap};
+ghost use mathlib.Core.List.{[], _∷_, _++_, flatMap};
 ghost use Prim.Native.Nat.{_≤_};
 ghost use lib.ListN.{length};
 ghost use Rattle.lists.specs.Lists.{pasted};
-ghost use Rattle.image.specs.Images.{tradesWords, tradeImage, flagOf, lastOf, restImage, imageOf};
+ghost use Rattle.image.specs.Images.{tradesWords, wordsOf, tradeImage, flagOf, lastOf, restImage, imageOf};
 
 // Words of a book: 64 trades and the rest.
 pub const BOOK_WORDS: usize = 2740;
@@ -70,52 +70,6 @@ pub const EXPECTED: usize = 50;
 
 pub const LIVE: usize = 51;
 
-fn byte_word(x: u8) -> u64
-    ensures { λ r. ⌜ r ≡ x ⌝ }
-{
-    x as u64
-}
-
-fn number_word(x: u32) -> u64
-    ensures { λ r. ⌜ r ≡ x ⌝ }
-{
-    x as u64
-}
-
-// Writes the bytes of s from at, a word each. Bytes that do not fit are not written.
-fn put_bytes(words: &mut [u64], at: usize, s: &[u8])
-    ensures { λ _. ⌜ now (words .exit) ≡ pasted (now (words .entry)) at (now (s .entry)) ⌝ }
-{
-    if words.len() < at {
-        return;
-    }
-    if words.len() - at < s.len() {
-        return;
-    }
-    let mut i: usize = 0;
-    while i < s.len() {
-        words[at + i] = byte_word(s[i]);
-        i += 1;
-    }
-}
-
-// Writes the numbers of s from at, a word each. Numbers that do not fit are not written.
-fn put_numbers(words: &mut [u64], at: usize, s: &[u32])
-    ensures { λ _. ⌜ now (words .exit) ≡ pasted (now (words .entry)) at (now (s .entry)) ⌝ }
-{
-    if words.len() < at {
-        return;
-    }
-    if words.len() - at < s.len() {
-        return;
-    }
-    let mut i: usize = 0;
-    while i < s.len() {
-        words[at + i] = number_word(s[i]);
-        i += 1;
-    }
-}
-
 // Writes the words of s from at. Words that do not fit are not written.
 fn put_words(words: &mut [u64], at: usize, s: &[u64])
     ensures { λ _. ⌜ now (words .exit) ≡ pasted (now (words .entry)) at (now (s .entry)) ⌝ }
@@ -133,6 +87,85 @@ fn put_words(words: &mut [u64], at: usize, s: &[u64])
     }
 }
 
+// The words of the accounts and the CUSIP of a trade, one after another.
+fn name_words(seller: [u8; 4], buyer: [u8; 4], contra: [u8; 4], cusip: [u8; 9]) -> [u64; 21]
+    ensures { λ r. ⌜ r ≡ wordsOf seller 4 ++ wordsOf buyer 4 ++ wordsOf contra 4 ++ wordsOf cusip 9 ⌝ }
+{
+    [
+        seller[0] as u64,
+        seller[1] as u64,
+        seller[2] as u64,
+        seller[3] as u64,
+        buyer[0] as u64,
+        buyer[1] as u64,
+        buyer[2] as u64,
+        buyer[3] as u64,
+        contra[0] as u64,
+        contra[1] as u64,
+        contra[2] as u64,
+        contra[3] as u64,
+        cusip[0] as u64,
+        cusip[1] as u64,
+        cusip[2] as u64,
+        cusip[3] as u64,
+        cusip[4] as u64,
+        cusip[5] as u64,
+        cusip[6] as u64,
+        cusip[7] as u64,
+        cusip[8] as u64,
+    ]
+}
+
+// The words of all parts of a trade, one after another.
+fn trade_row(id: [u8; 16], length: u64, names: [u64; 21], numbers: [u64; 4]) -> [u64; TRADE_WORDS]
+    ensures { λ r. ⌜ r ≡ wordsOf id 16 ++ (length ∷ []) ++ wordsOf names 21 ++ wordsOf numbers 4 ⌝ }
+{
+    [
+        id[0] as u64,
+        id[1] as u64,
+        id[2] as u64,
+        id[3] as u64,
+        id[4] as u64,
+        id[5] as u64,
+        id[6] as u64,
+        id[7] as u64,
+        id[8] as u64,
+        id[9] as u64,
+        id[10] as u64,
+        id[11] as u64,
+        id[12] as u64,
+        id[13] as u64,
+        id[14] as u64,
+        id[15] as u64,
+        length,
+        names[0],
+        names[1],
+        names[2],
+        names[3],
+        names[4],
+        names[5],
+        names[6],
+        names[7],
+        names[8],
+        names[9],
+        names[10],
+        names[11],
+        names[12],
+        names[13],
+        names[14],
+        names[15],
+        names[16],
+        names[17],
+        names[18],
+        names[19],
+        names[20],
+        numbers[0],
+        numbers[1],
+        numbers[2],
+        numbers[3],
+    ]
+}
+
 // The words of a trade.
 fn trade_words(t: Trade) -> [u64; TRADE_WORDS]
     ensures { λ r. ⌜ r ≡ tradeImage t ⌝ }
@@ -142,17 +175,9 @@ fn trade_words(t: Trade) -> [u64; TRADE_WORDS]
     let buyer = t.buyer;
     let contra = t.contra;
     let cusip = t.cusip;
-    let length = [t.length as u64];
     let numbers = [t.settlement, t.price, t.par, t.openPar];
-    let mut row = [0u64; TRADE_WORDS];
-    put_bytes(&mut row, ID, &id);
-    put_words(&mut row, LENGTH, &length);
-    put_bytes(&mut row, SELLER, &seller);
-    put_bytes(&mut row, BUYER, &buyer);
-    put_bytes(&mut row, CONTRA, &contra);
-    put_bytes(&mut row, CUSIP, &cusip);
-    put_words(&mut row, SETTLEMENT, &numbers);
-    row
+    let names = name_words(seller, buyer, contra, cusip);
+    trade_row(id, t.length as u64, names, numbers)
 }
 
 // Writes the words of the trades from the front.
@@ -189,6 +214,88 @@ fn last_of(received: Received) -> u64
     }
 }
 
+// The words of the two accounts, one after the other.
+fn account_words(subscriber: [u8; 4], connection: [u8; 4]) -> [u64; 8]
+    ensures { λ r. ⌜ r ≡ wordsOf subscriber 4 ++ wordsOf connection 4 ⌝ }
+{
+    [
+        subscriber[0] as u64,
+        subscriber[1] as u64,
+        subscriber[2] as u64,
+        subscriber[3] as u64,
+        connection[0] as u64,
+        connection[1] as u64,
+        connection[2] as u64,
+        connection[3] as u64,
+    ]
+}
+
+// The words of all parts of a book but its trades, one after another.
+fn rest_row(
+    count: u64,
+    holidays: [u32; 32],
+    days: u64,
+    accounts: [u64; 8],
+    numbers: [u64; 10],
+) -> [u64; REST_WORDS]
+    ensures { λ r. ⌜ r ≡ (count ∷ []) ++ wordsOf holidays 32 ++ (days ∷ []) ++ wordsOf accounts 8 ++ wordsOf numbers 10 ⌝ }
+{
+    [
+        count,
+        holidays[0] as u64,
+        holidays[1] as u64,
+        holidays[2] as u64,
+        holidays[3] as u64,
+        holidays[4] as u64,
+        holidays[5] as u64,
+        holidays[6] as u64,
+        holidays[7] as u64,
+        holidays[8] as u64,
+        holidays[9] as u64,
+        holidays[10] as u64,
+        holidays[11] as u64,
+        holidays[12] as u64,
+        holidays[13] as u64,
+        holidays[14] as u64,
+        holidays[15] as u64,
+        holidays[16] as u64,
+        holidays[17] as u64,
+        holidays[18] as u64,
+        holidays[19] as u64,
+        holidays[20] as u64,
+        holidays[21] as u64,
+        holidays[22] as u64,
+        holidays[23] as u64,
+        holidays[24] as u64,
+        holidays[25] as u64,
+        holidays[26] as u64,
+        holidays[27] as u64,
+        holidays[28] as u64,
+        holidays[29] as u64,
+        holidays[30] as u64,
+        holidays[31] as u64,
+        days,
+        accounts[0],
+        accounts[1],
+        accounts[2],
+        accounts[3],
+        accounts[4],
+        accounts[5],
+        accounts[6],
+        accounts[7],
+        numbers[0],
+        numbers[1],
+        numbers[2],
+        numbers[3],
+        numbers[4],
+        numbers[5],
+        numbers[6],
+        numbers[7],
+        numbers[8],
+        numbers[9],
+    ]
+}
+
 // The words of all of a book but its trades.
 fn rest_words(book: Book) -> [u64; REST_WORDS]
     ensures { λ r. ⌜ r ≡ restImage book ⌝ }
@@ -200,8 +307,8 @@ fn rest_words(book: Book) -> [u64; REST_WORDS]
     let holidays = values.holidays;
     let subscriber = values.subscriber;
     let connection = values.connection;
-    let count = [values.tradeCount as u64];
-    let days = [values.holidayCount as u64];
+    let count = values.tradeCount as u64;
+    let days = values.holidayCount as u64;
     let flag = flag_of(received);
     let last = last_of(received);
     let numbers = [
@@ -216,14 +323,8 @@ fn rest_words(book: Book) -> [u64; REST_WORDS]
         line.expected.0 as u64,
         book.live as u64,
     ];
-    let mut rest = [0u64; REST_WORDS];
-    put_words(&mut rest, TRADE_COUNT, &count);
-    put_numbers(&mut rest, HOLIDAYS, &holidays);
-    put_words(&mut rest, HOLIDAY_COUNT, &days);
-    put_bytes(&mut rest, SUBSCRIBER, &subscriber);
-    put_bytes(&mut rest, CONNECTION, &connection);
-    put_words(&mut rest, CEILING, &numbers);
-    rest
+    let accounts = account_words(subscriber, connection);
+    rest_row(count, holidays, days, accounts, numbers)
 }
 
 // Writes a book from the front. A slice that is too short for it stays as it is.

@@ -11,7 +11,7 @@ use Rattle.lists.specs.Lists.{part, tab}
 use Rattle.lists.proofs.Tables.{length-tab, getD-tab, take-tab, drop-tab, tab-turn, table-of}
 use Rattle.book.specs.declared.Pool.{Pool}
 use Rattle.book.specs.Records.{noPool}
-use Rattle.rows.specs.Rows.{rowOf, keyOf, recordAt, tableOf}
+use Rattle.rows.specs.Rows.{bytesFrom, rowOf, keyOf, recordAt, tableOf}
 
 -- ---- a record of two rows
 abbrev pub recordIn : List ℕ → List ℕ → Pool
@@ -19,11 +19,7 @@ recordIn row key = recordAt (row ∷ []) (key ∷ []) 0
 
 module _ (lot pool original : List ℕ) (a : length lot ≡ 6) (b : length pool ≡ 7) (c : length original ≡ 9) where
   -- the bytes of the three fields one after another
-  pub key-bytes :
-      getD lot 0 0 ∷ getD lot 1 0 ∷ getD lot 2 0 ∷ getD lot 3 0 ∷ getD lot 4 0 ∷ getD lot 5 0
-      ∷ getD pool 0 0 ∷ getD pool 1 0 ∷ getD pool 2 0 ∷ getD pool 3 0 ∷ getD pool 4 0 ∷ getD pool 5 0 ∷ getD pool 6 0
-      ∷ getD original 0 0 ∷ getD original 1 0 ∷ getD original 2 0 ∷ getD original 3 0 ∷ getD original 4 0 ∷ getD original 5 0 ∷ getD original 6 0 ∷ getD original 7 0 ∷ getD original 8 0 ∷ []
-      ≡ lot ++ (pool ++ original)
+  pub key-bytes : bytesFrom lot 0 6 ++ (bytesFrom pool 0 7 ++ bytesFrom original 0 9) ≡ lot ++ (pool ++ original)
   key-bytes = λ i. sym (table-of 0 lot 6 a) i ++ (sym (table-of 0 pool 7 b) i ++ sym (table-of 0 original 9 c) i)
 
   pub key-lot : part (lot ++ (pool ++ original)) 0 6 ≡ lot

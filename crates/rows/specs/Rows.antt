@@ -13,6 +13,10 @@ numberAt ns i k = getD (getD ns i []) k 0
 abbrev pub keyAt : List (List ℕ) → ℕ → List ℕ
 keyAt ks i = getD ks i []
 
+-- the n bytes of a row from a place on, taken one by one
+abbrev pub bytesFrom : List ℕ → ℕ → ℕ → List ℕ
+bytesFrom s i n = tab (λ (k : ℕ). getD s k 0) n i
+
 -- the i-th record: message, ordinal, trade, current face, kind and millions are numbers; Lot-ID, pool number and original face are bytes
 abbrev pub recordAt : List (List ℕ) → List (List ℕ) → ℕ → Pool
 recordAt ns ks i =

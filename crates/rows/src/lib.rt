@@ -4,7 +4,7 @@ ghost use mathlib.Core.Path.{_≡_};
 ghost use mathlib.Core.List.{_++_};
 ghost use Prim.Native.Nat.{_<_, _≤_};
 ghost use lib.ListN.{length, take, set, replicate};
-ghost use Rattle.rows.specs.Rows.{recordAt, tableOf};
+ghost use Rattle.rows.specs.Rows.{bytesFrom, recordAt, tableOf};
 ghost use Rattle.rows.specs.Closed.{unmarked, zeroed, closedUp};
 
 // The numbers of a row, in their order.
@@ -20,9 +20,9 @@ pub const KIND: usize = 4;
 
 pub const MILLIONS: usize = 5;
 
-// The matched fields as one row of bytes.
-pub fn key_of(lot: [u8; 6], pool: [u8; 7], original: [u8; 9]) -> [u8; 22]
-    ensures { λ r. ⌜ r ≡ lot ++ (pool ++ original) ⌝ }
+// The bytes of the matched fields, one by one.
+fn key_bytes(lot: [u8; 6], pool: [u8; 7], original: [u8; 9]) -> [u8; 22]
+    ensures { λ r. ⌜ r ≡ bytesFrom lot 0 6 ++ (bytesFrom pool 0 7 ++ bytesFrom original 0 9) ⌝ }
 {
     [
         lot[0],
@@ -50,6 +50,13 @@ pub fn key_of(lot: [u8; 6], pool: [u8; 7], original: [u8; 9]) -> [u8; 22]
     ]
 }
 
+// The matched fields as one row of bytes.
+pub fn key_of(lot: [u8; 6], pool: [u8; 7], original: [u8; 9]) -> [u8; 22]
+    ensures { λ r. ⌜ r ≡ lot ++ (pool ++ original) ⌝ }
+{
+    key_bytes(lot, pool, original)
+}
+
 // Stores a record as the i-th.
 pub fn put_record(numbers: &mut [[u64; 6]], keys: &mut [[u8; 22]], i: usize, p: Pool)
     requires { ⌜ (length (now keys) ≡ length (now numbers)) × (i < length (now numbers)) ⌝ }
@@ -66,7 +73,7 @@ pub fn put_record(numbers: &mut [[u64; 6]], keys: &mut [[u8; 22]], i: usize, p: 
 
 // A row of bytes, taken byte by byte: as a whole it would be copied in two parts that overlap, and wait for them.
 fn bytes_of(key: [u8; 22]) -> [u8; 22]
-    ensures { λ r. ⌜ r ≡ key ⌝ }
+    ensures { λ r. ⌜ (r ≡ bytesFrom key 0 22) × (length key ≡ 22) ⌝ }
 {
     [
         key[0],

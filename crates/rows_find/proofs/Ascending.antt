@@ -1,7 +1,7 @@
 -- The target's run says what the checks ask of the target: whether some record is under it, its trade and, in an ordered table, all its records.
 use mathlib.Core.Path.{_≡_, refl, sym, ap, _∙_}
 use mathlib.Core.List.{List, [], _∷_}
-use mathlib.Core.Bool.{Bool, true, false, cond, _&&_, _||_, false≢true}
+use mathlib.Core.Bool.{Bool, true, false, not, cond, _&&_, _||_, false≢true, Bool·not-not}
 use Prim.Native.Nat.{ℕ, zero, suc, _+_, _-_, _≤_, _<_}
 use native.Mathlib.Omega.{arith}
 use native.Mathlib.Decide.{decLt}
@@ -21,7 +21,7 @@ use Rattle.book.specs.Checks.{firstUnder, targetTrade}
 use Rattle.book.proofs.ListLaws.{all-implied}
 use Rattle.book.proofs.Ordered.{follows-message}
 use Rattle.rows_find.specs.Runs.{ahead, leading, runOf}
-use Rattle.rows_find.proofs.Running.{ahead-most, leading-most}
+use Rattle.rows_find.proofs.Running.{ahead-most}
 
 -- ---- any list
 module _ {A : Type 0} (p : A → Bool) where
@@ -54,18 +54,7 @@ module _ {A : Type 0} (p : A → Bool) where
       go true e h = rw e
       go false e h = h
 
-  -- the elements of the run pass
-  leading-pass : (d : A) (xs : List A) (i : ℕ) → i < leading p xs → p (getD xs i d) ≡ true
-  leading-pass d [] i h = absurd (omega arith)
-  leading-pass d (x ∷ xs) i h = go (p x) refl (leading-pass d xs) i h
-    where
-      go : (b : Bool) → p x ≡ b → ((j : ℕ) → j < leading p xs → p (getD xs j d) ≡ true)
-          → (j : ℕ) → j < cond b (suc (leading p xs)) 0 → p (getD (x ∷ xs) j d) ≡ true
-      go true e below zero l = e
-      go true e below (suc j) l = below j (omega arith)
-      go false e below j l = absurd (omega arith)
-
-  -- no element before it does
+  -- no element before it passes
   pub ahead-fail : (d : A) (xs : List A) (i : ℕ) → i < ahead p xs → p (getD xs i d) ≡ false
   ahead-fail d [] i h = absurd (omega arith)
   ahead-fail d (x ∷ xs) i h = go (p x) refl (ahead-fail d xs) i h
@@ -75,6 +64,10 @@ module _ {A : Type 0} (p : A → Bool) where
       go true e below j l = absurd (omega arith)
       go false e below zero l = e
       go false e below (suc j) l = below j (omega arith)
+
+-- the elements of the run pass
+leading-pass : {A : Type 0} (p : A → Bool) (d : A) (xs : List A) (i : ℕ) → i < leading p xs → p (getD xs i d) ≡ true
+leading-pass {A} p d xs i h = sym (Bool·not-not (p (getD xs i d))) ∙ ap not (ahead-fail (λ (x : A). not (p x)) d xs i h)
 
 -- ---- ordered records
 order-tail : (q : Pool) (rs : List Pool) → inOrder (q ∷ rs) ≡ true → inOrder rs ≡ true
@@ -104,7 +97,7 @@ order-leads id (r ∷ rs) o a =
     go (eqb (r .message) id) refl (order-leads id rs (order-tail r rs o) (and-right (atLeast id r) (all (atLeast id) rs) a))
   where
     go : (b : Bool) → eqb (r .message) id ≡ b → keep (under (Number id)) rs ≡ take (leading (under (Number id)) rs) rs
-        → cond b (r ∷ keep (under (Number id)) rs) (keep (under (Number id)) rs) ≡ take (cond b (suc (leading (under (Number id)) rs)) 0) (r ∷ rs)
+        → cond b (r ∷ keep (under (Number id)) rs) (keep (under (Number id)) rs) ≡ take (cond (not b) 0 (suc (leading (under (Number id)) rs))) (r ∷ rs)
     go true e h = ap (λ (l : List Pool). r ∷ l) h
     go false e h =
         let l : id ≤ r .message = leb-true id (r .message) (and-left (atLeast id r) (all (atLeast id) rs) a) in
@@ -167,7 +160,7 @@ module _ (tgt : Field) (rs : List Pool) where
   unfolding runOf
   run-within =
       let n : ℕ = ahead (under tgt) rs in
-      omega (arith, ahead-most (under tgt) rs, leading-most (under tgt) (drop n rs), length-drop n rs)
+      omega (arith, ahead-most (under tgt) rs, ahead-most (λ (r : Pool). not (under tgt r)) (drop n rs), length-drop n rs)
 
   -- 30: some record is under the target where the run has a row
   pub run-some : any (under tgt) rs ≡ ltb (runOf tgt rs .start) (runOf tgt rs .stop)

@@ -1,4 +1,4 @@
--- A loop that passes over the rows of a table up to the first that passes a test, or over those that pass it.
+-- A loop that passes over the rows of a table up to the first that passes a test.
 use mathlib.Core.Path.{_≡_, refl, sym, ap, _∙_}
 use mathlib.Core.List.{List, [], _∷_}
 use mathlib.Core.Bool.{Bool, true, false, cond}
@@ -26,14 +26,6 @@ module _ {A : Type 0} (p : A → Bool) where
       go true h = omega arith
       go false h = omega (arith, h)
 
-  pub leading-most : (xs : List A) → leading p xs ≤ length xs
-  leading-most [] = omega arith
-  leading-most (x ∷ xs) = go (p x) (leading-most xs)
-    where
-      go : (b : Bool) → leading p xs ≤ length xs → cond b (suc (leading p xs)) 0 ≤ suc (length xs)
-      go true h = omega (arith, h)
-      go false h = omega arith
-
   pub ahead-tab : (f : ℕ → A) (n i : ℕ) → ahead p (tab f n i) ≤ n
   ahead-tab f n i = omega (arith, ahead-most (tab f n i), length-tab f n i)
 
@@ -52,21 +44,6 @@ module _ {A : Type 0} (p : A → Bool) where
     pub ahead-done : i + ahead p (tab f (n - i) i) ≡ e → i ≤ n → n ≤ i → n ≡ e
     ahead-done inv l h =
         let a : ahead p (tab f (n - i) i) ≡ 0 = ap (ahead p) (tab-end f n i h) in
-        omega (arith, inv, a)
-
-    pub leading-stop : i + leading p (tab f (n - i) i) ≡ e → i < n → p (f i) ≡ false → i ≡ e
-    leading-stop inv h q =
-        let a : leading p (tab f (n - i) i) ≡ 0 = ap (leading p) (tab-turn f n i h) ∙ rw q in
-        omega (arith, inv, a)
-
-    pub leading-more : i + leading p (tab f (n - i) i) ≡ e → i < n → p (f i) ≡ true → (i + 1) + leading p (tab f (n - (i + 1)) (i + 1)) ≡ e
-    leading-more inv h q =
-        let a : leading p (tab f (n - i) i) ≡ suc (leading p (tab f (n - (i + 1)) (i + 1))) = ap (leading p) (tab-turn f n i h) ∙ rw q in
-        omega (arith, inv, a)
-
-    pub leading-done : i + leading p (tab f (n - i) i) ≡ e → i ≤ n → n ≤ i → n ≡ e
-    leading-done inv l h =
-        let a : leading p (tab f (n - i) i) ≡ 0 = ap (leading p) (tab-end f n i h) in
         omega (arith, inv, a)
 
 -- ---- the run from its two ends

@@ -1,7 +1,7 @@
 -- Where the target's records stand: they follow one another, since a sound table is in the order of message IDs.
 use Prim.Native.Nat.{ℕ, suc, _+_}
 use mathlib.Core.List.{List, [], _∷_}
-use mathlib.Core.Bool.{Bool, cond}
+use mathlib.Core.Bool.{Bool, not, cond}
 use lib.ListN.{drop}
 use Rattle.fields.specs.declared.Field.{Field}
 use Rattle.book.specs.declared.Pool.{Pool}
@@ -13,10 +13,9 @@ abbrev pub ahead : {A : Type 0} → (A → Bool) → List A → ℕ
 ahead p [] = 0
 ahead p (x ∷ xs) = cond (p x) 0 (suc (ahead p xs))
 
--- how many from the first on pass it, one after another
+-- how many from the first on pass it, one after another: those that come before the first that does not
 abbrev pub leading : {A : Type 0} → (A → Bool) → List A → ℕ
-leading p [] = 0
-leading p (x ∷ xs) = cond (p x) (suc (leading p xs)) 0
+leading {A} p = ahead (λ (x : A). not (p x))
 
 -- the target's records: from the first under it up to the first after that which is not
 unfoldable pub runOf : Field → List Pool → Run

@@ -1,16 +1,17 @@
 // The lent table of pool records, written: records from the rows that the engine works on, and records of zeros.
 use book::Pool;
 ghost use mathlib.Core.Path.{_≡_};
-ghost use mathlib.Core.List.{[], _∷_, _++_};
+ghost use mathlib.Core.List.{_++_};
 ghost use Prim.Native.Nat.{_-_, _<_, _≤_};
 ghost use lib.ListN.{length, take, drop, replicate};
 ghost use Rattle.lists.specs.Lists.{tab};
 ghost use Rattle.book.specs.Records.{noPool};
 ghost use Rattle.rows.specs.Rows.{recordAt};
+ghost use Rattle.table_store.specs.Bytes.{recordFrom};
 
 // The record of a row of numbers and a row of bytes.
 fn record_in(row: [u64; 6], key: [u8; 22]) -> Pool
-    ensures { λ r. ⌜ r ≡ recordAt (row ∷ []) (key ∷ []) 0 ⌝ }
+    ensures { λ r. ⌜ (r ≡ recordFrom row key) × (length key ≡ 22) ⌝ }
 {
     Pool {
         message: row[rows::MESSAGE],

@@ -1,24 +1,22 @@
 -- What is filled, and what is left of the part, are the part; each word of it is a number of 32 bits.
-use mathlib.Core.Path.{_≡_, refl, sym, _∙_}
-use Prim.Native.Nat.{_≤_, _-_}
+use mathlib.Core.Path.{refl}
+use Prim.Native.Nat.{_-_}
 use native.Mathlib.Omega.{arith}
-use lib.ListN.{length, length-set}
+use lib.ListN.{length}
 use borrow.Author.Needs.{needs}
-use Rattle.lists.specs.Lists.{part}
-use Rattle.lists.proofs.Parts.{length-part}
-use Rattle.image_reading.proofs.Filling.{Filling, filling-none, filling-more, filling-done}
-use Rattle.image.proofs.Looking.{part-at, below-at}
+use Rattle.image_reading.proofs.Filling.{Reading, reading-more, reading-done}
+use Rattle.image.proofs.Looking.{below-at}
 use Rattle.image_reading.proofs.read_numbers.Statement.{statement}
 use Rattle.image_reading.proofs.read_numbers.Tie as tie
 
 abbrev Inv-loop : tie.InvT-loop
-Inv-loop out₀ words at i₀ out i = (i ≤ length out₀) × (length out ≡ length out₀) × Filling (part words at (length out₀)) out i
+Inv-loop out₀ words at i₀ out i = Reading out₀ words at out i
 
 abbrev μ-loop : tie.MeasureT-loop
 μ-loop out₀ words at i₀ out i = length out₀ - i
 
 loop-holds : tie.Need-loop-holds Inv-loop μ-loop
-loop-holds c = let a = c .args in (search needs, refl, filling-none (part (a .words .now) (a .at) (length (a .out .now))) (a .out .now))
+loop-holds c = (search needs, refl, refl)
 
 add-out : tie.Need-add-out Inv-loop μ-loop
 add-out c = search needs
@@ -49,23 +47,18 @@ loop-less c = search needs
 
 loop-again : tie.Need-loop-again Inv-loop μ-loop
 loop-again c =
-    let a = c .before .before .before .args in
+    let s = c .before .before .before in
     let l = c .before .before .loop in
-    let n = length (a .out .now) in
-    let e = length-part (a .words .now) (a .at) n (c .before .before .before .pre .0) in
-    let h = part-at (a .words .now) (a .at) 0 n (l .i) (c .before .before .before .pre .0) (omega arith) in
-    (omega arith, length-set (l .out) (l .i) _ ∙ l .inv .1, filling-more (part (a .words .now) (a .at) n) (l .out) (l .i) (l .inv .2) _ 0 (sym h) (omega arith) (omega arith))
+    reading-more (s .args .out .now) (s .args .words .now) (s .args .at) (s .pre .0) (l .out) (l .i) (l .inv) (omega arith)
 
 same-length : tie.Need-same-length Inv-loop μ-loop
 same-length c = search needs
 
 returns : tie.Need-returns Inv-loop μ-loop
 returns c =
-    let a = c .before .before .args in
+    let s = c .before .before in
     let l = c .before .loop in
-    let n = length (a .out .now) in
-    let e = length-part (a .words .now) (a .at) n (c .before .before .pre .0) in
-    filling-done (part (a .words .now) (a .at) n) (l .out) (l .i) (l .inv .2) (omega arith) (omega arith)
+    reading-done (s .args .out .now) (s .args .words .now) (s .args .at) (s .pre .0) (l .out) (l .i) (l .inv) (omega arith)
 
 pub read-numbers-spec : {M : Type 1} → statement M
 read-numbers-spec =

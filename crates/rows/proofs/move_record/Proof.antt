@@ -1,7 +1,9 @@
 -- A record that stays is what stands there; another is stored as its two rows are.
+use mathlib.Core.Path.{sym, _∙_}
 use native.Mathlib.Omega.{arith}
 use lib.ListN.{getD}
 use mathlib.Core.List.{[]}
+use Rattle.lists.proofs.Tables.{table-of}
 use Rattle.rows.proofs.Rows.{table-set, table-stays}
 use borrow.Author.Needs.{needs}
 use Rattle.rows.proofs.move_record.Statement.{statement}
@@ -48,7 +50,7 @@ same-length-2 c = search needs
 returns-2 : tie.Need-returns-2
 returns-2 c =
     let a = c .before .before .before .before .args in
-    rw (c .bytes-of .ensures) (table-set (a .numbers .now) (a .keys .now) (a .to) (getD (a .numbers .now) (a .from) []) (getD (a .keys .now) (a .from) []) (omega arith) (omega arith))
+    rw (c .bytes-of .ensures .0 ∙ sym (table-of 0 (getD (a .keys .now) (a .from) []) 22 (c .bytes-of .ensures .1))) (table-set (a .numbers .now) (a .keys .now) (a .to) (getD (a .numbers .now) (a .from) []) (getD (a .keys .now) (a .from) []) (omega arith) (omega arith))
 
 pub move-record-spec : {M : Type 1} → statement M
 move-record-spec =

@@ -1,15 +1,17 @@
 -- The loop's invariant: the rows under the ID that follow one another still end at the same place.
 use native.Mathlib.Omega.{arith}
 use Prim.Native.Nat.{ℕ, _≤_, _-_, _+_}
-use mathlib.Core.Path.{_≡_, refl}
+use mathlib.Core.Path.{_≡_, refl, ap}
 use mathlib.Core.List.{List}
+use mathlib.Core.Bool.{not}
 use borrow.Author.Tests.{eq-eqb, ne-eqb}
 use Rattle.lists.specs.Lists.{tab}
 use Rattle.fields.specs.declared.Field.the-variants.{Number}
+use Rattle.book.specs.declared.Pool.{Pool}
 use Rattle.book.specs.Messages.{under}
 use Rattle.rows.specs.Rows.{recordAt}
 use Rattle.rows_find.specs.Runs.{leading}
-use Rattle.rows_find.proofs.Running.{leading-stop, leading-more, leading-done}
+use Rattle.rows_find.proofs.Running.{ahead-stop, ahead-more, ahead-done}
 use borrow.Author.Needs.{needs}
 use Rattle.rows_find.proofs.first_other.Statement.{statement}
 use Rattle.rows_find.proofs.first_other.Tie as tie
@@ -36,7 +38,7 @@ returns : tie.Need-returns Inv-loop μ-loop
 returns c =
     let a = c .before .before .before .before .args in
     let l = c .before .before .before .loop in
-    λ ks. leading-stop (under (Number (a .id))) (recordAt (a .numbers .now) ks) (a .live) _ (l .i) (l .inv .1 ks) (omega arith) (ne-eqb _ _ (c .if1 .taken))
+    λ ks. ahead-stop (λ (p : Pool). not (under (Number (a .id)) p)) (recordAt (a .numbers .now) ks) (a .live) _ (l .i) (l .inv .1 ks) (omega arith) (ap not (ne-eqb _ _ (c .if1 .taken)))
 
 add-i : tie.Need-add-i Inv-loop μ-loop
 add-i c = omega arith
@@ -48,13 +50,13 @@ loop-again : tie.Need-loop-again Inv-loop μ-loop
 loop-again c =
     let a = c .before .before .before .before .args in
     let l = c .before .before .before .loop in
-    (omega arith, λ ks. leading-more (under (Number (a .id))) (recordAt (a .numbers .now) ks) (a .live) _ (l .i) (l .inv .1 ks) (omega arith) (eq-eqb _ _ (c .if1 .left)))
+    (omega arith, λ ks. ahead-more (λ (p : Pool). not (under (Number (a .id)) p)) (recordAt (a .numbers .now) ks) (a .live) _ (l .i) (l .inv .1 ks) (omega arith) (ap not (eq-eqb _ _ (c .if1 .left))))
 
 returns-2 : tie.Need-returns-2 Inv-loop μ-loop
 returns-2 c =
     let a = c .before .before .args in
     let l = c .before .loop in
-    λ ks. leading-done (under (Number (a .id))) (recordAt (a .numbers .now) ks) (a .live) _ (l .i) (l .inv .1 ks) (l .inv .0) (omega arith)
+    λ ks. ahead-done (λ (p : Pool). not (under (Number (a .id)) p)) (recordAt (a .numbers .now) ks) (a .live) _ (l .i) (l .inv .1 ks) (l .inv .0) (omega arith)
 
 pub first-other-spec : {M : Type 1} → statement M
 first-other-spec =
