@@ -3,7 +3,7 @@ use book::Pool;
 ghost use mathlib.Core.Path.{_≡_};
 ghost use mathlib.Core.List.{_++_};
 ghost use Prim.Native.Nat.{_<_, _≤_};
-ghost use lib.ListN.{length, take, set, replicate};
+ghost use lib.ListN.{length, take, set};
 ghost use Rattle.rows.specs.Rows.{bytesFrom, recordAt, tableOf};
 ghost use Rattle.rows.specs.Closed.{unmarked, zeroed, closedUp};
 
@@ -147,33 +147,4 @@ pub fn close_up(numbers: &mut [[u64; 6]], keys: &mut [[u8; 22]], live: usize, ma
     }
     zero_records(&mut *numbers, &mut *keys, w, live);
     w
-}
-
-fn clear_numbers(numbers: &mut [[u64; 6]])
-    ensures { λ _. ⌜ now (numbers .exit) ≡ replicate (length (now (numbers .entry))) (replicate 6 0) ⌝ }
-{
-    let mut row: usize = 0;
-    while row < numbers.len() {
-        numbers[row] = [0; 6];
-        row += 1;
-    }
-}
-
-fn clear_keys(keys: &mut [[u8; 22]])
-    ensures { λ _. ⌜ now (keys .exit) ≡ replicate (length (now (keys .entry))) (replicate 22 0) ⌝ }
-{
-    let mut key: usize = 0;
-    while key < keys.len() {
-        keys[key] = [0; 22];
-        key += 1;
-    }
-}
-
-// Zeros in every row.
-pub fn clear(numbers: &mut [[u64; 6]], keys: &mut [[u8; 22]])
-    ensures { λ _. ⌜ (now (numbers .exit) ≡ replicate (length (now (numbers .entry))) (replicate 6 0))
-        × (now (keys .exit) ≡ replicate (length (now (keys .entry))) (replicate 22 0)) ⌝ }
-{
-    clear_numbers(numbers);
-    clear_keys(keys);
 }

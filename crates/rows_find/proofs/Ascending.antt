@@ -222,20 +222,7 @@ run-only (Number id) rs o i h u =
     (a, omega (arith, l, a))
 
 module _ (tgt : Field) (rs : List Pool) (o : inOrder rs ≡ true) where
-  -- so a record is under the target exactly where its place is in the run
-  pub run-is : (i : ℕ) → i < length rs → under tgt (getD rs i noPool) ≡ (leb (runOf tgt rs .start) i && ltb i (runOf tgt rs .stop))
-  run-is i h = go (under tgt (getD rs i noPool)) refl
-    where
-      go : (b : Bool) → under tgt (getD rs i noPool) ≡ b → b ≡ (leb (runOf tgt rs .start) i && ltb i (runOf tgt rs .stop))
-      go true u =
-          let w = run-only tgt rs o i h u in
-          sym (both (leb (runOf tgt rs .start) i) (ltb i (runOf tgt rs .stop)) (le-leb (runOf tgt rs .start) i (w .0)) (lt-ltb i (runOf tgt rs .stop) (w .1)))
-      go false u =
-          sym (un-true (leb (runOf tgt rs .start) i && ltb i (runOf tgt rs .stop))
-          (λ e. clash (run-under tgt rs i (leb-true (runOf tgt rs .start) i (and-left (leb (runOf tgt rs .start) i) (ltb i (runOf tgt rs .stop)) e))
-          (ltb-true i (runOf tgt rs .stop) (and-right (leb (runOf tgt rs .start) i) (ltb i (runOf tgt rs .stop)) e))) u))
-
-  -- and the records under the target are those of the run
+  -- so the records under the target are those of the run
   pub run-keep : keep (under tgt) rs ≡ part rs (runOf tgt rs .start) (runOf tgt rs .stop - runOf tgt rs .start)
   unfolding runOf part
   run-keep =
