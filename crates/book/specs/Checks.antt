@@ -276,7 +276,7 @@ newFacesFail v body = facesFail (v .limits .least) (details body)
 abbrev pub newLotsFail : Values → List ℕ → Bool
 newLotsFail v body = lotsFail (v .limits .variance) (v .limits .poolsAMillion) (details body)
 
--- 36: matched fields twice among the new pools
+-- 36: a new pool that the message brings twice
 abbrev pub newPoolsRepeat : List ℕ → Bool
 newPoolsRepeat body = not (distinct (map fieldsOf (newPools (details body))))
 
@@ -307,7 +307,7 @@ eachOnce fs gs = distinct fs && (all (λ (f : Fields). hasFields f gs) fs && all
 abbrev pub isListedIn : List Fields → LiveLot → Bool
 isListedIn fs l = any (λ (g : Fields). hasFields g fs) (liveLotFields l)
 
--- 37: the listed pools are exactly some live lots of the target, each pool once, in any order: the lots of which a pool is listed
+-- 37: of each live lot that the message touches it lists every pool, once, and it lists nothing else
 abbrev pub exactLots : Field → List Fields → List Pool → Bool
 exactLots tgt fs rs = eachOnce fs (fieldsOfLive (keep (isListedIn fs) (targetLots tgt rs)))
 
@@ -331,7 +331,7 @@ listedFine body rs =
     exactLots (targetOf body) (listed body) rs
     && (not (isCc (typeOf body)) || all (oneLot (targetOf body) rs) (canceledLots (details body)))
 
--- 37: listed pools not exactly some live lots of the target
+-- 37: a message that lists something else than whole lots
 abbrev pub listedFail : Call → Bool
 listedFail c = not (listedFine (c .body) (live c))
 
@@ -341,7 +341,7 @@ parFine c =
     ltb (concerned c) (length (trades c))
     && leb (broughtWeight (c .body)) (tradeAt (trades c) (concerned c) .openPar + weightOfRecords (taken c))
 
--- 38: the trade's open par plus the weight taken off is under the weight brought
+-- 38: open par, with what is given back, does not hold what comes
 abbrev pub parShort : Call → Bool
 parShort c = not (parFine c)
 
@@ -349,7 +349,7 @@ parShort c = not (parFine c)
 abbrev pub tableFine : Call → Bool
 tableFine c = leb (length (live c) + length (newPools (details (c .body)))) (length (c .table) + length (listed (c .body)))
 
--- 40: live pools after the message exceed the table
+-- 40: more pools than the table has records
 abbrev pub tableFull : Call → Bool
 tableFull c = not (tableFine c)
 
