@@ -7,11 +7,12 @@ use lib.Dec.{eqb}
 use Rattle.layout.specs.declared.Detail.{Detail}
 use Rattle.terminator.specs.Terminators.{isEnd, kindOf, millionsOf, term, isCanceled}
 use Rattle.book.specs.Records.{kindNumber}
+use Rattle.rows.specs.Rows.{rowNumbers}
 use Rattle.check_listed.specs.declared.Alike.{Alike}
 
 -- the numbers of a pool's record, by its row; zeros where it is not canceled
 abbrev pub numbersOf : List (List ℕ) → ℕ → Detail → List ℕ
-numbersOf ns row d = cond (isCanceled d) (getD ns row []) (replicate 6 0)
+numbersOf ns row d = cond (isCanceled d) (getD ns row []) (replicate rowNumbers 0)
 
 -- the ordinal in a row of numbers
 abbrev pub ordinalIn : List ℕ → ℕ

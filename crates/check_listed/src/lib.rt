@@ -83,7 +83,7 @@ fn mark_places(body: &[u8], at: &[usize; layout::POOLS_MAX], cc: bool) -> Listed
 }
 
 // Whether a row and the next one, where they are of one lot, have equal marks.
-fn even_at(numbers: &[[u64; 6]], marks: &[u8], i: usize) -> bool
+fn even_at(numbers: &[[u64; rows::NUMBERS]], marks: &[u8], i: usize) -> bool
     requires { ⌜ (i + 1 < length (now numbers)) × (i + 1 < length (now marks)) ⌝ }
     ensures { λ r. ⌜ r ≡ evenAt (now (numbers .entry)) (now (marks .entry)) i ⌝ }
 {
@@ -94,7 +94,7 @@ fn even_at(numbers: &[[u64; 6]], marks: &[u8], i: usize) -> bool
 }
 
 // Whether the rows from start up to stop that are of one lot have equal marks.
-fn marks_even(numbers: &[[u64; 6]], marks: &[u8], start: usize, stop: usize) -> bool
+fn marks_even(numbers: &[[u64; rows::NUMBERS]], marks: &[u8], start: usize, stop: usize) -> bool
     requires { ⌜ (start ≤ stop) × (stop ≤ length (now numbers)) × (stop ≤ length (now marks)) ⌝ }
     ensures { λ r. ⌜ r ≡ marksEven (now (numbers .entry)) (now (marks .entry)) start stop ⌝ }
 {
@@ -122,7 +122,7 @@ fn kind_number(t: Terminator) -> u64
 }
 
 // Whether the record of a lot's last pool has the lot's kind and millions.
-fn last_fits(d: Detail, row: [u64; 6]) -> bool
+fn last_fits(d: Detail, row: [u64; rows::NUMBERS]) -> bool
     ensures { λ r. ⌜ r ≡ lastFits d row ⌝ }
 {
     let bytes = d.terminator;
@@ -133,7 +133,7 @@ fn last_fits(d: Detail, row: [u64; 6]) -> bool
 }
 
 // One pool more.
-fn alike_pool(s: Alike, d: Detail, row: [u64; 6]) -> Alike
+fn alike_pool(s: Alike, d: Detail, row: [u64; rows::NUMBERS]) -> Alike
     ensures { λ r. ⌜ r ≡ alikePool s d row ⌝ }
 {
     let bytes = d.terminator;
@@ -161,7 +161,7 @@ fn alike_pool(s: Alike, d: Detail, row: [u64; 6]) -> Alike
 }
 
 // The numbers of a pool's record, or zeros where the pool is not canceled.
-fn numbers_of(numbers: &[[u64; 6]], row: usize, d: Detail) -> [u64; 6]
+fn numbers_of(numbers: &[[u64; rows::NUMBERS]], row: usize, d: Detail) -> [u64; rows::NUMBERS]
     requires { ⌜ (isCanceled d ≡ true → row < length (now numbers)) ⌝ }
     ensures { λ r. ⌜ r ≡ numbersOf (now (numbers .entry)) row d ⌝ }
 {
@@ -169,11 +169,15 @@ fn numbers_of(numbers: &[[u64; 6]], row: usize, d: Detail) -> [u64; 6]
     if bytes[0] == terminator::CANCELED {
         return numbers[row];
     }
-    [0u64; 6]
+    [0u64; rows::NUMBERS]
 }
 
 // Whether the records of each 6 lot's pools have one ordinal, and the lot's kind and millions.
-fn lots_alike(numbers: &[[u64; 6]], body: &[u8], at: &[usize; layout::POOLS_MAX]) -> bool
+fn lots_alike(
+    numbers: &[[u64; rows::NUMBERS]],
+    body: &[u8],
+    at: &[usize; layout::POOLS_MAX],
+) -> bool
     requires { ⌜ ((i : ℕ) → i < poolCount (now body) → isCanceled (detailAt (now body) (placeOf i)) ≡ true → getD (now at) i 0 < length (now numbers)) ⌝ }
     ensures { λ r. ⌜ ((row : Detail → ℕ) → Rows row (now (body .entry)) (now (at .entry)) → r ≡ alikeAll (λ (d : Detail). numbersOf (now (numbers .entry)) (row d) d) noneAlike (details (now (body .entry))) .fine) ⌝ }
 {
@@ -196,7 +200,7 @@ fn lots_alike(numbers: &[[u64; 6]], body: &[u8], at: &[usize; layout::POOLS_MAX]
 // Marks the rows of the listed pools, and judges the marks: none twice, even among the target's rows and, on a CC, lots alike.
 fn judge(
     body: &[u8],
-    numbers: &[[u64; 6]],
+    numbers: &[[u64; rows::NUMBERS]],
     at: &[usize; layout::POOLS_MAX],
     cc: bool,
     start: usize,
@@ -222,7 +226,12 @@ fn judge(
 }
 
 // 37: whether the pools that a CC or DK lists are whole live lots of its target, and the records that it takes off.
-fn decide_listed(body: &[u8], numbers: &[[u64; 6]], keys: &[[u8; 22]], live: usize) -> Listed
+fn decide_listed(
+    body: &[u8],
+    numbers: &[[u64; rows::NUMBERS]],
+    keys: &[[u8; rows::KEY_WIDTH]],
+    live: usize,
+) -> Listed
     requires { ⌜ Findable (now body) (now numbers) (now keys) live ⌝ }
     ensures { λ r. ⌜ Decides (now (body .entry)) (now (numbers .entry)) (now (keys .entry)) live r ⌝ }
 {
@@ -250,7 +259,12 @@ fn without_marks(fine: bool) -> Listed
 }
 
 // What a message of any type takes off: a CC or DK what it lists, where that passes 37; another nothing.
-pub fn find_listed(body: &[u8], numbers: &[[u64; 6]], keys: &[[u8; 22]], live: usize) -> Listed
+pub fn find_listed(
+    body: &[u8],
+    numbers: &[[u64; rows::NUMBERS]],
+    keys: &[[u8; rows::KEY_WIDTH]],
+    live: usize,
+) -> Listed
     requires { ⌜ Findable (now body) (now numbers) (now keys) live ⌝ }
     ensures { λ r. ⌜ Takes (now (body .entry)) (take live (tableOf (now (numbers .entry)) (now (keys .entry)))) r ⌝ }
 {

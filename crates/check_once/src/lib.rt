@@ -30,7 +30,7 @@ fn narrow(x: usize) -> u32
 }
 
 // Where the run of records of one message begins that the i-th record is of, given where the run before it begins.
-fn run_of(numbers: &[[u64; 6]], start: usize, i: usize) -> usize
+fn run_of(numbers: &[[u64; rows::NUMBERS]], start: usize, i: usize) -> usize
     requires { ⌜ (start < length (now numbers)) × (i < length (now numbers)) ⌝ }
     ensures { λ r. ⌜ r ≡ cond (eqb (numberAt (now (numbers .entry)) i 0) (numberAt (now (numbers .entry)) start 0)) start i ⌝ }
 {
@@ -41,7 +41,7 @@ fn run_of(numbers: &[[u64; 6]], start: usize, i: usize) -> usize
 }
 
 // Whether the i-th row stands among those from start to it: the rows of its bucket are gone through from the last.
-fn stands(keys: &[[u8; 22]], back: &[u32], last: usize, start: usize, i: usize) -> bool
+fn stands(keys: &[[u8; rows::KEY_WIDTH]], back: &[u32], last: usize, start: usize, i: usize) -> bool
     requires { ⌜ (i < length (now keys)) × (i ≤ length (now back)) × (start ≤ i) ⌝ }
     requires { ⌜ LastIn (now keys) (bucketOf (keyAt (now keys) i)) i last ⌝ }
     requires { ⌜ Linked (now keys) (now back) i ⌝ }
@@ -58,7 +58,11 @@ fn stands(keys: &[[u8; 22]], back: &[u32], last: usize, start: usize, i: usize) 
 }
 
 // The search for matched fields that stand twice: a row is sought among those of its own message before it.
-fn search_rows(numbers: &[[u64; 6]], keys: &[[u8; 22]], live: usize) -> bool
+fn search_rows(
+    numbers: &[[u64; rows::NUMBERS]],
+    keys: &[[u8; rows::KEY_WIDTH]],
+    live: usize,
+) -> bool
     requires { ⌜ (length (now keys) ≡ length (now numbers)) × (live ≤ length (now numbers)) × (length (now numbers) ≤ recordsMax) × (inOrder (take live (tableOf (now numbers) (now keys))) ≡ true) ⌝ }
     ensures { λ r. ⌜ r ≡ fieldsOnce (take live (tableOf (now (numbers .entry)) (now (keys .entry)))) ⌝ }
 {
@@ -81,7 +85,11 @@ fn search_rows(numbers: &[[u64; 6]], keys: &[[u8; 22]], live: usize) -> bool
 }
 
 // Whether the live records have no matched fields twice under one message ID, where they are in order. A single one cannot.
-pub fn fields_once(numbers: &[[u64; 6]], keys: &[[u8; 22]], live: usize) -> bool
+pub fn fields_once(
+    numbers: &[[u64; rows::NUMBERS]],
+    keys: &[[u8; rows::KEY_WIDTH]],
+    live: usize,
+) -> bool
     requires { ⌜ (length (now keys) ≡ length (now numbers)) × (live ≤ length (now numbers)) × (length (now numbers) ≤ recordsMax) × (inOrder (take live (tableOf (now numbers) (now keys))) ≡ true) ⌝ }
     ensures { λ r. ⌜ r ≡ fieldsOnce (take live (tableOf (now (numbers .entry)) (now (keys .entry)))) ⌝ }
 {
@@ -99,7 +107,7 @@ fn is_new(d: Detail) -> bool
 }
 
 // Writes the rows of a message's new pools from the front, and gives their number.
-fn put_rows(body: &[u8], rows: &mut [[u8; 22]]) -> usize
+fn put_rows(body: &[u8], rows: &mut [[u8; rows::KEY_WIDTH]]) -> usize
     requires { ⌜ length (now rows) ≡ poolsMax ⌝ }
     ensures { λ r. ⌜ (length (now (rows .exit)) ≡ poolsMax) × (r ≡ length (newPools (details (now (body .entry))))) × (take r (now (rows .exit)) ≡ map keyOf (newPools (details (now (body .entry))))) × (r ≤ poolsMax) ⌝ }
 {
@@ -121,8 +129,8 @@ fn put_rows(body: &[u8], rows: &mut [[u8; 22]]) -> usize
 pub fn repeated(body: &[u8]) -> bool
     ensures { λ r. ⌜ r ≡ not (distinct (map fieldsOf (newPools (details (now (body .entry)))))) ⌝ }
 {
-    let numbers = [[0u64; 6]; layout::POOLS_MAX];
-    let mut rows = [[0u8; 22]; layout::POOLS_MAX];
+    let numbers = [[0u64; rows::NUMBERS]; layout::POOLS_MAX];
+    let mut rows = [[0u8; rows::KEY_WIDTH]; layout::POOLS_MAX];
     let n = put_rows(body, &mut rows);
     !fields_once(&numbers, &rows, n)
 }

@@ -167,7 +167,7 @@ fn trade_fine(t: Trade, holidays: &[u32]) -> bool
                                 & amounts_fine(t.price, t.par)))))))
 }
 
-fn trades_fine(trades: [Trade; 64], count: usize, holidays: &[u32]) -> bool
+fn trades_fine(trades: [Trade; book::TRADES_MAX], count: usize, holidays: &[u32]) -> bool
     requires { ⌜ count ≤ tradesMax ⌝ }
     ensures { λ r. ⌜ r ≡ all (tradeFine (now (holidays .entry))) (take count trades) ⌝ }
 {
@@ -204,7 +204,7 @@ fn same_name(a: Trade, b: Trade) -> bool
 }
 
 // Whether a trade from some place on has the ID of this one.
-fn named_from(trades: [Trade; 64], count: usize, from: usize, t: Trade) -> bool
+fn named_from(trades: [Trade; book::TRADES_MAX], count: usize, from: usize, t: Trade) -> bool
     requires { ⌜ (count ≤ tradesMax) × (from ≤ count) ⌝ }
     ensures { λ r. ⌜ r ≡ any (same (tradeName t)) (map tradeName (drop from (take count trades))) ⌝ }
 {
@@ -242,11 +242,11 @@ fn mark_of(t: Trade) -> u64
 }
 
 // The marks of the first trades, each in its trade's place.
-fn marks_of(trades: [Trade; 64], count: usize) -> [u64; 64]
+fn marks_of(trades: [Trade; book::TRADES_MAX], count: usize) -> [u64; book::TRADES_MAX]
     requires { ⌜ count ≤ tradesMax ⌝ }
     ensures { λ r. ⌜ take count r ≡ map markOf (map tradeName (take count trades)) ⌝ }
 {
-    let mut marks = [0u64; 64];
+    let mut marks = [0u64; book::TRADES_MAX];
     let mut i: usize = 0;
     while i < count {
         let t = trades[i];
@@ -271,7 +271,7 @@ fn marked_from(marks: &[u64], count: usize, from: usize, mark: u64) -> bool
 }
 
 // 41: equal IDs. They have equal marks, so only IDs whose marks are equal are compared byte by byte.
-fn names_repeat(trades: [Trade; 64], count: usize) -> bool
+fn names_repeat(trades: [Trade; book::TRADES_MAX], count: usize) -> bool
     requires { ⌜ count ≤ tradesMax ⌝ }
     ensures { λ r. ⌜ r ≡ namesRepeat (map tradeName (take count trades)) ⌝ }
 {
@@ -319,7 +319,7 @@ pub fn values_fine(v: Values) -> bool
 }
 
 // The trades as they are opened: open par starts at par.
-fn all_at_par(trades: [Trade; 64]) -> [Trade; 64]
+fn all_at_par(trades: [Trade; book::TRADES_MAX]) -> [Trade; book::TRADES_MAX]
     ensures { λ r. ⌜ r ≡ map atPar trades ⌝ }
 {
     let mut opened = trades;

@@ -11,10 +11,10 @@ use Rattle.lists.proofs.Tables.{tab-turn, tab-end, tab-all}
 use Rattle.book.specs.declared.Pool.{Pool}
 use Rattle.book.specs.declared.Values.{Values}
 use Rattle.book.specs.Soundness.{recordFine, follows, inOrder}
-use Rattle.rows.specs.Rows.{keyAt, recordAt, tableOf}
+use Rattle.rows.specs.Rows.{keyAt, recordOf, recordAt, tableOf}
 use Rattle.rows.proofs.Rows.{take-table}
 use Rattle.rows.proofs.Runs.{above}
-use Rattle.check_soundness.specs.Parts.{recordOf, against}
+use Rattle.check_soundness.specs.Parts.{against}
 
 module _ (v : Values) where
   -- whether each record is fine and follows the one before it, the first of them q

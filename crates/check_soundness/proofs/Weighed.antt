@@ -14,10 +14,10 @@ use Rattle.terminator.specs.Lots.{millionCents}
 use Rattle.book.specs.declared.Pool.{Pool}
 use Rattle.book.specs.Opening.{tradesMax, recordsMax, elevenDigitsMax}
 use Rattle.book.specs.Records.{kindGood}
-use Rattle.rows.specs.Rows.{numberAt, keyAt, recordAt, tableOf}
+use Rattle.rows.specs.Rows.{numberAt, keyAt, recordOf, recordAt, tableOf}
 use Rattle.rows.specs.Runs.{runSum, weightShare, shareOf}
 use Rattle.rows.proofs.Rows.{take-table}
-use Rattle.check_soundness.specs.Parts.{recordOf, Light}
+use Rattle.check_soundness.specs.Parts.{Light}
 
 -- ---- one record's share
 module _ (begins : Bool) (row : List ℕ) where

@@ -10,7 +10,7 @@ use lib.Dec.{eqb}
 use Rattle.lists.specs.Lists.{part, tab}
 use Rattle.lists.proofs.Parts.{part-zero, part-cons}
 use Rattle.book.specs.Soundness.{isNone}
-use Rattle.check_soundness.specs.Parts.{recordOf}
+use Rattle.rows.specs.Rows.{recordOf}
 
 -- a part is the table of its elements
 part-tab : (s : List ℕ) (at n : ℕ) → at + n ≤ length s → part s at n ≡ tab (λ (i : ℕ). getD s i 0) n at

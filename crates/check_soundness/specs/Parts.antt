@@ -1,32 +1,16 @@
--- What the parts of number 42 look at: a row by itself, the two values that a record is held against, and rows that are light enough to sum.
+-- What the parts of number 42 look at: the two values that a record is held against, and rows that are light enough to sum.
 use Prim.Native.Nat.{ℕ, _≤_, _<_}
 use mathlib.Core.Path.{_≡_}
 use mathlib.Core.List.{List, []}
 use mathlib.Core.Bool.{true, _&&_}
-use lib.ListN.{getD, take}
-use Rattle.lists.specs.Lists.{part, all}
+use lib.ListN.{take}
+use Rattle.lists.specs.Lists.{all}
 use Rattle.terminator.specs.Terminators.{millionsMost}
 use Rattle.sequence.specs.Sequence.{outbound}
 use Rattle.book.specs.declared.Values.{Values}
-use Rattle.book.specs.declared.Pool.{Pool}
 use Rattle.book.specs.Opening.{tradesMax, elevenDigitsMax}
 use Rattle.book.specs.Soundness.{recordFine, inOrder}
 use Rattle.rows.specs.Rows.{numberAt, tableOf}
-
--- the record of one row of numbers and one row of bytes
-abbrev pub recordOf : List ℕ → List ℕ → Pool
-recordOf row key =
-    record {
-      message = getD row 0 0;
-      ordinal = getD row 1 0;
-      trade = getD row 2 0;
-      lot = part key 0 6;
-      pool = part key 6 7;
-      original = part key 13 9;
-      current = getD row 3 0;
-      kind = getD row 4 0;
-      millions = getD row 5 0;
-    }
 
 -- values of which only the number of trades and the last message ID are given: all that a record is held against
 abbrev pub against : ℕ → ℕ → Values

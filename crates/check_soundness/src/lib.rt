@@ -11,9 +11,9 @@ ghost use Rattle.lists.specs.Lists.{all};
 ghost use Rattle.book.specs.Trades.{tradesOf};
 ghost use Rattle.book.specs.Opening.{tradesMax, recordsMax};
 ghost use Rattle.book.specs.Soundness.{recordFine, follows, inOrder, isNone, parsFrom, isSound};
-ghost use Rattle.rows.specs.Rows.{tableOf};
+ghost use Rattle.rows.specs.Rows.{recordOf, tableOf};
 ghost use Rattle.rows.specs.Runs.{runSum, weightShare, shareOf};
-ghost use Rattle.check_soundness.specs.Parts.{recordOf, against, RowsFine, Light};
+ghost use Rattle.check_soundness.specs.Parts.{against, RowsFine, Light};
 
 // Eleven digits: a current face in cents.
 const ELEVEN_DIGITS_MAX: u64 = 99999999999;
@@ -31,7 +31,7 @@ const ODD: u64 = 2;
 const BAD: u64 = 3;
 
 // 42: a live record by itself.
-fn row_fine(row: [u64; 6], count: u64, last: u64) -> bool
+fn row_fine(row: [u64; rows::NUMBERS], count: u64, last: u64) -> bool
     ensures { λ r. ⌜ ((key : List ℕ) → r ≡ recordFine (against count last) (recordOf row key)) ⌝ }
 {
     let message = row[rows::MESSAGE];
@@ -46,7 +46,7 @@ fn row_fine(row: [u64; 6], count: u64, last: u64) -> bool
 }
 
 // 42: a live record after the one before it.
-fn row_follows(before: [u64; 6], row: [u64; 6]) -> bool
+fn row_follows(before: [u64; rows::NUMBERS], row: [u64; rows::NUMBERS]) -> bool
     ensures { λ r. ⌜ ((key next : List ℕ) → r ≡ follows (recordOf before key) (recordOf row next)) ⌝ }
 {
     let lot = (before[rows::KIND] == row[rows::KIND])
@@ -60,11 +60,11 @@ fn row_follows(before: [u64; 6], row: [u64; 6]) -> bool
 }
 
 // 42: the live records, each by itself and after the one before it.
-fn rows_fine(numbers: &[[u64; 6]], live: usize, count: u64, last: u64) -> bool
+fn rows_fine(numbers: &[[u64; rows::NUMBERS]], live: usize, count: u64, last: u64) -> bool
     requires { ⌜ live ≤ length (now numbers) ⌝ }
     ensures { λ r. ⌜ ((ks : List (List ℕ)) → r ≡ (all (recordFine (against count last)) (take live (tableOf (now (numbers .entry)) ks)) && inOrder (take live (tableOf (now (numbers .entry)) ks)))) ⌝ }
 {
-    let mut before = [0u64; 6];
+    let mut before = [0u64; rows::NUMBERS];
     let mut i: usize = 0;
     while i < live {
         let row = numbers[i];
@@ -78,7 +78,7 @@ fn rows_fine(numbers: &[[u64; 6]], live: usize, count: u64, last: u64) -> bool
 }
 
 // 42: a row that is zeros.
-fn row_none(row: [u64; 6], key: [u8; 22]) -> bool
+fn row_none(row: [u64; rows::NUMBERS], key: [u8; rows::KEY_WIDTH]) -> bool
     ensures { λ r. ⌜ r ≡ isNone (recordOf row key) ⌝ }
 {
     let lot = (key[0] == 0)
@@ -105,7 +105,11 @@ fn row_none(row: [u64; 6], key: [u8; 22]) -> bool
 }
 
 // 42: zeros after the live records.
-fn zeros_after(numbers: &[[u64; 6]], keys: &[[u8; 22]], live: usize) -> bool
+fn zeros_after(
+    numbers: &[[u64; rows::NUMBERS]],
+    keys: &[[u8; rows::KEY_WIDTH]],
+    live: usize,
+) -> bool
     requires { ⌜ (length (now keys) ≡ length (now numbers)) × (live ≤ length (now numbers)) ⌝ }
     ensures { λ r. ⌜ r ≡ all isNone (drop live (tableOf (now (numbers .entry)) (now (keys .entry)))) ⌝ }
 {
@@ -122,7 +126,7 @@ fn zeros_after(numbers: &[[u64; 6]], keys: &[[u8; 22]], live: usize) -> bool
 }
 
 // What a record adds to its trade's weight.
-fn share(row: [u64; 6], begins: bool) -> u64
+fn share(row: [u64; rows::NUMBERS], begins: bool) -> u64
     requires { ⌜ getD row 5 0 ≤ 99 ⌝ }
     ensures { λ r. ⌜ ((key : List ℕ) → r ≡ weightShare begins (recordOf row key)) ⌝ }
 {
@@ -136,11 +140,11 @@ fn share(row: [u64; 6], begins: bool) -> u64
 }
 
 // What the lots of each trade weigh.
-fn weights(numbers: &[[u64; 6]], live: usize) -> [u64; 64]
+fn weights(numbers: &[[u64; rows::NUMBERS]], live: usize) -> [u64; book::TRADES_MAX]
     requires { ⌜ (live ≤ length (now numbers)) × (live ≤ recordsMax) × Light (now numbers) live ⌝ }
     ensures { λ r. ⌜ ((ks : List (List ℕ)) (t : ℕ) → t < tradesMax → getD r t 0 ≡ runSum (shareOf t weightShare) 0 0 (take live (tableOf (now (numbers .entry)) ks))) ⌝ }
 {
-    let mut sums = [0u64; 64];
+    let mut sums = [0u64; book::TRADES_MAX];
     let mut message: u64 = 0;
     let mut ordinal: u64 = 0;
     let mut i: usize = 0;
@@ -158,7 +162,7 @@ fn weights(numbers: &[[u64; 6]], live: usize) -> [u64; 64]
 }
 
 // 42: every trade's open par is its par less what its lots weigh.
-fn pars_fine(v: Values, numbers: &[[u64; 6]], live: usize) -> bool
+fn pars_fine(v: Values, numbers: &[[u64; rows::NUMBERS]], live: usize) -> bool
     requires { ⌜ (v .tradeCount ≤ tradesMax) × (live ≤ length (now numbers)) × (live ≤ recordsMax) × Light (now numbers) live × RowsFine v (now numbers) live ⌝ }
     ensures { λ r. ⌜ ((ks : List (List ℕ)) → r ≡ parsFrom 0 (tradesOf v) (take live (tableOf (now (numbers .entry)) ks))) ⌝ }
 {
@@ -181,7 +185,11 @@ fn pars_fine(v: Values, numbers: &[[u64; 6]], live: usize) -> bool
 }
 
 // 42: whether the book and its table, rows of numbers beside as many rows of bytes, are sound.
-pub fn is_sound(book: Book, numbers: &[[u64; 6]], keys: &[[u8; 22]]) -> bool
+pub fn is_sound(
+    book: Book,
+    numbers: &[[u64; rows::NUMBERS]],
+    keys: &[[u8; rows::KEY_WIDTH]],
+) -> bool
     ensures { λ r. ⌜ r ≡ (eqb (length (now (keys .entry))) (length (now (numbers .entry))) && isSound book (tableOf (now (numbers .entry)) (now (keys .entry)))) ⌝ }
 {
     let v = book.values;

@@ -22,8 +22,8 @@ fn acknowledge(body: &[u8], answer: Answer, time: [u8; 6]) -> Acknowledged
     requires { ⌜ headerWidth ≤ length (now body) ⌝ }
     ensures { λ r. ⌜ r ≡ acknowledged (now (body .entry)) answer time ⌝ }
 {
-    let mut internal = [0u8; 16];
-    let mut original = [0u8; 6];
+    let mut internal = [0u8; layout::INTERNAL_ID.width];
+    let mut original = [0u8; layout::SEQUENCE.width];
     output::put_part(
         &mut internal,
         0,

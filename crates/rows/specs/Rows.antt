@@ -1,9 +1,24 @@
 -- The table as the calls are lent it (01, "The book"): for each record a row of six numbers, and a row of the twenty-two bytes of its matched fields.
-use Prim.Native.Nat.{ℕ}
+use Prim.Native.Nat.{ℕ, _+_}
 use mathlib.Core.List.{List, [], _∷_, _++_}
 use lib.ListN.{length, getD}
 use Rattle.lists.specs.Lists.{part, tab}
+use Rattle.layout.specs.Columns.{lotId, poolNumber, originalFace}
 use Rattle.book.specs.declared.Pool.{Pool}
+
+-- the numbers of a row of numbers
+abbrev pub rowNumbers : ℕ
+rowNumbers = 6
+
+-- where the pool number and the original face begin in a row of bytes, after the Lot-ID, and where it ends
+abbrev pub poolFrom : ℕ
+poolFrom = lotId .width
+
+abbrev pub originalFrom : ℕ
+originalFrom = poolFrom + poolNumber .width
+
+abbrev pub keyWidth : ℕ
+keyWidth = originalFrom + originalFace .width
 
 -- the k-th number of the i-th row
 abbrev pub numberAt : List (List ℕ) → ℕ → ℕ → ℕ
@@ -17,20 +32,24 @@ keyAt ks i = getD ks i []
 abbrev pub bytesFrom : List ℕ → ℕ → ℕ → List ℕ
 bytesFrom s i n = tab (λ (k : ℕ). getD s k 0) n i
 
--- the i-th record: message, ordinal, trade, current face, kind and millions are numbers; Lot-ID, pool number and original face are bytes
-abbrev pub recordAt : List (List ℕ) → List (List ℕ) → ℕ → Pool
-recordAt ns ks i =
+-- the record of a row of each: message, ordinal, trade, current face, kind and millions are numbers; Lot-ID, pool number and original face are bytes
+abbrev pub recordOf : List ℕ → List ℕ → Pool
+recordOf row key =
     record {
-      message = numberAt ns i 0;
-      ordinal = numberAt ns i 1;
-      trade = numberAt ns i 2;
-      lot = part (keyAt ks i) 0 6;
-      pool = part (keyAt ks i) 6 7;
-      original = part (keyAt ks i) 13 9;
-      current = numberAt ns i 3;
-      kind = numberAt ns i 4;
-      millions = numberAt ns i 5;
+      message = getD row 0 0;
+      ordinal = getD row 1 0;
+      trade = getD row 2 0;
+      lot = part key 0 (lotId .width);
+      pool = part key poolFrom (poolNumber .width);
+      original = part key originalFrom (originalFace .width);
+      current = getD row 3 0;
+      kind = getD row 4 0;
+      millions = getD row 5 0;
     }
+
+-- the i-th record
+abbrev pub recordAt : List (List ℕ) → List (List ℕ) → ℕ → Pool
+recordAt ns ks i = recordOf (getD ns i []) (keyAt ks i)
 
 -- the table: a record for each row of numbers
 unfoldable pub tableOf : List (List ℕ) → List (List ℕ) → List Pool

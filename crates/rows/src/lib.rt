@@ -4,8 +4,16 @@ ghost use mathlib.Core.Path.{_≡_};
 ghost use mathlib.Core.List.{_++_};
 ghost use Prim.Native.Nat.{_<_, _≤_};
 ghost use lib.ListN.{length, take, set};
-ghost use Rattle.rows.specs.Rows.{bytesFrom, recordAt, tableOf};
+ghost use Rattle.layout.specs.Columns.{lotId, poolNumber, originalFace};
+ghost use Rattle.rows.specs.Rows.{keyWidth, bytesFrom, recordAt, tableOf};
 ghost use Rattle.rows.specs.Closed.{unmarked, zeroed, closedUp};
+
+// The numbers of a row of numbers, and the bytes of a row of bytes: those of the matched fields.
+pub const NUMBERS: usize = 6;
+
+pub const KEY_WIDTH: usize = layout::LOT_ID.width
+    + layout::POOL_NUMBER.width
+    + layout::ORIGINAL_FACE.width;
 
 // The numbers of a row, in their order.
 pub const MESSAGE: usize = 0;
@@ -21,8 +29,8 @@ pub const KIND: usize = 4;
 pub const MILLIONS: usize = 5;
 
 // The bytes of the matched fields, one by one.
-fn key_bytes(lot: [u8; 6], pool: [u8; 7], original: [u8; 9]) -> [u8; 22]
-    ensures { λ r. ⌜ r ≡ bytesFrom lot 0 6 ++ (bytesFrom pool 0 7 ++ bytesFrom original 0 9) ⌝ }
+fn key_bytes(lot: [u8; 6], pool: [u8; 7], original: [u8; 9]) -> [u8; KEY_WIDTH]
+    ensures { λ r. ⌜ r ≡ bytesFrom lot 0 (lotId .width) ++ (bytesFrom pool 0 (poolNumber .width) ++ bytesFrom original 0 (originalFace .width)) ⌝ }
 {
     [
         lot[0],
@@ -51,14 +59,14 @@ fn key_bytes(lot: [u8; 6], pool: [u8; 7], original: [u8; 9]) -> [u8; 22]
 }
 
 // The matched fields as one row of bytes.
-pub fn key_of(lot: [u8; 6], pool: [u8; 7], original: [u8; 9]) -> [u8; 22]
+pub fn key_of(lot: [u8; 6], pool: [u8; 7], original: [u8; 9]) -> [u8; KEY_WIDTH]
     ensures { λ r. ⌜ r ≡ lot ++ (pool ++ original) ⌝ }
 {
     key_bytes(lot, pool, original)
 }
 
 // Stores a record as the i-th.
-pub fn put_record(numbers: &mut [[u64; 6]], keys: &mut [[u8; 22]], i: usize, p: Pool)
+pub fn put_record(numbers: &mut [[u64; NUMBERS]], keys: &mut [[u8; KEY_WIDTH]], i: usize, p: Pool)
     requires { ⌜ (length (now keys) ≡ length (now numbers)) × (i < length (now numbers)) ⌝ }
     ensures { λ _. ⌜ tableOf (now (numbers .exit)) (now (keys .exit)) ≡ set (tableOf (now (numbers .entry)) (now (keys .entry))) i p ⌝ }
 {
@@ -72,8 +80,8 @@ pub fn put_record(numbers: &mut [[u64; 6]], keys: &mut [[u8; 22]], i: usize, p: 
 }
 
 // A row of bytes, taken byte by byte: as a whole it would be copied in two parts that overlap, and wait for them.
-fn bytes_of(key: [u8; 22]) -> [u8; 22]
-    ensures { λ r. ⌜ (r ≡ bytesFrom key 0 22) × (length key ≡ 22) ⌝ }
+fn bytes_of(key: [u8; KEY_WIDTH]) -> [u8; KEY_WIDTH]
+    ensures { λ r. ⌜ (r ≡ bytesFrom key 0 keyWidth) × (length key ≡ keyWidth) ⌝ }
 {
     [
         key[0],
@@ -102,7 +110,7 @@ fn bytes_of(key: [u8; 22]) -> [u8; 22]
 }
 
 // Copies a record to another place. One that stays where it is is not copied.
-fn move_record(numbers: &mut [[u64; 6]], keys: &mut [[u8; 22]], from: usize, to: usize)
+fn move_record(numbers: &mut [[u64; NUMBERS]], keys: &mut [[u8; KEY_WIDTH]], from: usize, to: usize)
     requires { ⌜ (length (now keys) ≡ length (now numbers)) × (from < length (now numbers)) × (to < length (now numbers)) ⌝ }
     ensures { λ _. ⌜ tableOf (now (numbers .exit)) (now (keys .exit)) ≡ set (tableOf (now (numbers .entry)) (now (keys .entry))) to (recordAt (now (numbers .entry)) (now (keys .entry)) from) ⌝ }
 {
@@ -117,20 +125,25 @@ fn move_record(numbers: &mut [[u64; 6]], keys: &mut [[u8; 22]], from: usize, to:
 }
 
 // Zeros in the places from a up to e.
-fn zero_records(numbers: &mut [[u64; 6]], keys: &mut [[u8; 22]], a: usize, e: usize)
+fn zero_records(numbers: &mut [[u64; NUMBERS]], keys: &mut [[u8; KEY_WIDTH]], a: usize, e: usize)
     requires { ⌜ (length (now keys) ≡ length (now numbers)) × (a ≤ e) × (e ≤ length (now numbers)) ⌝ }
     ensures { λ _. ⌜ tableOf (now (numbers .exit)) (now (keys .exit)) ≡ zeroed (tableOf (now (numbers .entry)) (now (keys .entry))) a e ⌝ }
 {
     let mut i = a;
     while i < e {
-        numbers[i] = [0; 6];
-        keys[i] = [0; 22];
+        numbers[i] = [0; NUMBERS];
+        keys[i] = [0; KEY_WIDTH];
         i += 1;
     }
 }
 
 // Takes the marked records out of the live ones, and gives the number of those that are left.
-pub fn close_up(numbers: &mut [[u64; 6]], keys: &mut [[u8; 22]], live: usize, marks: &[u8]) -> usize
+pub fn close_up(
+    numbers: &mut [[u64; NUMBERS]],
+    keys: &mut [[u8; KEY_WIDTH]],
+    live: usize,
+    marks: &[u8],
+) -> usize
     requires { ⌜ (length (now keys) ≡ length (now numbers)) × (live ≤ length (now numbers)) × (live ≤ length (now marks)) ⌝ }
     ensures { λ r. ⌜ (r ≡ length (unmarked (now (marks .entry)) (take live (tableOf (now (numbers .entry)) (now (keys .entry))))))
         × (tableOf (now (numbers .exit)) (now (keys .exit)) ≡ closedUp (now (marks .entry)) live (tableOf (now (numbers .entry)) (now (keys .entry)))) ⌝ }

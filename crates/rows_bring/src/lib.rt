@@ -152,8 +152,8 @@ fn record_with(s: Common, d: Detail, current: u64) -> Pool
 
 // Stores the records of n pools from the first on, whose faces are staged.
 fn put_pools(
-    numbers: &mut [[u64; 6]],
-    keys: &mut [[u8; 22]],
+    numbers: &mut [[u64; rows::NUMBERS]],
+    keys: &mut [[u8; rows::KEY_WIDTH]],
     at: usize,
     body: &[u8],
     faces: &[u64; layout::POOLS_MAX],
@@ -176,8 +176,8 @@ fn put_pools(
 
 // Stores the records of the message's new lots from at on, with ordinals from 1, and gives the place after them: the lots that the staged terminators form, with the staged faces.
 pub fn put_lots(
-    numbers: &mut [[u64; 6]],
-    keys: &mut [[u8; 22]],
+    numbers: &mut [[u64; rows::NUMBERS]],
+    keys: &mut [[u8; rows::KEY_WIDTH]],
     at: usize,
     body: &[u8],
     faces: &[u64; layout::POOLS_MAX],

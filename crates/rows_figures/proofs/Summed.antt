@@ -10,10 +10,9 @@ use borrow.Author.Tests.{eq-eqb, ne-eqb}
 use Rattle.lists.specs.Lists.{tab}
 use Rattle.lists.proofs.Tables.{tab-turn, tab-end, tab-all}
 use Rattle.book.specs.declared.Pool.{Pool}
-use Rattle.rows.specs.Rows.{numberAt, keyAt, recordAt, tableOf}
+use Rattle.rows.specs.Rows.{numberAt, keyAt, recordOf, recordAt, tableOf}
 use Rattle.rows.specs.Runs.{runSum, millionsShare, shareOf}
 use Rattle.rows.proofs.Rows.{take-table}
-use Rattle.check_soundness.specs.Parts.{recordOf}
 
 -- ---- one record's share
 module _ (t : ℕ) (begins : Bool) (row : List ℕ) where

@@ -7,13 +7,13 @@ ghost use Prim.Native.Nat.{ℕ, _≤_};
 ghost use lib.ListN.{length, take};
 ghost use lib.Dec.{eqb};
 ghost use Rattle.book.specs.Opening.{recordsMax};
-ghost use Rattle.rows.specs.Rows.{tableOf};
+ghost use Rattle.rows.specs.Rows.{recordOf, tableOf};
 ghost use Rattle.rows.specs.Runs.{runSum, millionsShare, shareOf};
-ghost use Rattle.check_soundness.specs.Parts.{recordOf, Light};
+ghost use Rattle.check_soundness.specs.Parts.{Light};
 ghost use Rattle.rows_figures.specs.Saying.{rowsSay};
 
 // What a record adds to a trade's standing millions.
-fn share(row: [u64; 6], trade: u64, begins: bool) -> u64
+fn share(row: [u64; rows::NUMBERS], trade: u64, begins: bool) -> u64
     ensures { λ r. ⌜ ((key : List ℕ) → r ≡ shareOf trade millionsShare begins (recordOf row key)) ⌝ }
 {
     if row[rows::TRADE] != trade {
@@ -26,7 +26,7 @@ fn share(row: [u64; 6], trade: u64, begins: bool) -> u64
 }
 
 // The lot millions of a trade's live lots, each lot once.
-fn standing(numbers: &[[u64; 6]], live: usize, trade: u64) -> u64
+fn standing(numbers: &[[u64; rows::NUMBERS]], live: usize, trade: u64) -> u64
     requires { ⌜ (live ≤ length (now numbers)) × (live ≤ recordsMax) × Light (now numbers) live ⌝ }
     ensures { λ r. ⌜ ((ks : List (List ℕ)) → r ≡ runSum (shareOf trade millionsShare) 0 0 (take live (tableOf (now (numbers .entry)) ks))) ⌝ }
 {
@@ -47,7 +47,12 @@ fn standing(numbers: &[[u64; 6]], live: usize, trade: u64) -> u64
 }
 
 // What a book says of the trade of an index. Only a sound book says anything.
-pub fn trade_figures(book: Book, numbers: &[[u64; 6]], keys: &[[u8; 22]], trade: usize) -> Figures
+pub fn trade_figures(
+    book: Book,
+    numbers: &[[u64; rows::NUMBERS]],
+    keys: &[[u8; rows::KEY_WIDTH]],
+    trade: usize,
+) -> Figures
     ensures { λ r. ⌜ r ≡ rowsSay (now (numbers .entry)) (now (keys .entry)) book trade ⌝ }
 {
     let v = book.values;

@@ -6,6 +6,7 @@ use mathlib.Core.Bool.{Bool, true, false}
 use lib.ListN.{getD, replicate}
 use Rattle.lists.specs.Lists.{part, tab, any, all}
 use Rattle.layout.specs.declared.Detail.{Detail}
+use Rattle.layout.specs.Columns.{lotId, poolNumber, originalFace}
 use Rattle.layout.specs.Details.{poolsMax, poolCount, detailAt, placeOf}
 use Rattle.terminator.specs.Terminators.{isCanceled}
 use Rattle.message_type.specs.declared.MessageType.{MessageType}
@@ -13,13 +14,13 @@ use Rattle.message_type.specs.declared.MessageType.the-variants.{On, Cc, Dk, Cx
 use Rattle.book.specs.declared.Pool.{Pool}
 use Rattle.book.specs.Records.{Fields, fieldsOf, liveFields, sameFields}
 use Rattle.book.specs.Messages.{typeOf, listed}
-use Rattle.rows.specs.Rows.{recordAt}
+use Rattle.rows.specs.Rows.{poolFrom, originalFrom, recordAt}
 use Rattle.rows_find.specs.declared.Run.{Run}
 use Rattle.rows_find.specs.declared.Places.{Places}
 
 -- the matched fields in a row of bytes, as a record of the table has them
 abbrev pub rowFields : List ℕ → Fields
-rowFields row = record { lot = part row 0 6; pool = part row 6 7; original = part row 13 9 }
+rowFields row = record { lot = part row 0 (lotId .width); pool = part row poolFrom (poolNumber .width); original = part row originalFrom (originalFace .width) }
 
 -- whether a message of a type lists a pool: a DK each one, a CC the canceled ones
 abbrev pub lists : MessageType → Detail → Bool

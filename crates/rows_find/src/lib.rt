@@ -29,11 +29,11 @@ pub struct Run {
 // Whether every listed pool has a row, and the row of each by its index in the message.
 pub struct Places {
     pub found: bool,
-    pub at: [usize; 250],
+    pub at: [usize; layout::POOLS_MAX],
 }
 
 // The first live row under a message ID, or the number of live rows.
-fn first_under(numbers: &[[u64; 6]], live: usize, id: u64) -> usize
+fn first_under(numbers: &[[u64; rows::NUMBERS]], live: usize, id: u64) -> usize
     requires { ⌜ live ≤ length (now numbers) ⌝ }
     ensures { λ r. ⌜ ((ks : List (List ℕ)) → r ≡ ahead (under (Number id)) (tab (recordAt (now (numbers .entry)) ks) live 0)) ⌝ }
 {
@@ -49,7 +49,7 @@ fn first_under(numbers: &[[u64; 6]], live: usize, id: u64) -> usize
 }
 
 // From a row on, the first live row that is not under a message ID, or the number of live rows.
-fn first_other(numbers: &[[u64; 6]], from: usize, live: usize, id: u64) -> usize
+fn first_other(numbers: &[[u64; rows::NUMBERS]], from: usize, live: usize, id: u64) -> usize
     requires { ⌜ (from ≤ live) × (live ≤ length (now numbers)) ⌝ }
     ensures { λ r. ⌜ ((ks : List (List ℕ)) → r ≡ from + leading (under (Number id)) (tab (recordAt (now (numbers .entry)) ks) (live - from) from)) ⌝ }
 {
@@ -65,7 +65,7 @@ fn first_other(numbers: &[[u64; 6]], from: usize, live: usize, id: u64) -> usize
 }
 
 // Where the target's records stand among the live ones.
-pub fn target_run(numbers: &[[u64; 6]], live: usize, body: &[u8]) -> Run
+pub fn target_run(numbers: &[[u64; rows::NUMBERS]], live: usize, body: &[u8]) -> Run
     requires { ⌜ live ≤ length (now numbers) ⌝ }
     ensures { λ r. ⌜ ((ks : List (List ℕ)) → r ≡ runOf (targetOf (now (body .entry))) (take live (tableOf (now (numbers .entry)) ks))) ⌝ }
 {
@@ -101,7 +101,7 @@ fn is_listed(t: MessageType, d: Detail) -> bool
 }
 
 // Whether two rows hold the same matched fields.
-fn same_row(a: [u8; 22], b: [u8; 22]) -> bool
+fn same_row(a: [u8; rows::KEY_WIDTH], b: [u8; rows::KEY_WIDTH]) -> bool
     ensures { λ r. ⌜ r ≡ sameFields (rowFields a) (rowFields b) ⌝ }
 {
     rows_keys::same_key(&a, &b)
@@ -109,7 +109,7 @@ fn same_row(a: [u8; 22], b: [u8; 22]) -> bool
 
 // For each pool that a message lists, its row among those of the run; the search ends at the first pool without one.
 // It goes on from the row after the last one found, then from the start, so that pools listed in the table's order cost one comparison each.
-pub fn find_places(body: &[u8], keys: &[[u8; 22]], run: Run) -> Places
+pub fn find_places(body: &[u8], keys: &[[u8; rows::KEY_WIDTH]], run: Run) -> Places
     requires { ⌜ (run .start ≤ run .stop) × (run .stop ≤ length (now keys)) ⌝ }
     ensures { λ r. ⌜ Finds (now (body .entry)) (now (keys .entry)) run r ⌝ }
 {
@@ -117,7 +117,7 @@ pub fn find_places(body: &[u8], keys: &[[u8; 22]], run: Run) -> Places
     let stop = run.stop;
     let t = header::message_type(body);
     let n = layout::pool_count(body);
-    let mut at = [0usize; 250];
+    let mut at = [0usize; layout::POOLS_MAX];
     let mut next = start;
     let mut d: usize = 0;
     'listed: while d < n {
@@ -152,14 +152,14 @@ pub fn find_places(body: &[u8], keys: &[[u8; 22]], run: Run) -> Places
     if d < n {
         return Places {
             found: false,
-            at: [0; 250],
+            at: [0; layout::POOLS_MAX],
         };
     }
     Places { found: true, at }
 }
 
 // What a record adds to the weight of its lot, given whether it begins the lot.
-fn row_share(row: [u64; 6], begins: bool) -> u64
+fn row_share(row: [u64; rows::NUMBERS], begins: bool) -> u64
     requires { ⌜ (getD row 3 0 ≤ elevenDigitsMax) × (getD row 5 0 ≤ 99) ⌝ }
     ensures { λ r. ⌜ (r ≡ rowShare begins row) × (r ≤ elevenDigitsMax) ⌝ }
 {
@@ -173,7 +173,7 @@ fn row_share(row: [u64; 6], begins: bool) -> u64
 }
 
 // What the lots of the marked live records weigh, in cents.
-pub fn weight_of_marked(numbers: &[[u64; 6]], marks: &[u8], live: usize) -> u64
+pub fn weight_of_marked(numbers: &[[u64; rows::NUMBERS]], marks: &[u8], live: usize) -> u64
     requires { ⌜ Weighable (now numbers) (now marks) live ⌝ }
     ensures { λ r. ⌜ ((ks : List (List ℕ)) → r ≡ runSum weightShare 0 0 (marked (now (marks .entry)) (take live (tableOf (now (numbers .entry)) ks)))) ⌝ }
 {

@@ -7,9 +7,6 @@ use lib.ListN.{getD}
 use Rattle.layout.specs.declared.Detail.{Detail}
 
 -- Lot-ID, pool number and original face together
-abbrev pub keyWidth : ℕ
-keyWidth = 22
-
 abbrev pub keyOf : Detail → List ℕ
 keyOf d = d .lot ++ (d .pool ++ d .original)
 

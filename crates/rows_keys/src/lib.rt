@@ -4,13 +4,15 @@ ghost use mathlib.Core.Path.{_≡_};
 ghost use Prim.Native.Nat.{_+_, _*_, _≤_, _<_};
 ghost use lib.ListN.{length};
 ghost use Rattle.lists.specs.Lists.{same};
-ghost use Rattle.rows_keys.specs.Keys.{keyOf, alike, wordAt, bucketOf, keyWidth, bucketCount};
+ghost use Rattle.layout.specs.Columns.{lotId, poolNumber, originalFace};
+ghost use Rattle.rows.specs.Rows.{poolFrom, originalFrom, keyWidth};
+ghost use Rattle.rows_keys.specs.Keys.{keyOf, alike, wordAt, bucketOf, bucketCount};
 
 // Every bucket is below this number.
 pub const BUCKETS: usize = 4096;
 
 // The row of a detail: Lot-ID, pool number and original face.
-pub fn key_of(d: Detail) -> [u8; 22]
+pub fn key_of(d: Detail) -> [u8; rows::KEY_WIDTH]
     ensures { λ r. ⌜ r ≡ keyOf d ⌝ }
 {
     let l = d.lot;
@@ -22,7 +24,7 @@ pub fn key_of(d: Detail) -> [u8; 22]
 // Whether the bytes of two Lot-IDs are equal, without a branch.
 fn same_lot(a: &[u8], b: &[u8]) -> bool
     requires { ⌜ (length (now a) ≡ keyWidth) × (length (now b) ≡ keyWidth) ⌝ }
-    ensures { λ r. ⌜ r ≡ alike (now (a .entry)) (now (b .entry)) 0 6 ⌝ }
+    ensures { λ r. ⌜ r ≡ alike (now (a .entry)) (now (b .entry)) 0 (lotId .width) ⌝ }
 {
     (a[0] == b[0])
         & (a[1] == b[1])
@@ -35,7 +37,7 @@ fn same_lot(a: &[u8], b: &[u8]) -> bool
 // Of two pool numbers.
 fn same_pool(a: &[u8], b: &[u8]) -> bool
     requires { ⌜ (length (now a) ≡ keyWidth) × (length (now b) ≡ keyWidth) ⌝ }
-    ensures { λ r. ⌜ r ≡ alike (now (a .entry)) (now (b .entry)) 6 7 ⌝ }
+    ensures { λ r. ⌜ r ≡ alike (now (a .entry)) (now (b .entry)) poolFrom (poolNumber .width) ⌝ }
 {
     (a[6] == b[6])
         & (a[7] == b[7])
@@ -49,7 +51,7 @@ fn same_pool(a: &[u8], b: &[u8]) -> bool
 // Of two original faces.
 fn same_original(a: &[u8], b: &[u8]) -> bool
     requires { ⌜ (length (now a) ≡ keyWidth) × (length (now b) ≡ keyWidth) ⌝ }
-    ensures { λ r. ⌜ r ≡ alike (now (a .entry)) (now (b .entry)) 13 9 ⌝ }
+    ensures { λ r. ⌜ r ≡ alike (now (a .entry)) (now (b .entry)) originalFrom (originalFace .width) ⌝ }
 {
     (a[13] == b[13])
         & (a[14] == b[14])
@@ -71,7 +73,7 @@ fn same_bytes(a: &[u8], b: &[u8]) -> bool
 }
 
 // Whether two rows are equal.
-pub fn same_key(a: &[u8; 22], b: &[u8; 22]) -> bool
+pub fn same_key(a: &[u8; rows::KEY_WIDTH], b: &[u8; rows::KEY_WIDTH]) -> bool
     ensures { λ r. ⌜ r ≡ same (now (a .entry)) (now (b .entry)) ⌝ }
 {
     same_bytes(a, b)
@@ -103,7 +105,7 @@ fn word(key: &[u8], at: usize) -> u64
 }
 
 // The bucket of a row: rows that differ in a few digits seldom share one. That a row has its width is told to callers who find it in a slice of rows.
-pub fn bucket(key: &[u8; 22]) -> usize
+pub fn bucket(key: &[u8; rows::KEY_WIDTH]) -> usize
     ensures { λ r. ⌜ (r ≡ bucketOf (now (key .entry))) × (r < bucketCount) × (length (now (key .entry)) ≡ keyWidth) ⌝ }
 {
     let n = (word(key, 0) % 4093 + word(key, 8) % 4091 + word(key, 14) % 4079) % 4096;

@@ -9,8 +9,8 @@ ghost use Rattle.rows_move.specs.Moves.{remaining, bringing, filled, Mov
 
 // Closes the table up over the records that a message takes off, and gives back how many are left.
 fn take_off(
-    numbers: &mut [[u64; 6]],
-    keys: &mut [[u8; 22]],
+    numbers: &mut [[u64; rows::NUMBERS]],
+    keys: &mut [[u8; rows::KEY_WIDTH]],
     live: usize,
     body: &[u8],
     marks: &[u8],
@@ -28,8 +28,8 @@ fn take_off(
 
 // Moves the table for an accepted message, and gives back how many records are live after it. What it brings is staged before any record moves.
 pub fn move_table(
-    numbers: &mut [[u64; 6]],
-    keys: &mut [[u8; 22]],
+    numbers: &mut [[u64; rows::NUMBERS]],
+    keys: &mut [[u8; rows::KEY_WIDTH]],
     live: usize,
     body: &[u8],
     marks: &[u8],

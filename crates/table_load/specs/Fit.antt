@@ -3,6 +3,7 @@ use Prim.Native.Nat.{ℕ, _<_, _^_}
 use mathlib.Core.List.{List, [], _∷_}
 use mathlib.Core.Path.{_≡_}
 use lib.ListN.{length}
+use Rattle.layout.specs.Columns.{lotId, poolNumber, originalFace}
 use Rattle.book.specs.declared.Pool.{Pool}
 
 -- a number of 64 bits
@@ -21,9 +22,9 @@ pub record Fit (p : Pool) : Type 0 where
   pub message : Word (p .message)
   pub ordinal : Word (p .ordinal)
   pub trade : Word (p .trade)
-  pub lot : Bytes 6 (p .lot)
-  pub pool : Bytes 7 (p .pool)
-  pub original : Bytes 9 (p .original)
+  pub lot : Bytes (lotId .width) (p .lot)
+  pub pool : Bytes (poolNumber .width) (p .pool)
+  pub original : Bytes (originalFace .width) (p .original)
   pub current : Word (p .current)
   pub kind : Word (p .kind)
   pub millions : Word (p .millions)

@@ -4,6 +4,7 @@ use mathlib.Core.List.{List}
 use lib.ListN.{getD}
 use lib.Bits.{bitOr}
 use Rattle.lists.specs.Lists.{tab}
+use Rattle.layout.specs.Columns.{lotId, poolNumber, originalFace}
 use Rattle.book.specs.declared.Pool.{Pool}
 
 -- the bits of two fields of n bytes
@@ -17,9 +18,9 @@ join a p =
       message = bitOr (a .message) (p .message);
       ordinal = bitOr (a .ordinal) (p .ordinal);
       trade = bitOr (a .trade) (p .trade);
-      lot = joinBytes 6 (a .lot) (p .lot);
-      pool = joinBytes 7 (a .pool) (p .pool);
-      original = joinBytes 9 (a .original) (p .original);
+      lot = joinBytes (lotId .width) (a .lot) (p .lot);
+      pool = joinBytes (poolNumber .width) (a .pool) (p .pool);
+      original = joinBytes (originalFace .width) (a .original) (p .original);
       current = bitOr (a .current) (p .current);
       kind = bitOr (a .kind) (p .kind);
       millions = bitOr (a .millions) (p .millions);

@@ -5,6 +5,7 @@ ghost use mathlib.Core.Bool.{_&&_};
 ghost use Prim.Native.Nat.{ℕ, _<_, _≤_};
 ghost use lib.ListN.{length, getD, set, drop};
 ghost use Rattle.lists.specs.Lists.{all};
+ghost use Rattle.layout.specs.Columns.{lotId, poolNumber, originalFace};
 ghost use Rattle.book.specs.Records.{noPool};
 ghost use Rattle.book.specs.Soundness.{isNone};
 ghost use Rattle.rows.specs.Rows.{rowOf, keyOf};
@@ -14,7 +15,12 @@ ghost use Rattle.table_load.specs.Zeros.{zerosFrom};
 ghost use Rattle.table_load.specs.Joined.{joinBytes, join};
 
 // Stores a record as the i-th row of numbers and of bytes.
-fn put_row(numbers: &mut [[u64; 6]], keys: &mut [[u8; 22]], i: usize, p: Pool)
+fn put_row(
+    numbers: &mut [[u64; rows::NUMBERS]],
+    keys: &mut [[u8; rows::KEY_WIDTH]],
+    i: usize,
+    p: Pool,
+)
     requires { ⌜ (i < length (now numbers)) × (i < length (now keys)) ⌝ }
     ensures { λ _. ⌜ (now (numbers .exit) ≡ set (now (numbers .entry)) i (rowOf p)) × (now (keys .exit) ≡ set (now (keys .entry)) i (keyOf p)) ⌝ }
 {
@@ -28,7 +34,12 @@ fn put_row(numbers: &mut [[u64; 6]], keys: &mut [[u8; 22]], i: usize, p: Pool)
 }
 
 // Copies the first records into the rows of numbers and of bytes, and says that each fits its types.
-pub fn load(pools: &[Pool], count: usize, numbers: &mut [[u64; 6]], keys: &mut [[u8; 22]])
+pub fn load(
+    pools: &[Pool],
+    count: usize,
+    numbers: &mut [[u64; rows::NUMBERS]],
+    keys: &mut [[u8; rows::KEY_WIDTH]],
+)
     requires { ⌜ (count ≤ length (now pools)) × (count ≤ length (now numbers)) × (count ≤ length (now keys)) ⌝ }
     ensures { λ _. ⌜ (now (numbers .exit) ≡ loadTo rowOf (now (pools .entry)) count (now (numbers .entry)))
         × (now (keys .exit) ≡ loadTo keyOf (now (pools .entry)) count (now (keys .entry)))
@@ -94,7 +105,7 @@ pub fn none() -> Pool
 }
 
 fn joined_lot(a: [u8; 6], b: [u8; 6]) -> [u8; 6]
-    ensures { λ r. ⌜ r ≡ joinBytes 6 a b ⌝ }
+    ensures { λ r. ⌜ r ≡ joinBytes (lotId .width) a b ⌝ }
 {
     [
         a[0] | b[0],
@@ -107,7 +118,7 @@ fn joined_lot(a: [u8; 6], b: [u8; 6]) -> [u8; 6]
 }
 
 fn joined_pool(a: [u8; 7], b: [u8; 7]) -> [u8; 7]
-    ensures { λ r. ⌜ r ≡ joinBytes 7 a b ⌝ }
+    ensures { λ r. ⌜ r ≡ joinBytes (poolNumber .width) a b ⌝ }
 {
     [
         a[0] | b[0],
@@ -121,7 +132,7 @@ fn joined_pool(a: [u8; 7], b: [u8; 7]) -> [u8; 7]
 }
 
 fn joined_original(a: [u8; 9], b: [u8; 9]) -> [u8; 9]
-    ensures { λ r. ⌜ r ≡ joinBytes 9 a b ⌝ }
+    ensures { λ r. ⌜ r ≡ joinBytes (originalFace .width) a b ⌝ }
 {
     [
         a[0] | b[0],

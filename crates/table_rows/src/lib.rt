@@ -9,8 +9,8 @@ ghost use Rattle.table_rows.specs.LoadsRows.{LoadsRows};
 pub fn load_rows(
     pools: &[Pool],
     want: usize,
-    numbers: &mut [[u64; 6]],
-    keys: &mut [[u8; 22]],
+    numbers: &mut [[u64; rows::NUMBERS]],
+    keys: &mut [[u8; rows::KEY_WIDTH]],
 ) -> bool
     requires { ⌜ (rowsOf (length (now pools)) want ≤ length (now numbers)) × (rowsOf (length (now pools)) want ≤ length (now keys)) ⌝ }
     ensures { λ r. ⌜ LoadsRows (now (pools .entry)) want (now (numbers .entry)) (now (keys .entry)) r (now (numbers .exit)) (now (keys .exit)) ⌝ }

@@ -11,13 +11,14 @@ ghost use Rattle.lists.specs.Lists.{part};
 ghost use Rattle.rows_enough.specs.FirstRows.{wanted, rowsOf};
 ghost use Rattle.rows_enough.specs.Moving.{StepsRows};
 ghost use Rattle.calls.specs.Calls.{Framed};
+ghost use Rattle.table_step.specs.Few.{fewRows};
 
 // How many rows a call clears where its live pools and what a message brings are few.
 const FEW: usize = 512;
 
 // Whether the rows of a call are few, on a table of so many records, with the body that lies from one place up to another.
 fn few_enough(book: Book, records: usize, from: usize, to: usize) -> bool
-    ensures { λ r. ⌜ r ≡ leb (rowsOf records (wanted (book .live) (to - from))) 512 ⌝ }
+    ensures { λ r. ⌜ r ≡ leb (rowsOf records (wanted (book .live) (to - from))) fewRows ⌝ }
 {
     rows_enough::rows_of(records, rows_enough::rows_wanted(book, from, to)) <= FEW
 }
@@ -25,8 +26,8 @@ fn few_enough(book: Book, records: usize, from: usize, to: usize) -> bool
 // The frame call on the rows of a table, with the body that lies in a tape from one place up to another.
 fn step_part_rows(
     book: Book,
-    numbers: &mut [[u64; 6]],
-    keys: &mut [[u8; 22]],
+    numbers: &mut [[u64; rows::NUMBERS]],
+    keys: &mut [[u8; rows::KEY_WIDTH]],
     records: usize,
     rest: bool,
     tape: &[u8],
@@ -75,8 +76,8 @@ fn stepped_of(moved: Moved) -> Stepped
 fn step_with(
     book: Book,
     pools: &mut [Pool],
-    numbers: &mut [[u64; 6]],
-    keys: &mut [[u8; 22]],
+    numbers: &mut [[u64; rows::NUMBERS]],
+    keys: &mut [[u8; rows::KEY_WIDTH]],
     tape: &[u8],
     from: usize,
     to: usize,
@@ -120,11 +121,11 @@ fn step_few(
     time: [u8; 6],
     out: &mut [u8],
 ) -> Stepped
-    requires { ⌜ (rowsOf (length (now pools)) (wanted (book .live) (to - from)) ≤ 512) × (from ≤ to) × (to ≤ length (now tape)) ⌝ }
+    requires { ⌜ (rowsOf (length (now pools)) (wanted (book .live) (to - from)) ≤ fewRows) × (from ≤ to) × (to ≤ length (now tape)) ⌝ }
     ensures { λ stepped. ⌜ Framed book (now (pools .entry)) (part (now (tape .entry)) from (to - from)) time (now (out .entry)) stepped (now (pools .exit)) (now (out .exit)) ⌝ }
 {
-    let mut numbers = [[0u64; 6]; FEW];
-    let mut keys = [[0u8; 22]; FEW];
+    let mut numbers = [[0u64; rows::NUMBERS]; FEW];
+    let mut keys = [[0u8; rows::KEY_WIDTH]; FEW];
     step_with(
         book,
         pools,
@@ -151,8 +152,8 @@ fn step_many(
     requires { ⌜ (from ≤ to) × (to ≤ length (now tape)) ⌝ }
     ensures { λ stepped. ⌜ Framed book (now (pools .entry)) (part (now (tape .entry)) from (to - from)) time (now (out .entry)) stepped (now (pools .exit)) (now (out .exit)) ⌝ }
 {
-    let mut numbers = [[0u64; 6]; book::RECORDS_MAX];
-    let mut keys = [[0u8; 22]; book::RECORDS_MAX];
+    let mut numbers = [[0u64; rows::NUMBERS]; book::RECORDS_MAX];
+    let mut keys = [[0u8; rows::KEY_WIDTH]; book::RECORDS_MAX];
     step_with(
         book,
         pools,

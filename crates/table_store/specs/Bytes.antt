@@ -2,8 +2,9 @@
 use mathlib.Core.List.{List}
 use Prim.Native.Nat.{ℕ}
 use lib.ListN.{getD}
+use Rattle.layout.specs.Columns.{lotId, poolNumber, originalFace}
 use Rattle.book.specs.declared.Pool.{Pool}
-use Rattle.rows.specs.Rows.{bytesFrom}
+use Rattle.rows.specs.Rows.{poolFrom, originalFrom, bytesFrom}
 
 -- the record of a row of numbers and a row of bytes
 abbrev pub recordFrom : List ℕ → List ℕ → Pool
@@ -12,9 +13,9 @@ recordFrom row key =
       message = getD row 0 0;
       ordinal = getD row 1 0;
       trade = getD row 2 0;
-      lot = bytesFrom key 0 6;
-      pool = bytesFrom key 6 7;
-      original = bytesFrom key 13 9;
+      lot = bytesFrom key 0 (lotId .width);
+      pool = bytesFrom key poolFrom (poolNumber .width);
+      original = bytesFrom key originalFrom (originalFace .width);
       current = getD row 3 0;
       kind = getD row 4 0;
       millions = getD row 5 0;

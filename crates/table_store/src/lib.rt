@@ -6,12 +6,12 @@ ghost use Prim.Native.Nat.{_-_, _<_, _≤_};
 ghost use lib.ListN.{length, take, drop, replicate};
 ghost use Rattle.lists.specs.Lists.{tab};
 ghost use Rattle.book.specs.Records.{noPool};
-ghost use Rattle.rows.specs.Rows.{recordAt};
+ghost use Rattle.rows.specs.Rows.{keyWidth, recordAt};
 ghost use Rattle.table_store.specs.Bytes.{recordFrom};
 
 // The record of a row of numbers and a row of bytes.
-fn record_in(row: [u64; 6], key: [u8; 22]) -> Pool
-    ensures { λ r. ⌜ (r ≡ recordFrom row key) × (length key ≡ 22) ⌝ }
+fn record_in(row: [u64; rows::NUMBERS], key: [u8; rows::KEY_WIDTH]) -> Pool
+    ensures { λ r. ⌜ (r ≡ recordFrom row key) × (length key ≡ keyWidth) ⌝ }
 {
     Pool {
         message: row[rows::MESSAGE],
@@ -37,7 +37,7 @@ fn record_in(row: [u64; 6], key: [u8; 22]) -> Pool
 }
 
 // The i-th record of the rows.
-fn record_of(numbers: &[[u64; 6]], keys: &[[u8; 22]], i: usize) -> Pool
+fn record_of(numbers: &[[u64; rows::NUMBERS]], keys: &[[u8; rows::KEY_WIDTH]], i: usize) -> Pool
     requires { ⌜ (i < length (now numbers)) × (i < length (now keys)) ⌝ }
     ensures { λ r. ⌜ r ≡ recordAt (now (numbers .entry)) (now (keys .entry)) i ⌝ }
 {
@@ -47,7 +47,13 @@ fn record_of(numbers: &[[u64; 6]], keys: &[[u8; 22]], i: usize) -> Pool
 }
 
 // Copies the records of the rows into the table, from one place up to another.
-pub fn store(pools: &mut [Pool], from: usize, to: usize, numbers: &[[u64; 6]], keys: &[[u8; 22]])
+pub fn store(
+    pools: &mut [Pool],
+    from: usize,
+    to: usize,
+    numbers: &[[u64; rows::NUMBERS]],
+    keys: &[[u8; rows::KEY_WIDTH]],
+)
     requires { ⌜ (from ≤ to) × (to ≤ length (now pools)) × (to ≤ length (now numbers)) × (to ≤ length (now keys)) ⌝ }
     ensures { λ _. ⌜ now (pools .exit)
         ≡ take from (now (pools .entry)) ++ (tab (recordAt (now (numbers .entry)) (now (keys .entry))) (to - from) from ++ drop to (now (pools .entry))) ⌝ }

@@ -1,7 +1,7 @@
 -- The code goes by cases of the order, which is what following comes to.
 use mathlib.Core.Path.{sym}
 use Rattle.book.proofs.Ordered.{follows-cases}
-use Rattle.check_soundness.specs.Parts.{recordOf}
+use Rattle.rows.specs.Rows.{recordOf}
 use native.Mathlib.Omega.{arith}
 use Rattle.check_soundness.proofs.row_follows.Statement.{statement}
 use Rattle.check_soundness.proofs.row_follows.Tie as tie
