@@ -19,11 +19,12 @@ use Rattle.calls.specs.declared.Opened.{Opened}
 use Rattle.calls.specs.declared.Figures.{Figures}
 use Rattle.calls.specs.Figures.{figuresOf}
 use Rattle.calls.specs.Calls.{Opens, Says}
+use Rattle.image.specs.Images.{blank}
 use Rattle.day.specs.declared.Day.{Day}
 use Rattle.day.specs.Tape.{putsOf}
 use Rattle.day.specs.Days.{stateOf, acceptedAmong, othersAmong, Passes}
 use Rattle.daytape.specs.declared.Report.{Report}
-use Rattle.daytape.specs.Program.{blank, theTrade, valuesGiven, startOf, saidOf, reportOf, ReportsOver, Reports}
+use Rattle.daytape.specs.Program.{theTrade, valuesGiven, startOf, saidOf, reportOf, ReportsOver, Reports}
 
 -- the first of 64 trades is the one given
 pub values-given : (b t : Trade) → b ≡ blank → t ≡ theTrade

@@ -1,29 +1,28 @@
 -- What the program opens its book with, and what it says of a tape (01, Program daytape).
-use Prim.Native.Nat.{ℕ}
+use Prim.Native.Nat.{ℕ, _-_}
 use mathlib.Core.Path.{_≡_}
 use mathlib.Core.List.{List, [], _∷_}
 use mathlib.Core.Bool.{true}
 use lib.ListN.{replicate}
+use Rattle.trade_id.specs.SpecialInstructions.{idLengthMax}
 use Rattle.sequence.specs.Sequence.{outbound}
 use Rattle.book.specs.declared.Trade.{Trade}
 use Rattle.book.specs.declared.Values.{Values}
+use Rattle.book.specs.Opening.{tradesMax, holidaysMax}
 use Rattle.book.specs.Records.{noPool}
 use Rattle.book.specs.Promise.{State, afterAll, fed, openedState}
 use Rattle.calls.specs.declared.Figures.{Figures}
 use Rattle.calls.specs.Figures.{figuresOf}
+use Rattle.image.specs.Images.{blank}
 use Rattle.day.specs.declared.Day.{Day}
 use Rattle.day.specs.Tape.{putsOf}
 use Rattle.day.specs.Days.{acceptedAmong, othersAmong}
 use Rattle.daytape.specs.declared.Report.{Report}
 
--- the rest of the trades
-abbrev pub blank : Trade
-blank = record { id = replicate 16 0; length = 0; seller = replicate 4 0; buyer = replicate 4 0; contra = replicate 4 0; cusip = replicate 9 0; settlement = 0; price = 0; par = 0; openPar = 0 }
-
 -- T1, MBAA, MBBB, FTBA, 01F082630, 07142026, 98.5 and two million dollars
 abbrev pub theTrade : Trade
 theTrade = record {
-  id = 84 ∷ 49 ∷ replicate 14 0;
+  id = 84 ∷ 49 ∷ replicate (idLengthMax - 2) 0;
   length = 2;
   seller = 77 ∷ 66 ∷ 65 ∷ 65 ∷ [];
   buyer = 77 ∷ 66 ∷ 66 ∷ 66 ∷ [];
@@ -38,9 +37,9 @@ theTrade = record {
 -- one trade, no holidays, subscriber 0123, connection 1200
 unfoldable pub valuesGiven : Values
 valuesGiven = record {
-  trades = theTrade ∷ replicate 63 blank;
+  trades = theTrade ∷ replicate (tradesMax - 1) blank;
   tradeCount = 1;
-  holidays = replicate 32 0;
+  holidays = replicate holidaysMax 0;
   holidayCount = 0;
   subscriber = 48 ∷ 49 ∷ 50 ∷ 51 ∷ [];
   connection = 49 ∷ 50 ∷ 48 ∷ 48 ∷ [];

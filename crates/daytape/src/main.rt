@@ -2,7 +2,6 @@
 // Trusted is what the C library's read and write do. All bytes that come are read, up to 64 KiB; what a failing read leaves out is not on the tape.
 use book::Book;
 use book::Limits;
-use book::Pool;
 use book::Trade;
 use book::Values;
 use calls::Figures;
@@ -12,8 +11,7 @@ use libc::STDIN_FILENO;
 use libc::STDOUT_FILENO;
 use sequence::Outbound;
 ghost use mathlib.Core.Path.{_≡_};
-ghost use Rattle.book.specs.Records.{noPool};
-ghost use Rattle.daytape.specs.Program.{blank, theTrade, valuesGiven, reportOf, ReportsOver, Reports};
+ghost use Rattle.daytape.specs.Program.{theTrade, valuesGiven, reportOf, ReportsOver, Reports};
 
 const RECORDS: usize = 512;
 
@@ -23,24 +21,6 @@ struct Report {
     others: u64,
     openPar: u64,
     millions: u64,
-}
-
-// A trade that is not there.
-fn no_trade() -> Trade
-    ensures { λ r. ⌜ r ≡ blank ⌝ }
-{
-    Trade {
-        id: [0; 16],
-        length: 0,
-        seller: [0; 4],
-        buyer: [0; 4],
-        contra: [0; 4],
-        cusip: [0; 9],
-        settlement: 0,
-        price: 0,
-        par: 0,
-        openPar: 0,
-    }
 }
 
 // The trade T1.
@@ -65,7 +45,7 @@ fn the_trade() -> Trade
 fn values() -> Values
     ensures { λ r. ⌜ r ≡ valuesGiven ⌝ }
 {
-    let mut trades = [no_trade(); book::TRADES_MAX];
+    let mut trades = [image::no_trade(); book::TRADES_MAX];
     trades[0] = the_trade();
     Values {
         trades: trades,
@@ -82,23 +62,6 @@ fn values() -> Values
         },
         lastMessageId: 0,
         outbound: Outbound(0),
-    }
-}
-
-// A record of zeros.
-fn no_pool() -> Pool
-    ensures { λ r. ⌜ r ≡ noPool ⌝ }
-{
-    Pool {
-        message: 0,
-        ordinal: 0,
-        trade: 0,
-        lot: [0; 6],
-        pool: [0; 7],
-        original: [0; 9],
-        current: 0,
-        kind: 0,
-        millions: 0,
     }
 }
 
@@ -132,7 +95,7 @@ fn reported(passed: Day, said: Figures) -> Report
 fn day_over(v: Values, tape: &[u8]) -> Report
     ensures { λ r. ⌜ ReportsOver v (now (tape .entry)) r ⌝ }
 {
-    let none = no_pool();
+    let none = table_load::none();
     let mut pools = [none; RECORDS];
     let opened = table_open::open_table(v, &mut pools);
     let book = book_opened(opened);

@@ -2,14 +2,17 @@
 use Prim.Native.Nat.{ℕ, _*_}
 use mathlib.Core.List.{List, [], _∷_, _++_, map, flatMap}
 use mathlib.Core.Bool.{Bool, cond, _&&_, _||_}
-use lib.ListN.{length, getD}
+use lib.ListN.{length, getD, replicate}
 use lib.Dec.{eqb, ltb}
 use Rattle.lists.specs.Lists.{part, tab, all}
+use Rattle.trade_id.specs.SpecialInstructions.{idLengthMax}
 use Rattle.sequence.specs.declared.Received.{Received}
 use Rattle.sequence.specs.declared.Received.the-variants.{Nothing, Last}
 use Rattle.sequence.specs.Sequence.{inbound, outbound}
 use Rattle.book.specs.declared.Trade.{Trade}
 use Rattle.book.specs.declared.Book.{Book}
+use Rattle.book.specs.Opening.{tradesMax, holidaysMax}
+use Rattle.image.specs.Words as words
 
 -- words of a trade, of all 64, of what stands after them, and of a book
 abbrev pub tradeWords : ℕ
@@ -58,7 +61,7 @@ abbrev pub rowAt : List ℕ → ℕ → List ℕ
 rowAt ws i = part ws (i * tradeWords) tradeWords
 
 unfoldable pub rowsOf : List ℕ → List (List ℕ)
-rowsOf ws = tab (rowAt ws) 64 0
+rowsOf ws = tab (rowAt ws) tradesMax 0
 
 unfoldable pub restOf : List ℕ → List ℕ
 restOf ws = part ws tradesWords restWords
@@ -72,7 +75,7 @@ isNumber w = ltb w 4294967296
 
 -- the bytes of a trade are bytes
 unfoldable pub tradeFits : List ℕ → Bool
-tradeFits row = all isByte (part row 0 16) && all isByte (part row 17 21)
+tradeFits row = all isByte (part row words.id idLengthMax) && all isByte (part row words.seller words.namesWords)
 
 -- either nothing was received and the number is 0, or a number was
 abbrev pub receivedFits : ℕ → ℕ → Bool
@@ -81,11 +84,11 @@ receivedFits flag n = (eqb flag 0 && eqb n 0) || (eqb flag 1 && isNumber n)
 -- holidays, subscriber and connection, the outbound number, the last received and the expected one
 unfoldable pub restFits : List ℕ → Bool
 restFits rest =
-    all isNumber (part rest 1 32)
-    && (all isByte (part rest 34 8)
-    && (isNumber (getD rest 47 0)
-    && (receivedFits (getD rest 48 0) (getD rest 49 0)
-    && isNumber (getD rest 50 0))))
+    all isNumber (part rest words.holidays holidaysMax)
+    && (all isByte (part rest words.subscriber words.accountsWords)
+    && (isNumber (getD rest words.outbound 0)
+    && (receivedFits (getD rest words.received 0) (getD rest words.number 0)
+    && isNumber (getD rest words.expected 0))))
 
 -- whether words are the image of a book
 unfoldable pub isImage : List ℕ → Bool
@@ -95,16 +98,16 @@ isImage ws = eqb (length ws) bookWords && (all tradeFits (rowsOf ws) && restFits
 unfoldable pub tradeIn : List ℕ → Trade
 tradeIn row =
     record {
-      id = part row 0 16;
-      length = getD row 16 0;
-      seller = part row 17 4;
-      buyer = part row 21 4;
-      contra = part row 25 4;
-      cusip = part row 29 9;
-      settlement = getD row 38 0;
-      price = getD row 39 0;
-      par = getD row 40 0;
-      openPar = getD row 41 0;
+      id = part row words.id idLengthMax;
+      length = getD row words.length 0;
+      seller = part row words.seller words.accountWidth;
+      buyer = part row words.buyer words.accountWidth;
+      contra = part row words.contra words.accountWidth;
+      cusip = part row words.cusip words.cusipWidth;
+      settlement = getD row words.settlement 0;
+      price = getD row words.price 0;
+      par = getD row words.par 0;
+      openPar = getD row words.openPar 0;
     }
 
 abbrev pub receivedIn : ℕ → ℕ → Received
@@ -117,17 +120,39 @@ bookFrom trades rest =
       values =
           record {
             trades = trades;
-            tradeCount = getD rest 0 0;
-            holidays = part rest 1 32;
-            holidayCount = getD rest 33 0;
-            subscriber = part rest 34 4;
-            connection = part rest 38 4;
-            limits = record { ceiling = getD rest 42 0; variance = getD rest 43 0; poolsAMillion = getD rest 44 0; least = getD rest 45 0 };
-            lastMessageId = getD rest 46 0;
-            outbound = outbound (getD rest 47 0);
+            tradeCount = getD rest words.tradeCount 0;
+            holidays = part rest words.holidays holidaysMax;
+            holidayCount = getD rest words.holidayCount 0;
+            subscriber = part rest words.subscriber words.accountWidth;
+            connection = part rest words.connection words.accountWidth;
+            limits =
+                record {
+                  ceiling = getD rest words.ceiling 0;
+                  variance = getD rest words.variance 0;
+                  poolsAMillion = getD rest words.poolsAMillion 0;
+                  least = getD rest words.least 0;
+                };
+            lastMessageId = getD rest words.lastMessageId 0;
+            outbound = outbound (getD rest words.outbound 0);
           };
-      line = record { received = receivedIn (getD rest 48 0) (getD rest 49 0); expected = inbound (getD rest 50 0) };
-      live = getD rest 51 0;
+      line = record { received = receivedIn (getD rest words.received 0) (getD rest words.number 0); expected = inbound (getD rest words.expected 0) };
+      live = getD rest words.live 0;
+    }
+
+-- a trade of zeros: what stands after the trades of a book
+abbrev pub blank : Trade
+blank =
+    record {
+      id = replicate idLengthMax 0;
+      length = 0;
+      seller = replicate words.accountWidth 0;
+      buyer = replicate words.accountWidth 0;
+      contra = replicate words.accountWidth 0;
+      cusip = replicate words.cusipWidth 0;
+      settlement = 0;
+      price = 0;
+      par = 0;
+      openPar = 0;
     }
 
 -- the book that words say

@@ -1,2 +1,3 @@
+pub mod Words
 pub mod Images
 pub mod Formed

@@ -7,7 +7,10 @@ ghost use mathlib.Core.List.{[], _∷_, _++_, flatMap};
 ghost use Prim.Native.Nat.{_≤_};
 ghost use lib.ListN.{length};
 ghost use Rattle.lists.specs.Lists.{pasted};
-ghost use Rattle.image.specs.Images.{tradesWords, wordsOf, tradeImage, flagOf, lastOf, restImage, imageOf};
+ghost use Rattle.trade_id.specs.SpecialInstructions.{idLengthMax};
+ghost use Rattle.book.specs.Opening.{holidaysMax};
+ghost use Rattle.image.specs.Words.{accountWidth, cusipWidth, namesWords, accountsWords};
+ghost use Rattle.image.specs.Images.{tradesWords, wordsOf, tradeImage, flagOf, lastOf, restImage, imageOf, blank};
 
 // Words of a book: 64 trades and the rest.
 pub const BOOK_WORDS: usize = 2740;
@@ -70,6 +73,29 @@ pub const EXPECTED: usize = 50;
 
 pub const LIVE: usize = 51;
 
+// The words of a trade's accounts and CUSIP, and those of subscriber and connection.
+pub const NAMES_WORDS: usize = SETTLEMENT - SELLER;
+
+pub const ACCOUNTS_WORDS: usize = CEILING - SUBSCRIBER;
+
+// A trade of zeros.
+pub fn no_trade() -> Trade
+    ensures { λ r. ⌜ r ≡ blank ⌝ }
+{
+    Trade {
+        id: [0; book::ID_MAX],
+        length: 0,
+        seller: [0; 4],
+        buyer: [0; 4],
+        contra: [0; 4],
+        cusip: [0; 9],
+        settlement: 0,
+        price: 0,
+        par: 0,
+        openPar: 0,
+    }
+}
+
 // Writes the words of s from at. Words that do not fit are not written.
 fn put_words(words: &mut [u64], at: usize, s: &[u64])
     ensures { λ _. ⌜ now (words .exit) ≡ pasted (now (words .entry)) at (now (s .entry)) ⌝ }
@@ -88,8 +114,13 @@ fn put_words(words: &mut [u64], at: usize, s: &[u64])
 }
 
 // The words of the accounts and the CUSIP of a trade, one after another.
-fn name_words(seller: [u8; 4], buyer: [u8; 4], contra: [u8; 4], cusip: [u8; 9]) -> [u64; 21]
-    ensures { λ r. ⌜ r ≡ wordsOf seller 4 ++ wordsOf buyer 4 ++ wordsOf contra 4 ++ wordsOf cusip 9 ⌝ }
+fn name_words(
+    seller: [u8; 4],
+    buyer: [u8; 4],
+    contra: [u8; 4],
+    cusip: [u8; 9],
+) -> [u64; NAMES_WORDS]
+    ensures { λ r. ⌜ r ≡ wordsOf seller accountWidth ++ wordsOf buyer accountWidth ++ wordsOf contra accountWidth ++ wordsOf cusip cusipWidth ⌝ }
 {
     [
         seller[0] as u64,
@@ -117,8 +148,13 @@ fn name_words(seller: [u8; 4], buyer: [u8; 4], contra: [u8; 4], cusip: [u8; 9]) 
 }
 
 // The words of all parts of a trade, one after another.
-fn trade_row(id: [u8; 16], length: u64, names: [u64; 21], numbers: [u64; 4]) -> [u64; TRADE_WORDS]
-    ensures { λ r. ⌜ r ≡ wordsOf id 16 ++ (length ∷ []) ++ wordsOf names 21 ++ wordsOf numbers 4 ⌝ }
+fn trade_row(
+    id: [u8; book::ID_MAX],
+    length: u64,
+    names: [u64; NAMES_WORDS],
+    numbers: [u64; 4],
+) -> [u64; TRADE_WORDS]
+    ensures { λ r. ⌜ r ≡ wordsOf id idLengthMax ++ (length ∷ []) ++ wordsOf names namesWords ++ wordsOf numbers 4 ⌝ }
 {
     [
         id[0] as u64,
@@ -181,7 +217,7 @@ fn trade_words(t: Trade) -> [u64; TRADE_WORDS]
 }
 
 // Writes the words of the trades from the front.
-fn put_trades(words: &mut [u64], trades: [Trade; 64])
+fn put_trades(words: &mut [u64], trades: [Trade; book::TRADES_MAX])
     requires { ⌜ tradesWords ≤ length (now words) ⌝ }
     ensures { λ _. ⌜ (now (words .exit) ≡ pasted (now (words .entry)) 0 (flatMap tradeImage trades)) × (length (flatMap tradeImage trades) ≡ tradesWords) ⌝ }
 {
@@ -215,8 +251,8 @@ fn last_of(received: Received) -> u64
 }
 
 // The words of the two accounts, one after the other.
-fn account_words(subscriber: [u8; 4], connection: [u8; 4]) -> [u64; 8]
-    ensures { λ r. ⌜ r ≡ wordsOf subscriber 4 ++ wordsOf connection 4 ⌝ }
+fn account_words(subscriber: [u8; 4], connection: [u8; 4]) -> [u64; ACCOUNTS_WORDS]
+    ensures { λ r. ⌜ r ≡ wordsOf subscriber accountWidth ++ wordsOf connection accountWidth ⌝ }
 {
     [
         subscriber[0] as u64,
@@ -233,12 +269,12 @@ fn account_words(subscriber: [u8; 4], connection: [u8; 4]) -> [u64; 8]
 // The words of all parts of a book but its trades, one after another.
 fn rest_row(
     count: u64,
-    holidays: [u32; 32],
+    holidays: [u32; book::HOLIDAYS_MAX],
     days: u64,
-    accounts: [u64; 8],
+    accounts: [u64; ACCOUNTS_WORDS],
     numbers: [u64; 10],
 ) -> [u64; REST_WORDS]
-    ensures { λ r. ⌜ r ≡ (count ∷ []) ++ wordsOf holidays 32 ++ (days ∷ []) ++ wordsOf accounts 8 ++ wordsOf numbers 10 ⌝ }
+    ensures { λ r. ⌜ r ≡ (count ∷ []) ++ wordsOf holidays holidaysMax ++ (days ∷ []) ++ wordsOf accounts accountsWords ++ wordsOf numbers 10 ⌝ }
 {
     [
         count,

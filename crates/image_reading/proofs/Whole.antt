@@ -13,9 +13,9 @@ use Rattle.sequence.specs.declared.Line.{Line}
 use Rattle.sequence.specs.Sequence.{outbound, startLine}
 use Rattle.book.specs.declared.Trade.{Trade}
 use Rattle.book.specs.declared.Book.{Book}
-use Rattle.image.specs.Images.{bookWords, restWords, rowsOf, restOf, tradeFits, restFits, isImage, tradeIn, bookFrom, bookIn}
+use Rattle.image.specs.Images.{bookWords, restWords, rowsOf, restOf, tradeFits, restFits, isImage, tradeIn, blank, bookFrom, bookIn}
 use Rattle.image_reading.specs.declared.Read.{Read}
-use Rattle.image_reading.specs.Reading.{blank, noBook, readBook}
+use Rattle.image_reading.specs.Reading.{noBook, readBook}
 
 -- a book of no trades, by its trades and its line
 pub none-given : (t : Trade) (l : Line) → t ≡ blank → l ≡ startLine

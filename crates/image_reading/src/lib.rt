@@ -30,14 +30,7 @@ ghost use Rattle.image.specs.Images.{
   bookFrom,
   bookIn,
 };
-ghost use Rattle.image_reading.specs.Reading.{blank, noBook, readBook};
-
-// Widths of the arrays, in words.
-const ID_WIDTH: usize = 16;
-
-const NAMES_WIDTH: usize = 21;
-
-const ACCOUNTS_WIDTH: usize = 8;
+ghost use Rattle.image_reading.specs.Reading.{noBook, readBook};
 
 // One more than the highest byte, and than the highest number of 32 bits.
 const BYTE_END: u64 = 256;
@@ -109,7 +102,7 @@ fn trade_fits(row: &[u64]) -> bool
     requires { ⌜ length (now row) ≡ tradeWords ⌝ }
     ensures { λ r. ⌜ r ≡ tradeFits (now (row .entry)) ⌝ }
 {
-    all_bytes(row, image::ID, ID_WIDTH) & all_bytes(row, image::SELLER, NAMES_WIDTH)
+    all_bytes(row, image::ID, book::ID_MAX) & all_bytes(row, image::SELLER, image::NAMES_WORDS)
 }
 
 // The trade of a trade's words.
@@ -117,7 +110,7 @@ fn read_trade(row: &[u64]) -> Trade
     requires { ⌜ (length (now row) ≡ tradeWords) × (tradeFits (now row) ≡ true) ⌝ }
     ensures { λ r. ⌜ r ≡ tradeIn (now (row .entry)) ⌝ }
 {
-    let mut id = [0u8; 16];
+    let mut id = [0u8; book::ID_MAX];
     let mut seller = [0u8; 4];
     let mut buyer = [0u8; 4];
     let mut contra = [0u8; 4];
@@ -158,31 +151,13 @@ fn trades_fit(words: &[u64]) -> bool
     true
 }
 
-// A trade of zeros.
-fn no_trade() -> Trade
-    ensures { λ r. ⌜ r ≡ blank ⌝ }
-{
-    Trade {
-        id: [0; 16],
-        length: 0,
-        seller: [0; 4],
-        buyer: [0; 4],
-        contra: [0; 4],
-        cusip: [0; 9],
-        settlement: 0,
-        price: 0,
-        par: 0,
-        openPar: 0,
-    }
-}
-
 // The trades of a book's words.
-fn read_trades(words: &[u64]) -> [Trade; 64]
+fn read_trades(words: &[u64]) -> [Trade; book::TRADES_MAX]
     requires { ⌜ (length (now words) ≡ bookWords) × (all tradeFits (rowsOf (now words)) ≡ true) ⌝ }
     ensures { λ r. ⌜ r ≡ map tradeIn (rowsOf (now (words .entry))) ⌝ }
 {
-    let none = no_trade();
-    let mut trades = [none; 64];
+    let none = image::no_trade();
+    let mut trades = [none; book::TRADES_MAX];
     let mut i: usize = 0;
     while i < book::TRADES_MAX {
         let at = i * image::TRADE_WORDS;
@@ -218,7 +193,7 @@ fn rest_fits(rest: &[u64]) -> bool
 {
     let received = received_fits(rest[image::RECEIVED], rest[image::NUMBER]);
     let dates = all_numbers(rest, image::HOLIDAYS, book::HOLIDAYS_MAX);
-    let accounts = all_bytes(rest, image::SUBSCRIBER, ACCOUNTS_WIDTH);
+    let accounts = all_bytes(rest, image::SUBSCRIBER, image::ACCOUNTS_WORDS);
     dates
         & (accounts
             & ((rest[image::OUTBOUND] < NUMBER_END)
@@ -226,11 +201,11 @@ fn rest_fits(rest: &[u64]) -> bool
 }
 
 // The book of some trades and of the words after the trades.
-fn read_rest(trades: [Trade; 64], rest: &[u64]) -> Book
+fn read_rest(trades: [Trade; book::TRADES_MAX], rest: &[u64]) -> Book
     requires { ⌜ (length (now rest) ≡ restWords) × (restFits (now rest) ≡ true) ⌝ }
     ensures { λ r. ⌜ r ≡ bookFrom trades (now (rest .entry)) ⌝ }
 {
-    let mut holidays = [0u32; 32];
+    let mut holidays = [0u32; book::HOLIDAYS_MAX];
     let mut subscriber = [0u8; 4];
     let mut connection = [0u8; 4];
     read_numbers(&mut holidays, rest, image::HOLIDAYS);
@@ -290,12 +265,12 @@ fn book_in(words: &[u64]) -> Book
 fn no_book() -> Book
     ensures { λ r. ⌜ r ≡ noBook ⌝ }
 {
-    let none = no_trade();
-    let trades = [none; 64];
+    let none = image::no_trade();
+    let trades = [none; book::TRADES_MAX];
     let values = Values {
         trades: trades,
         tradeCount: 0,
-        holidays: [0; 32],
+        holidays: [0; book::HOLIDAYS_MAX],
         holidayCount: 0,
         subscriber: [0; 4],
         connection: [0; 4],

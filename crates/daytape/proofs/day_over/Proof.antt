@@ -64,10 +64,10 @@ use Rattle.daytape.specs.declared.Report.{Report}
 use Rattle.daytape.specs.Program.{reportOf, ReportsOver}
 use Rattle.daytape.proofs.Given.{noPools, no-pools-are, no-pools-long, reports}
 use Rattle.daytape.proofs.MachineValues.{ReportR, reportVal, reportVals, report-makes, report-typed, report-is, report-its}
-use Rattle.daytape.proofs.no_pool as np
-use Rattle.daytape.proofs.no_pool.Symbol as none-def
-use Rattle.daytape.proofs.no_pool.Symbol.{name as #daytape·no-pool}
-use Rattle.daytape.proofs.no_pool.Met as none-thm
+use Rattle.table_load.proofs.none as np
+use Rattle.table_load.proofs.none.Symbol as none-def
+use Rattle.table_load.proofs.none.Symbol.{name as #table-load·none}
+use Rattle.table_load.proofs.none.Met as none-thm
 use Rattle.table_open.proofs.open_table as ot
 use Rattle.table_open.proofs.open_table.Symbol as open-def
 use Rattle.table_open.proofs.open_table.Symbol.{name as #table-open·open-table}
@@ -256,7 +256,7 @@ module _ {M : Type 1} (𝓤 : URA M) (H : Heap 𝓤) (A : Atoms 𝓤) (W : Given
   said-report : (d : Day) (g : Figures) (r : Report) → ent 𝓤 (ensured 𝓤 H A rp.ended (rp.clauses 𝓤 H A mem run) tt (d, (g, tt)) tt r) (fact 𝓤 (r ≡ reportOf d g))
   said-report d g r = exE 𝓤 _ (λ zs. snd∗ 𝓤 (sem 𝓤 H A (lasts rp.ended tt (d, (g, tt)) zs)) (fact 𝓤 (r ≡ reportOf d g)))
 
-  module _ (𝓣 : Tables 𝓤 H) (known-none : Triple 𝓤 (𝓣 .C #daytape·no-pool) (None 𝓤 H A mem run)) (known-open : Triple 𝓤 (𝓣 .C #table-open·open-table) (Open 𝓤 H A mem run)) (known-opened : Triple 𝓤 (𝓣 .C #daytape·book-opened) (BookOpened 𝓤 H A mem run)) (known-day : Triple 𝓤 (𝓣 .C #day·run-day) (RunDay 𝓤 H A mem run)) (known-after : Triple 𝓤 (𝓣 .C #daytape·book-after) (BookAfter 𝓤 H A mem run)) (known-figures : Triple 𝓤 (𝓣 .C #table-figures·table-figures) (TableFigures 𝓤 H A mem run)) (known-report : Triple 𝓤 (𝓣 .C #daytape·reported) (MakeReport 𝓤 H A mem run)) where
+  module _ (𝓣 : Tables 𝓤 H) (known-none : Triple 𝓤 (𝓣 .C #table-load·none) (None 𝓤 H A mem run)) (known-open : Triple 𝓤 (𝓣 .C #table-open·open-table) (Open 𝓤 H A mem run)) (known-opened : Triple 𝓤 (𝓣 .C #daytape·book-opened) (BookOpened 𝓤 H A mem run)) (known-day : Triple 𝓤 (𝓣 .C #day·run-day) (RunDay 𝓤 H A mem run)) (known-after : Triple 𝓤 (𝓣 .C #daytape·book-after) (BookAfter 𝓤 H A mem run)) (known-figures : Triple 𝓤 (𝓣 .C #table-figures·table-figures) (TableFigures 𝓤 H A mem run)) (known-report : Triple 𝓤 (𝓣 .C #daytape·reported) (MakeReport 𝓤 H A mem run)) where
     walk : Is ValuesR v (valuesVals v) → Room u8 (length (t .now)) → ent 𝓤 (onEntry 𝓤 H A f.signature (κ, tt) (q, tt) a at) (WpFn 𝓤 H (𝓣 .C) (𝓣 .Λ) code.function (valuesVal v ∷ s₂ ∷ []) Post)
     walk gv room₂ =
         qed W (Token ∷ ‵ (owns (ValuesR ∷ ShrSlice (named 0) κ u8 ∷ []) a at) ∷ []) ∵ enter ! (𝓣 .C) (𝓣 .Λ) code.function (valuesVal v ∷ s₂ ∷ []) _ $
@@ -340,14 +340,14 @@ module _ {M : Type 1} (𝓤 : URA M) (H : Heap 𝓤) (A : Atoms 𝓤) (W : Given
         by ! (exits r₂ (report-its r₂ w₆ gr) (reports v (zs .1 .0) r₁ e₁ b e₂ (t .now) d (zs₂ .1 .0) e₃ b₂ e₄ g e₅ r₂ e₆))))))))))))))))))))))))))))))))))))))))))))))))))))))))
 
 module _ {M : Type 1} (𝓤 : URA M) (H : Heap 𝓤) (A : Atoms 𝓤) (W : Given 𝓤 H A) (mem : Memory → SProp 𝓤) (run : Routine → Fun 𝓤) where
-  day-over-walks : (𝓣 : Tables 𝓤 H) → Triple 𝓤 (𝓣 .C #daytape·no-pool) (None 𝓤 H A mem run) → Triple 𝓤 (𝓣 .C #table-open·open-table) (Open 𝓤 H A mem run) → Triple 𝓤 (𝓣 .C #daytape·book-opened) (BookOpened 𝓤 H A mem run) → Triple 𝓤 (𝓣 .C #day·run-day) (RunDay 𝓤 H A mem run) → Triple 𝓤 (𝓣 .C #daytape·book-after) (BookAfter 𝓤 H A mem run) → Triple 𝓤 (𝓣 .C #table-figures·table-figures) (TableFigures 𝓤 H A mem run) → Triple 𝓤 (𝓣 .C #daytape·reported) (MakeReport 𝓤 H A mem run)
+  day-over-walks : (𝓣 : Tables 𝓤 H) → Triple 𝓤 (𝓣 .C #table-load·none) (None 𝓤 H A mem run) → Triple 𝓤 (𝓣 .C #table-open·open-table) (Open 𝓤 H A mem run) → Triple 𝓤 (𝓣 .C #daytape·book-opened) (BookOpened 𝓤 H A mem run) → Triple 𝓤 (𝓣 .C #day·run-day) (RunDay 𝓤 H A mem run) → Triple 𝓤 (𝓣 .C #daytape·book-after) (BookAfter 𝓤 H A mem run) → Triple 𝓤 (𝓣 .C #table-figures·table-figures) (TableFigures 𝓤 H A mem run) → Triple 𝓤 (𝓣 .C #daytape·reported) (MakeReport 𝓤 H A mem run)
       → Walks 𝓤 H A f.ended stayed (WpFn 𝓤 H (𝓣 .C) (𝓣 .Λ) code.function) (f.clauses 𝓤 H A mem run)
   day-over-walks 𝓣 known-none known-open known-opened known-day known-after known-figures known-report = walked 𝓤 H A f.ended stayed (f.clauses 𝓤 H A mem run) (WpFn 𝓤 H (𝓣 .C) (𝓣 .Λ) code.function)
       (λ κs. (valuesVals, (slice-vals, tt))) (λ κs. (values-tells, (shr-slice-tells (named 0) (κs .0) u8, tt)))
       (λ κs qs bounds a g are. via 𝓤 _ (fst∗ 𝓤 _ (emp 𝓤))
       (walk 𝓤 H A W mem run (κs .0) (qs .0) (a .0) (a .1 .0) 𝓣 known-none known-open known-opened known-day known-after known-figures known-report (are .0) (are .1 .0 .0 .1)))
 
-day-over-meets : {M : Type 1} (𝓤 : URA M) (H : Heap 𝓤) (A : Atoms 𝓤) → Given 𝓤 H A → (mem : Memory → SProp 𝓤) (run : Routine → Fun 𝓤) (𝓣 : Tables 𝓤 H) → Triple 𝓤 (𝓣 .C #daytape·no-pool) (None 𝓤 H A mem run) → Triple 𝓤 (𝓣 .C #table-open·open-table) (Open 𝓤 H A mem run) → Triple 𝓤 (𝓣 .C #daytape·book-opened) (BookOpened 𝓤 H A mem run) → Triple 𝓤 (𝓣 .C #day·run-day) (RunDay 𝓤 H A mem run) → Triple 𝓤 (𝓣 .C #daytape·book-after) (BookAfter 𝓤 H A mem run) → Triple 𝓤 (𝓣 .C #table-figures·table-figures) (TableFigures 𝓤 H A mem run) → Triple 𝓤 (𝓣 .C #daytape·reported) (MakeReport 𝓤 H A mem run)
+day-over-meets : {M : Type 1} (𝓤 : URA M) (H : Heap 𝓤) (A : Atoms 𝓤) → Given 𝓤 H A → (mem : Memory → SProp 𝓤) (run : Routine → Fun 𝓤) (𝓣 : Tables 𝓤 H) → Triple 𝓤 (𝓣 .C #table-load·none) (None 𝓤 H A mem run) → Triple 𝓤 (𝓣 .C #table-open·open-table) (Open 𝓤 H A mem run) → Triple 𝓤 (𝓣 .C #daytape·book-opened) (BookOpened 𝓤 H A mem run) → Triple 𝓤 (𝓣 .C #day·run-day) (RunDay 𝓤 H A mem run) → Triple 𝓤 (𝓣 .C #daytape·book-after) (BookAfter 𝓤 H A mem run) → Triple 𝓤 (𝓣 .C #table-figures·table-figures) (TableFigures 𝓤 H A mem run) → Triple 𝓤 (𝓣 .C #daytape·reported) (MakeReport 𝓤 H A mem run)
     → Meets 𝓤 H A f.signature (WpFn 𝓤 H (𝓣 .C) (𝓣 .Λ) code.function) (f.spec 𝓤 H A mem run)
 day-over-meets 𝓤 H A W mem run 𝓣 known-none known-open known-opened known-day known-after known-figures known-report =
     walk-meets 𝓤 H A f.ended stayed W
@@ -360,7 +360,7 @@ day-over-spec 𝓤 H 𝓜 𝓖 𝓡 =
     entered 𝓤 H (tripleOf 𝓤 H (𝓖 .A) f.signature (f.spec 𝓤 H (𝓖 .A) (𝓜 .mem) (𝓡 .run)))
     (tables 𝓤 H 𝓜 𝓡 code.env .C) (tables 𝓤 H 𝓜 𝓡 code.env .Λ) #daytape·day-over code.function (code.unfolded 𝓤 H 𝓜 𝓡)
     (day-over-meets 𝓤 H (𝓖 .A) (givenOf 𝓤 H 𝓜 𝓖) (𝓜 .mem) (𝓡 .run) (tablesOf 𝓤 H 𝓜 (tables 𝓤 H 𝓜 𝓡 code.env))
-    (cited 𝓤 H (None 𝓤 H (𝓖 .A) (𝓜 .mem) (𝓡 .run)) 𝓜 𝓡 code.env #daytape·no-pool none-def.routine code.calls-daytape·no-pool (none-thm.met 𝓤 H 𝓜 𝓖 𝓡))
+    (cited 𝓤 H (None 𝓤 H (𝓖 .A) (𝓜 .mem) (𝓡 .run)) 𝓜 𝓡 code.env #table-load·none none-def.routine code.calls-table-load·none (none-thm.met 𝓤 H 𝓜 𝓖 𝓡))
     (cited 𝓤 H (Open 𝓤 H (𝓖 .A) (𝓜 .mem) (𝓡 .run)) 𝓜 𝓡 code.env #table-open·open-table open-def.routine code.calls-table-open·open-table (open-thm.met 𝓤 H 𝓜 𝓖 𝓡))
     (cited 𝓤 H (BookOpened 𝓤 H (𝓖 .A) (𝓜 .mem) (𝓡 .run)) 𝓜 𝓡 code.env #daytape·book-opened opened-def.routine code.calls-daytape·book-opened (opened-thm.met 𝓤 H 𝓜 𝓖 𝓡))
     (cited 𝓤 H (RunDay 𝓤 H (𝓖 .A) (𝓜 .mem) (𝓡 .run)) 𝓜 𝓡 code.env #day·run-day day-def.routine code.calls-day·run-day (day-thm.met 𝓤 H 𝓜 𝓖 𝓡))
