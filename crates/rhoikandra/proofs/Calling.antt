@@ -21,31 +21,11 @@ use Rattle.image.proofs.Kept.{image-again, rest-alone}
 use Rattle.calls.specs.declared.Stepped.{Stepped}
 use Rattle.rows_step.proofs.Answering.{unsound-answer}
 use Rattle.calls.specs.Calls.{Framed}
-use Rattle.rhoikandra.specs.Reading.{Reads}
-use Rattle.rhoikandra.specs.Calls.{timeWidth, callable, Finishes, StepsTo, Refuses, Calls}
-use Rattle.rhoikandra.proofs.Reading.{values-unsound, callable-six}
+use Rattle.exports_book.specs.Reading.{timeWidth, callable, Reads}
+use Rattle.exports_book.specs.Writing.{Finishes}
+use Rattle.exports_book.proofs.Reading.{values-unsound, callable-six}
+use Rattle.rhoikandra.specs.Calls.{StepsTo, Refuses, Calls}
 
--- ---- the end of a call
-module _ (ws said : List ℕ) (r : Stepped) (silent : Bool) (silent-is : silent ≡ isSilent (r .answer)) (two said′ : List ℕ) (two-is : two ≡ saidOf (r .answer)) (said-is : said′ ≡ pasted said 0 two) where
-  pub finish-silent : silent ≡ true → Finishes ws said r ws said′
-  finish-silent t =
-      let e : isSilent (r .answer) ≡ true = sym silent-is ∙ t in
-      record { image = rw e; answer = said-is ∙ ap (pasted said 0) two-is }
-
-  module _ (n : silent ≡ false) (accepted : Bool) (accepted-is : accepted ≡ isAccepted (r .answer)) (ws′ : List ℕ) where
-    pub finish-accepted : accepted ≡ true → ws′ ≡ pasted ws 0 (imageOf (r .book)) → Finishes ws said r ws′ said′
-    finish-accepted t w =
-        let e : isSilent (r .answer) ≡ false = sym silent-is ∙ n in
-        let f : isAccepted (r .answer) ≡ true = sym accepted-is ∙ t in
-        record { image = rw (e, f) w; answer = said-is ∙ ap (pasted said 0) two-is }
-
-    pub finish-refused : accepted ≡ false → ws′ ≡ pasted ws tradesWords (restImage (r .book)) → Finishes ws said r ws′ said′
-    finish-refused t w =
-        let e : isSilent (r .answer) ≡ false = sym silent-is ∙ n in
-        let f : isAccepted (r .answer) ≡ false = sym accepted-is ∙ t in
-        record { image = rw (e, f) w; answer = said-is ∙ ap (pasted said 0) two-is }
-
--- ---- the call
 silent-refuses : (a : Answer) → isSilent a ≡ true → isAccepted a ≡ false
 silent-refuses (Accepted id) e = absurd (true≢false (sym e))
 silent-refuses (Rejected r) e = refl

@@ -1,7 +1,4 @@
-mod Reading
 mod Calling
 mod Opening
 mod Saying
-pub mod Tallying
-pub mod Counting
 pub mod Frames

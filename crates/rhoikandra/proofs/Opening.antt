@@ -11,18 +11,11 @@ use Rattle.book.specs.Opening.{openingFine, opened}
 use Rattle.image.specs.Images.{isImage, bookIn, imageOf}
 use Rattle.calls.specs.declared.Opened.{Opened}
 use Rattle.calls.specs.Calls.{Opens}
-use Rattle.rhoikandra.specs.Reading.{ReadsValues}
-use Rattle.rhoikandra.specs.Opening.{openable, OpensTo, Opening}
-use Rattle.rhoikandra.proofs.Reading.{values-refused}
+use Rattle.exports_book.specs.Reading.{ReadsValues}
+use Rattle.exports_book.specs.Writing.{OpensTo}
+use Rattle.exports_book.proofs.Reading.{values-refused}
+use Rattle.rhoikandra.specs.Opening.{openable, Opening}
 
--- ---- the end of an opening
-pub finish-refused : (ws : List ℕ) (o : Opened) → o .fine ≡ false → OpensTo ws o ws 41
-finish-refused ws o e = record { code = rw e; image = rw e }
-
-pub finish-passed : (ws : List ℕ) (o : Opened) (ws′ : List ℕ) → o .fine ≡ true → ws′ ≡ pasted ws 0 (imageOf (o .book)) → OpensTo ws o ws′ 0
-finish-passed ws o ws′ e w = record { code = rw e; image = rw e w }
-
--- ---- the opening
 module _ (ws : List ℕ) (pools : List Pool) (v : Values) (o : Opened) (ws′ : List ℕ) (pools′ : List Pool) (n : ℕ) (reads : ReadsValues ws v) (opens : Opens v pools o pools′) (ended : OpensTo ws o ws′ n) where
   -- whether it passes, by whether the words say a book
   test-is : o .fine ≡ openable ws pools

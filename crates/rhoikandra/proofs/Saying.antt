@@ -1,10 +1,8 @@
 -- What is said of a trade is what the book that was read says of it, and nothing where none was.
 use Prim.Native.Nat.{ℕ}
 use mathlib.Core.Path.{_≡_, refl, ap, _∙_}
-use mathlib.Core.List.{List, [], _∷_}
+use mathlib.Core.List.{List}
 use mathlib.Core.Bool.{Bool, true, false, cond}
-use Rattle.lists.specs.Lists.{pasted}
-use Rattle.exports_numbers.specs.Bit.{bit}
 use Rattle.book.specs.declared.Book.{Book}
 use Rattle.book.specs.declared.Pool.{Pool}
 use Rattle.book.specs.Soundness.{isSound}
@@ -12,13 +10,9 @@ use Rattle.image.specs.Images.{isImage, bookIn}
 use Rattle.calls.specs.declared.Figures.{Figures}
 use Rattle.calls.specs.Figures.{unknown, figuresOf}
 use Rattle.calls.specs.Calls.{Says}
-use Rattle.rhoikandra.specs.Reading.{Reads}
-use Rattle.rhoikandra.specs.Figures.{figuresNumbers, figuresIn}
-use Rattle.rhoikandra.proofs.Reading.{values-unsound}
-
-pub figures-written : (out out′ : List ℕ) (f : Figures) (k : ℕ) → k ≡ bit (f .known) → out′ ≡ pasted out 0 (k ∷ f .openPar ∷ f .millions ∷ []) → out′ ≡ pasted out 0 (figuresNumbers f)
-unfolding figuresNumbers
-figures-written out out′ f k e w = rw e at w
+use Rattle.exports_book.specs.Reading.{Reads}
+use Rattle.exports_book.proofs.Reading.{values-unsound}
+use Rattle.rhoikandra.specs.Figures.{figuresIn}
 
 unsound-unknown : (b : Book) (pools : List Pool) (trade : ℕ) → isSound b pools ≡ false → figuresOf b pools trade ≡ unknown
 unfolding figuresOf

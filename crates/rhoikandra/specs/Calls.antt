@@ -2,32 +2,17 @@
 use Prim.Native.Nat.{ℕ}
 use mathlib.Core.Path.{_≡_}
 use mathlib.Core.List.{List}
-use mathlib.Core.Bool.{Bool, true, false, cond, _&&_}
-use lib.ListN.{length}
-use lib.Dec.{eqb}
+use mathlib.Core.Bool.{true, false}
 use Rattle.lists.specs.Lists.{pasted}
 use Rattle.book.specs.declared.Book.{Book}
 use Rattle.book.specs.declared.Pool.{Pool}
 use Rattle.book.specs.declared.Answer.the-variants.{Rejected}
 use Rattle.book.specs.declared.Reason.the-variants.{Unsound}
-use Rattle.book.specs.Reasons.{isAccepted}
 use Rattle.book.specs.Checks.{answerOf}
-use Rattle.book.specs.Step.{isSilent, bookAfter, tableAfter, outputAfter, callWith}
+use Rattle.book.specs.Step.{bookAfter, tableAfter, outputAfter, callWith}
 use Rattle.exports_numbers.specs.Said.{saidOf}
-use Rattle.image.specs.Images.{tradesWords, isImage, bookIn, restImage, imageOf}
-use Rattle.calls.specs.declared.Stepped.{Stepped}
-
-abbrev pub timeWidth : ℕ
-timeWidth = 6
-
--- words that are a book's, and six time bytes
-unfoldable pub callable : List ℕ → List ℕ → Bool
-callable ws time = isImage ws && eqb (length time) timeWidth
-
--- the end of a call: the answer in two numbers, and of the words of the book after it what can have moved: nothing after a silent refusal, and all but the trades' after any other
-pub record Finishes (ws said : List ℕ) (r : Stepped) (ws′ said′ : List ℕ) : Type 0 where
-  pub image : ws′ ≡ cond (isSilent (r .answer)) ws (cond (isAccepted (r .answer)) (pasted ws 0 (imageOf (r .book))) (pasted ws tradesWords (restImage (r .book))))
-  pub answer : said′ ≡ pasted said 0 (saidOf (r .answer))
+use Rattle.image.specs.Images.{bookIn, imageOf}
+use Rattle.exports_book.specs.Reading.{callable}
 
 -- what a frame call on a book leaves of words, a table, an output and what is said
 pub record StepsTo (b : Book) (ws : List ℕ) (pools : List Pool) (body time out said : List ℕ) (ws′ : List ℕ) (pools′ : List Pool) (out′ said′ : List ℕ) : Type 0 where

@@ -2,21 +2,15 @@
 use Prim.Native.Nat.{ℕ}
 use mathlib.Core.Path.{_≡_}
 use mathlib.Core.List.{List}
-use mathlib.Core.Bool.{Bool, true, false, cond, _&&_}
+use mathlib.Core.Bool.{Bool, true, false, _&&_}
 use Rattle.lists.specs.Lists.{pasted}
 use Rattle.book.specs.declared.Pool.{Pool}
 use Rattle.book.specs.Opening.{openingFine, opened, cleared}
 use Rattle.image.specs.Images.{isImage, bookIn, imageOf}
-use Rattle.calls.specs.declared.Opened.{Opened}
 
 -- words that are a book's, and values and a table that 41 lets pass
 unfoldable pub openable : List ℕ → List Pool → Bool
 openable ws pools = isImage ws && openingFine (bookIn ws .values) pools
-
--- the end of an opening: where it passes, the words of the opened book
-pub record OpensTo (ws : List ℕ) (o : Opened) (ws′ : List ℕ) (r : ℕ) : Type 0 where
-  pub code : r ≡ cond (o .fine) 0 41
-  pub image : ws′ ≡ cond (o .fine) (pasted ws 0 (imageOf (o .book))) ws
 
 -- the words of the opened book and a table of zeros
 pub record Passed (ws : List ℕ) (pools : List Pool) (ws′ : List ℕ) (pools′ : List Pool) (r : ℕ) : Type 0 where

@@ -1,120 +1,15 @@
 // The calls for C and Rust, all in one archive: a book is kept as words, a table as a lent slice of pool records, and each call writes into lent slices.
-use book::Answer;
-use book::Book;
 use book::Pool;
-use book::Values;
-use calls::Figures;
-use calls::Opened;
-use calls::Stepped;
-use framing::Frame;
-use tally::Tally;
 ghost use mathlib.Core.Path.{_≡_};
-ghost use mathlib.Core.Bool.{true, false};
+ghost use Prim.Native.Nat.{_-_, _≤_};
 ghost use lib.ListN.{length};
 ghost use Rattle.lists.specs.Lists.{pasted};
-ghost use Rattle.book.specs.Opening.{valuesFine};
-ghost use Rattle.image.specs.Images.{isImage};
-ghost use Rattle.rhoikandra.specs.Reading.{Reads, ReadsValues};
-ghost use Rattle.rhoikandra.specs.Opening.{OpensTo, Opening};
-ghost use Rattle.rhoikandra.specs.Figures.{figuresNumbers, figuresIn};
-ghost use Rattle.rhoikandra.specs.Calls.{timeWidth, callable, Finishes, Calls};
-ghost use Rattle.book.specs.Step.{tallyAfter};
-ghost use Prim.Native.Nat.{_-_, _≤_};
 ghost use Rattle.framing.specs.Framing.{nextFrame};
-ghost use Rattle.rhoikandra.specs.Tally.{rowsAfter};
-ghost use Rattle.rhoikandra.specs.Frames.{frameNumbers};
-
-const TIME_WIDTH: usize = 6;
-
-// The number of an opening that is refused.
-const REFUSED: u64 = 41;
-
-// A book where it is known; else it gets more trades than a book has: an opening by its values and every call on it are refused, whatever the table is.
-fn refused_unless(known: bool, book: Book) -> Book
-    ensures { λ r. ⌜ (known ≡ true → r ≡ book) × (known ≡ false → valuesFine (r .values) ≡ false) ⌝ }
-{
-    let mut given = book;
-    if !known {
-        let count = book::TRADES_MAX + 1;
-        given.values.tradeCount = count;
-    }
-    given
-}
-
-// The book that words say; where they say none, one that is refused.
-fn book_of(image: &[u64]) -> Book
-    ensures { λ r. ⌜ Reads (isImage (now (image .entry))) (now (image .entry)) r ⌝ }
-{
-    let read = image_reading::read_book(image);
-    let book = read.book;
-    refused_unless(read.fine, book)
-}
-
-// The book that words say, where the time bytes are six; else one that is refused.
-fn start(image: &[u64], time: &[u8]) -> Book
-    ensures { λ r. ⌜ Reads (callable (now (image .entry)) (now (time .entry))) (now (image .entry)) r ⌝ }
-{
-    let read = image_reading::read_book(image);
-    let book = read.book;
-    refused_unless(read.fine & (time.len() == TIME_WIDTH), book)
-}
-
-// The time bytes, where they are six.
-fn six_of(time: &[u8]) -> [u8; 6]
-    ensures { λ r. ⌜ (length (now (time .entry)) ≡ timeWidth → r ≡ now (time .entry)) ⌝ }
-{
-    if time.len() != TIME_WIDTH {
-        return [0; 6];
-    }
-    [time[0], time[1], time[2], time[3], time[4], time[5]]
-}
-
-// Writes the answer in two numbers, and of the book after the call what can have moved: nothing after a silent refusal, and all but the trades after any other.
-fn finish(image: &mut [u64], said: &mut [u64], stepped: Stepped)
-    ensures { λ _. ⌜ Finishes (now (image .entry)) (now (said .entry)) stepped (now (image .exit)) (now (said .exit)) ⌝ }
-{
-    let answer = stepped.answer;
-    let two = exports_numbers::said_of(answer);
-    exports_numbers::put_numbers(&mut *said, &two);
-    if answers::is_silent(answer) {
-        return;
-    }
-    let after = stepped.book;
-    if answers::is_accepted(answer) {
-        image::write_book(&mut *image, after);
-        return;
-    }
-    image::write_rest(&mut *image, after);
-}
-
-// The values that words say; where they say none, values that are refused.
-fn values_of(image: &[u64]) -> Values
-    ensures { λ r. ⌜ ReadsValues (now (image .entry)) r ⌝ }
-{
-    let book = book_of(image);
-    book.values
-}
-
-// Writes the opened book, and gives the number of the opening.
-fn finish_opening(image: &mut [u64], opened: Opened) -> u64
-    ensures { λ r. ⌜ OpensTo (now (image .entry)) opened (now (image .exit)) r ⌝ }
-{
-    if !opened.fine {
-        return REFUSED;
-    }
-    let book = opened.book;
-    image::write_book(&mut *image, book);
-    0
-}
-
-// Writes what is said of a trade in three numbers.
-fn put_figures(out: &mut [u64], f: Figures)
-    ensures { λ _. ⌜ now (out .exit) ≡ pasted (now (out .entry)) 0 (figuresNumbers f) ⌝ }
-{
-    let known = exports_numbers::bit_of(f.known);
-    let three = [known, f.openPar, f.millions];
-    exports_numbers::put_numbers(&mut *out, &three);
-}
+ghost use Rattle.exports_book.specs.Writing.{figuresNumbers, frameNumbers};
+ghost use Rattle.exports_book.specs.Tally.{rowsAfter};
+ghost use Rattle.rhoikandra.specs.Calls.{Calls};
+ghost use Rattle.rhoikandra.specs.Opening.{Opening};
+ghost use Rattle.rhoikandra.specs.Figures.{figuresIn};
 
 // The frame call on the book that words say. Words that are no book's and time bytes that are not six are refused with 42.
 #[no_mangle]
@@ -128,10 +23,10 @@ pub extern "C" fn rhoikandra_step(
 )
     ensures { λ _. ⌜ Calls (now (image .entry)) (now (pools .entry)) (now (body .entry)) (now (time .entry)) (now (out .entry)) (now (said .entry)) (now (image .exit)) (now (pools .exit)) (now (out .exit)) (now (said .exit)) ⌝ }
 {
-    let book = start(image, time);
-    let six = six_of(time);
+    let book = exports_book::start(image, time);
+    let six = exports_book::six_of(time);
     let stepped = table_step::step(book, pools, body, six, out);
-    finish(image, said, stepped);
+    exports_book::finish(image, said, stepped);
 }
 
 // Opens a book by the values that words say: 0, or 41 where it is refused.
@@ -139,9 +34,9 @@ pub extern "C" fn rhoikandra_step(
 pub extern "C" fn rhoikandra_open(image: &mut [u64], pools: &mut [Pool]) -> u64
     ensures { λ r. ⌜ Opening (now (image .entry)) (now (pools .entry)) (now (image .exit)) (now (pools .exit)) r ⌝ }
 {
-    let values = values_of(image);
+    let values = exports_book::values_of(image);
     let opened = table_open::open_table(values, pools);
-    finish_opening(image, opened)
+    exports_book::finish_opening(image, opened)
 }
 
 // Writes whether a trade is known, its open par and its standing millions.
@@ -149,21 +44,9 @@ pub extern "C" fn rhoikandra_open(image: &mut [u64], pools: &mut [Pool]) -> u64
 pub extern "C" fn rhoikandra_figures(image: &[u64], pools: &[Pool], trade: usize, out: &mut [u64])
     ensures { λ _. ⌜ now (out .exit) ≡ pasted (now (out .entry)) 0 (figuresNumbers (figuresIn (now (image .entry)) (now (pools .entry)) trade)) ⌝ }
 {
-    let book = book_of(image);
+    let book = exports_book::book_of(image);
     let f = table_figures::table_figures(book, pools, trade);
-    put_figures(out, f);
-}
-
-// The tally goes in and comes back; it stands beside the frame call.
-fn tally_after(body: &[u8], said: Answer, tally: Tally) -> Tally
-    ensures { λ r. ⌜ r ≡ tallyAfter (now (body .entry)) said tally ⌝ }
-{
-    if answers::is_silent(said) {
-        return tally;
-    }
-    let kind = header::message_type(body);
-    let outcome = answers::outcome_of(said);
-    tally::raise(tally, kind, outcome)
+    exports_book::put_figures(out, f);
 }
 
 // The tally after a frame call: raised by the message's type and the answer that two numbers say. A slice that is not four rows stays as it is, and so does any where no answer says the numbers.
@@ -171,26 +54,7 @@ fn tally_after(body: &[u8], said: Answer, tally: Tally) -> Tally
 pub extern "C" fn rhoikandra_tally(rows: &mut [[u32; 3]], body: &[u8], said: &[u64])
     ensures { λ _. ⌜ now (rows .exit) ≡ rowsAfter (now (body .entry)) (now (said .entry)) (now (rows .entry)) ⌝ }
 {
-    if rows.len() != tally::TYPES {
-        return;
-    }
-    let heard = exports_numbers::hear(said);
-    if !heard.fine {
-        return;
-    }
-    let answer = heard.answer;
-    let before = tally::tally_of(rows);
-    let after = tally_after(body, answer, before);
-    tally::put_rows(&mut *rows, after);
-}
-
-fn frame_numbers(f: Frame) -> [u64; 4]
-    ensures { λ r. ⌜ r ≡ frameNumbers f ⌝ }
-{
-    match f {
-        Frame::Body { start, end, next } => [1, start as u64, end as u64, next as u64],
-        Frame::Nothing => [0, 0, 0, 0],
-    }
+    exports_book::count(rows, body, said);
 }
 
 // Writes the frame that stands on the tape from a place on, and gives the count of bytes dropped on the way to it; the paper gives that a bound alone.
@@ -200,7 +64,7 @@ pub extern "C" fn rhoikandra_frame(tape: &[u8], at: usize, out: &mut [u64]) -> u
 {
     let found = framing::next_frame(tape, at);
     let frame = found.frame;
-    let four = frame_numbers(frame);
+    let four = exports_book::frame_numbers(frame);
     exports_numbers::put_numbers(&mut *out, &four);
     found.dropped
 }

@@ -41,23 +41,24 @@ use Rattle.calls.specs.declared.Figures.{Figures}
 use Rattle.table_load.proofs.Row.{R}
 use Rattle.image.specs.Images.{isImage}
 use Rattle.calls.specs.Calls.{Says}
-use Rattle.rhoikandra.specs.Reading.{Reads}
-use Rattle.rhoikandra.specs.Figures.{figuresNumbers, figuresIn}
+use Rattle.exports_book.specs.Reading.{Reads}
+use Rattle.exports_book.specs.Writing.{figuresNumbers}
+use Rattle.rhoikandra.specs.Figures.{figuresIn}
 use Rattle.table_rows.proofs.Values.{BookR, book-makes, book-typed}
 use Rattle.table_figures.proofs.MachineValues.{FiguresR, figures-makes, figures-typed}
 use Rattle.rhoikandra.proofs.Saying.{figures-said}
-use Rattle.rhoikandra.proofs.book_of as bo
-use Rattle.rhoikandra.proofs.book_of.Symbol as book-def
-use Rattle.rhoikandra.proofs.book_of.Symbol.{name as #book-of}
-use Rattle.rhoikandra.proofs.book_of.Met as book-thm
+use Rattle.exports_book.proofs.book_of as bo
+use Rattle.exports_book.proofs.book_of.Symbol as book-def
+use Rattle.exports_book.proofs.book_of.Symbol.{name as #book-of}
+use Rattle.exports_book.proofs.book_of.Met as book-thm
 use Rattle.table_figures.proofs.table_figures as tf
 use Rattle.table_figures.proofs.table_figures.Symbol as figures-def
 use Rattle.table_figures.proofs.table_figures.Symbol.{name as #table-figures}
 use Rattle.table_figures.proofs.table_figures.Met as figures-thm
-use Rattle.rhoikandra.proofs.put_figures as pf
-use Rattle.rhoikandra.proofs.put_figures.Symbol as put-def
-use Rattle.rhoikandra.proofs.put_figures.Symbol.{name as #put-figures}
-use Rattle.rhoikandra.proofs.put_figures.Met as put-thm
+use Rattle.exports_book.proofs.put_figures as pf
+use Rattle.exports_book.proofs.put_figures.Symbol as put-def
+use Rattle.exports_book.proofs.put_figures.Symbol.{name as #put-figures}
+use Rattle.exports_book.proofs.put_figures.Met as put-thm
 use Rattle.rhoikandra.proofs.rhoikandra_figures.Key.{name as #rhoikandra-figures}
 use Rattle.rhoikandra.proofs.rhoikandra_figures as f
 use Rattle.rhoikandra.proofs.rhoikandra_figures.Statement as stated
@@ -243,6 +244,6 @@ rhoikandra-figures-spec 𝓤 H 𝓜 𝓖 𝓡 =
     entered 𝓤 H (tripleOf 𝓤 H (𝓖 .A) f.signature (f.spec 𝓤 H (𝓖 .A) (𝓜 .mem) (𝓡 .run)))
     (tables 𝓤 H 𝓜 𝓡 code.env .C) (tables 𝓤 H 𝓜 𝓡 code.env .Λ) #rhoikandra-figures code.function (code.unfolded 𝓤 H 𝓜 𝓡)
     (figures-meets 𝓤 H (𝓖 .A) (givenOf 𝓤 H 𝓜 𝓖) (𝓜 .mem) (𝓡 .run) (tablesOf 𝓤 H 𝓜 (tables 𝓤 H 𝓜 𝓡 code.env))
-    (cited 𝓤 H (BookOf 𝓤 H (𝓖 .A) (𝓜 .mem) (𝓡 .run)) 𝓜 𝓡 code.env #book-of book-def.routine code.calls-rhoikandra·book-of (book-thm.met 𝓤 H 𝓜 𝓖 𝓡))
+    (cited 𝓤 H (BookOf 𝓤 H (𝓖 .A) (𝓜 .mem) (𝓡 .run)) 𝓜 𝓡 code.env #book-of book-def.routine code.calls-exports-book·book-of (book-thm.met 𝓤 H 𝓜 𝓖 𝓡))
     (cited 𝓤 H (TableFigures 𝓤 H (𝓖 .A) (𝓜 .mem) (𝓡 .run)) 𝓜 𝓡 code.env #table-figures figures-def.routine code.calls-table-figures·table-figures (figures-thm.met 𝓤 H 𝓜 𝓖 𝓡))
-    (cited 𝓤 H (PutFigures 𝓤 H (𝓖 .A) (𝓜 .mem) (𝓡 .run)) 𝓜 𝓡 code.env #put-figures put-def.routine code.calls-rhoikandra·put-figures (put-thm.met 𝓤 H 𝓜 𝓖 𝓡)))
+    (cited 𝓤 H (PutFigures 𝓤 H (𝓖 .A) (𝓜 .mem) (𝓡 .run)) 𝓜 𝓡 code.env #put-figures put-def.routine code.calls-exports-book·put-figures (put-thm.met 𝓤 H 𝓜 𝓖 𝓡)))

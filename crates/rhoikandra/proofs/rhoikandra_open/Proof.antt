@@ -42,22 +42,23 @@ use Rattle.book.specs.declared.Pool.{Pool}
 use Rattle.calls.specs.declared.Opened.{Opened}
 use Rattle.table_load.proofs.Row.{R}
 use Rattle.calls.specs.Calls.{Opens}
-use Rattle.rhoikandra.specs.Reading.{ReadsValues}
-use Rattle.rhoikandra.specs.Opening.{OpensTo, Opening}
+use Rattle.exports_book.specs.Reading.{ReadsValues}
+use Rattle.exports_book.specs.Writing.{OpensTo}
+use Rattle.rhoikandra.specs.Opening.{Opening}
 use Rattle.table_open.proofs.MachineValues.{ValuesR, OpenedR, values-makes, opened-makes, values-typed, opened-typed}
 use Rattle.rhoikandra.proofs.Opening.{opening-made}
-use Rattle.rhoikandra.proofs.values_of as vo
-use Rattle.rhoikandra.proofs.values_of.Symbol as values-def
-use Rattle.rhoikandra.proofs.values_of.Symbol.{name as #values-of}
-use Rattle.rhoikandra.proofs.values_of.Met as values-thm
+use Rattle.exports_book.proofs.values_of as vo
+use Rattle.exports_book.proofs.values_of.Symbol as values-def
+use Rattle.exports_book.proofs.values_of.Symbol.{name as #values-of}
+use Rattle.exports_book.proofs.values_of.Met as values-thm
 use Rattle.table_open.proofs.open_table as ot
 use Rattle.table_open.proofs.open_table.Symbol as open-def
 use Rattle.table_open.proofs.open_table.Symbol.{name as #open-table}
 use Rattle.table_open.proofs.open_table.Met as open-thm
-use Rattle.rhoikandra.proofs.finish_opening as fo
-use Rattle.rhoikandra.proofs.finish_opening.Symbol as finish-def
-use Rattle.rhoikandra.proofs.finish_opening.Symbol.{name as #finish-opening}
-use Rattle.rhoikandra.proofs.finish_opening.Met as finish-thm
+use Rattle.exports_book.proofs.finish_opening as fo
+use Rattle.exports_book.proofs.finish_opening.Symbol as finish-def
+use Rattle.exports_book.proofs.finish_opening.Symbol.{name as #finish-opening}
+use Rattle.exports_book.proofs.finish_opening.Met as finish-thm
 use Rattle.rhoikandra.proofs.rhoikandra_open.Key.{name as #rhoikandra-open}
 use Rattle.rhoikandra.proofs.rhoikandra_open as f
 use Rattle.rhoikandra.proofs.rhoikandra_open.Statement as stated
@@ -239,6 +240,6 @@ rhoikandra-open-spec 𝓤 H 𝓜 𝓖 𝓡 =
     entered 𝓤 H (tripleOf 𝓤 H (𝓖 .A) f.signature (f.spec 𝓤 H (𝓖 .A) (𝓜 .mem) (𝓡 .run)))
     (tables 𝓤 H 𝓜 𝓡 code.env .C) (tables 𝓤 H 𝓜 𝓡 code.env .Λ) #rhoikandra-open code.function (code.unfolded 𝓤 H 𝓜 𝓡)
     (open-meets 𝓤 H (𝓖 .A) (givenOf 𝓤 H 𝓜 𝓖) (𝓜 .mem) (𝓡 .run) (tablesOf 𝓤 H 𝓜 (tables 𝓤 H 𝓜 𝓡 code.env))
-    (cited 𝓤 H (ValuesOf 𝓤 H (𝓖 .A) (𝓜 .mem) (𝓡 .run)) 𝓜 𝓡 code.env #values-of values-def.routine code.calls-rhoikandra·values-of (values-thm.met 𝓤 H 𝓜 𝓖 𝓡))
+    (cited 𝓤 H (ValuesOf 𝓤 H (𝓖 .A) (𝓜 .mem) (𝓡 .run)) 𝓜 𝓡 code.env #values-of values-def.routine code.calls-exports-book·values-of (values-thm.met 𝓤 H 𝓜 𝓖 𝓡))
     (cited 𝓤 H (OpenTable 𝓤 H (𝓖 .A) (𝓜 .mem) (𝓡 .run)) 𝓜 𝓡 code.env #open-table open-def.routine code.calls-table-open·open-table (open-thm.met 𝓤 H 𝓜 𝓖 𝓡))
-    (cited 𝓤 H (Finish 𝓤 H (𝓖 .A) (𝓜 .mem) (𝓡 .run)) 𝓜 𝓡 code.env #finish-opening finish-def.routine code.calls-rhoikandra·finish-opening (finish-thm.met 𝓤 H 𝓜 𝓖 𝓡)))
+    (cited 𝓤 H (Finish 𝓤 H (𝓖 .A) (𝓜 .mem) (𝓡 .run)) 𝓜 𝓡 code.env #finish-opening finish-def.routine code.calls-exports-book·finish-opening (finish-thm.met 𝓤 H 𝓜 𝓖 𝓡)))

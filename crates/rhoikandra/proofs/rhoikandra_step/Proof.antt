@@ -42,26 +42,27 @@ use Rattle.book.specs.declared.Pool.{Pool}
 use Rattle.calls.specs.declared.Stepped.{Stepped}
 use Rattle.table_load.proofs.Row.{R}
 use Rattle.calls.specs.Calls.{Framed}
-use Rattle.rhoikandra.specs.Reading.{Reads}
-use Rattle.rhoikandra.specs.Calls.{timeWidth, callable, Finishes, Calls}
+use Rattle.exports_book.specs.Reading.{timeWidth, callable, Reads}
+use Rattle.exports_book.specs.Writing.{Finishes}
+use Rattle.rhoikandra.specs.Calls.{Calls}
 use Rattle.table_rows.proofs.Values.{BookR, SteppedR, TimeR, book-makes, stepped-makes, time-makes, book-typed, stepped-typed, time-typed}
 use Rattle.rhoikandra.proofs.Calling.{called}
-use Rattle.rhoikandra.proofs.start as sa
-use Rattle.rhoikandra.proofs.start.Symbol as start-def
-use Rattle.rhoikandra.proofs.start.Symbol.{name as #start}
-use Rattle.rhoikandra.proofs.start.Met as start-thm
-use Rattle.rhoikandra.proofs.six_of as so
-use Rattle.rhoikandra.proofs.six_of.Symbol as six-def
-use Rattle.rhoikandra.proofs.six_of.Symbol.{name as #six-of}
-use Rattle.rhoikandra.proofs.six_of.Met as six-thm
+use Rattle.exports_book.proofs.start as sa
+use Rattle.exports_book.proofs.start.Symbol as start-def
+use Rattle.exports_book.proofs.start.Symbol.{name as #start}
+use Rattle.exports_book.proofs.start.Met as start-thm
+use Rattle.exports_book.proofs.six_of as so
+use Rattle.exports_book.proofs.six_of.Symbol as six-def
+use Rattle.exports_book.proofs.six_of.Symbol.{name as #six-of}
+use Rattle.exports_book.proofs.six_of.Met as six-thm
 use Rattle.table_step.proofs.step as st
 use Rattle.table_step.proofs.step.Symbol as step-def
 use Rattle.table_step.proofs.step.Symbol.{name as #step}
 use Rattle.table_step.proofs.step.Met as step-thm
-use Rattle.rhoikandra.proofs.finish as fi
-use Rattle.rhoikandra.proofs.finish.Symbol as finish-def
-use Rattle.rhoikandra.proofs.finish.Symbol.{name as #finish}
-use Rattle.rhoikandra.proofs.finish.Met as finish-thm
+use Rattle.exports_book.proofs.finish as fi
+use Rattle.exports_book.proofs.finish.Symbol as finish-def
+use Rattle.exports_book.proofs.finish.Symbol.{name as #finish}
+use Rattle.exports_book.proofs.finish.Met as finish-thm
 use Rattle.rhoikandra.proofs.rhoikandra_step.Key.{name as #rhoikandra-step}
 use Rattle.rhoikandra.proofs.rhoikandra_step as f
 use Rattle.rhoikandra.proofs.rhoikandra_step.Statement as stated
@@ -353,7 +354,7 @@ rhoikandra-step-spec 𝓤 H 𝓜 𝓖 𝓡 =
     entered 𝓤 H (tripleOf 𝓤 H (𝓖 .A) f.signature (f.spec 𝓤 H (𝓖 .A) (𝓜 .mem) (𝓡 .run)))
     (tables 𝓤 H 𝓜 𝓡 code.env .C) (tables 𝓤 H 𝓜 𝓡 code.env .Λ) #rhoikandra-step code.function (code.unfolded 𝓤 H 𝓜 𝓡)
     (step-meets 𝓤 H (𝓖 .A) (givenOf 𝓤 H 𝓜 𝓖) (𝓜 .mem) (𝓡 .run) (tablesOf 𝓤 H 𝓜 (tables 𝓤 H 𝓜 𝓡 code.env))
-    (cited 𝓤 H (Start 𝓤 H (𝓖 .A) (𝓜 .mem) (𝓡 .run)) 𝓜 𝓡 code.env #start start-def.routine code.calls-rhoikandra·start (start-thm.met 𝓤 H 𝓜 𝓖 𝓡))
-    (cited 𝓤 H (SixOf 𝓤 H (𝓖 .A) (𝓜 .mem) (𝓡 .run)) 𝓜 𝓡 code.env #six-of six-def.routine code.calls-rhoikandra·six-of (six-thm.met 𝓤 H 𝓜 𝓖 𝓡))
+    (cited 𝓤 H (Start 𝓤 H (𝓖 .A) (𝓜 .mem) (𝓡 .run)) 𝓜 𝓡 code.env #start start-def.routine code.calls-exports-book·start (start-thm.met 𝓤 H 𝓜 𝓖 𝓡))
+    (cited 𝓤 H (SixOf 𝓤 H (𝓖 .A) (𝓜 .mem) (𝓡 .run)) 𝓜 𝓡 code.env #six-of six-def.routine code.calls-exports-book·six-of (six-thm.met 𝓤 H 𝓜 𝓖 𝓡))
     (cited 𝓤 H (Step 𝓤 H (𝓖 .A) (𝓜 .mem) (𝓡 .run)) 𝓜 𝓡 code.env #step step-def.routine code.calls-table-step·step (step-thm.met 𝓤 H 𝓜 𝓖 𝓡))
-    (cited 𝓤 H (Finish 𝓤 H (𝓖 .A) (𝓜 .mem) (𝓡 .run)) 𝓜 𝓡 code.env #finish finish-def.routine code.calls-rhoikandra·finish (finish-thm.met 𝓤 H 𝓜 𝓖 𝓡)))
+    (cited 𝓤 H (Finish 𝓤 H (𝓖 .A) (𝓜 .mem) (𝓡 .run)) 𝓜 𝓡 code.env #finish finish-def.routine code.calls-exports-book·finish (finish-thm.met 𝓤 H 𝓜 𝓖 𝓡)))

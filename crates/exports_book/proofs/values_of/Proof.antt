@@ -1,8 +1,8 @@
 -- The values of the book that was read.
-use Rattle.rhoikandra.proofs.Reading.{values-read}
+use Rattle.exports_book.proofs.Reading.{values-read}
 use borrow.Author.Needs.{needs}
-use Rattle.rhoikandra.proofs.values_of.Statement.{statement}
-use Rattle.rhoikandra.proofs.values_of.Tie as tie
+use Rattle.exports_book.proofs.values_of.Statement.{statement}
+use Rattle.exports_book.proofs.values_of.Tie as tie
 
 book-of-requires : tie.Need-book-of-requires
 book-of-requires c κs = search needs

@@ -1,9 +1,9 @@
 -- Four rows are read as a tally, raised by the answer that was heard, and written back; else they stay.
 use Rattle.exports_numbers.proofs.Saying.{heard-fine, heard-answer}
-use Rattle.rhoikandra.proofs.Counting.{not-four-stay, not-heard, was-heard}
+use Rattle.exports_book.proofs.Counting.{not-four-stay, not-heard, was-heard}
 use borrow.Author.Needs.{needs}
-use Rattle.rhoikandra.proofs.rhoikandra_tally.Statement.{statement}
-use Rattle.rhoikandra.proofs.rhoikandra_tally.Tie as tie
+use Rattle.exports_book.proofs.count.Statement.{statement}
+use Rattle.exports_book.proofs.count.Tie as tie
 
 returns : tie.Need-returns
 returns c = not-four-stay (c .before .before .before .args .body .now) _ (c .before .before .before .args .said .now) (c .if1 .taken)
@@ -30,8 +30,8 @@ returns-3 : tie.Need-returns-3
 returns-3 c = let a = c .before .before .before .before .before .before .before .before .before .before .before .before .args in
     was-heard (a .body .now) (a .rows .now) (a .said .now) _ (heard-fine (a .said .now) _ (c .before .before .before .before .before .before .before .before .hear .ensures)) _ _ _ _ (c .before .before .before .before .before .before .before .before .before .if1 .left) (heard-answer (a .said .now) _ (c .before .before .before .before .before .before .before .before .hear .ensures)) (c .before .before .before .before .before .before .if2 .left) (c .before .before .before .before .tally-of .ensures) (c .before .before .before .tally-after .ensures) (c .before .put-rows .ensures)
 
-pub rhoikandra-tally-spec : {M : Type 1} → statement M
-rhoikandra-tally-spec =
+pub count-spec : {M : Type 1} → statement M
+count-spec =
     tie.close
     (tie.spec
     returns

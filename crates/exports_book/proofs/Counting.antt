@@ -10,7 +10,7 @@ use Rattle.book.specs.declared.Answer.{Answer}
 use Rattle.book.specs.Step.{tallyAfter}
 use Rattle.exports_numbers.specs.Said.{saidOf, isSaid, answerIn}
 use Rattle.exports_numbers.proofs.Saying.{said-again, heard-again, only-said}
-use Rattle.rhoikandra.specs.Tally.{rowsAfter}
+use Rattle.exports_book.specs.Tally.{rowsAfter}
 
 module _ (body : List ℕ) (rows : List (List ℕ)) where
   -- an answer's numbers raise what that answer raises

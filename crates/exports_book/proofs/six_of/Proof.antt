@@ -2,8 +2,8 @@
 use mathlib.Core.Path.{sym}
 use Rattle.lists.proofs.Tables.{table-of}
 use borrow.Author.Needs.{needs}
-use Rattle.rhoikandra.proofs.six_of.Statement.{statement}
-use Rattle.rhoikandra.proofs.six_of.Tie as tie
+use Rattle.exports_book.proofs.six_of.Statement.{statement}
+use Rattle.exports_book.proofs.six_of.Tie as tie
 
 returns : tie.Need-returns
 returns c = λ e. absurd (c .if1 .taken e)

@@ -1,9 +1,9 @@
 -- The book that was read where the time bytes are six, and else one that is refused.
 use Rattle.image_reading.proofs.Whole.{read-fine, read-whole}
-use Rattle.rhoikandra.proofs.Reading.{starts-given}
+use Rattle.exports_book.proofs.Reading.{starts-given}
 use borrow.Author.Needs.{needs}
-use Rattle.rhoikandra.proofs.start.Statement.{statement}
-use Rattle.rhoikandra.proofs.start.Tie as tie
+use Rattle.exports_book.proofs.start.Statement.{statement}
+use Rattle.exports_book.proofs.start.Tie as tie
 
 read-book-requires : tie.Need-read-book-requires
 read-book-requires c κs = search needs

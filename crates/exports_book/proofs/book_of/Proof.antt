@@ -1,9 +1,9 @@
 -- The book that was read, or one that is refused.
 use Rattle.image_reading.proofs.Whole.{read-fine, read-whole}
-use Rattle.rhoikandra.proofs.Reading.{reads-given}
+use Rattle.exports_book.proofs.Reading.{reads-given}
 use borrow.Author.Needs.{needs}
-use Rattle.rhoikandra.proofs.book_of.Statement.{statement}
-use Rattle.rhoikandra.proofs.book_of.Tie as tie
+use Rattle.exports_book.proofs.book_of.Statement.{statement}
+use Rattle.exports_book.proofs.book_of.Tie as tie
 
 read-book-requires : tie.Need-read-book-requires
 read-book-requires c κs = search needs

@@ -13,8 +13,7 @@ use Rattle.book.specs.declared.Pool.{Pool}
 use Rattle.book.specs.Opening.{valuesFine, openingFine}
 use Rattle.book.specs.Soundness.{isSound}
 use Rattle.image.specs.Images.{isImage, bookIn}
-use Rattle.rhoikandra.specs.Reading.{Reads, ReadsValues}
-use Rattle.rhoikandra.specs.Calls.{timeWidth, callable}
+use Rattle.exports_book.specs.Reading.{timeWidth, callable, Reads, ReadsValues}
 
 -- values of more trades than a book has
 pub too-many : (v : Values) → v .tradeCount ≡ 65 → valuesFine v ≡ false

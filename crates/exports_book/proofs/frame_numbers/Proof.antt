@@ -1,8 +1,8 @@
 -- Each arm lists the numbers of its case.
 use borrow.Author.Needs.{needs}
-use Rattle.rhoikandra.proofs.Frames.{frame-found}
-use Rattle.rhoikandra.proofs.frame_numbers.Statement.{statement}
-use Rattle.rhoikandra.proofs.frame_numbers.Tie as tie
+use Rattle.exports_book.proofs.Writing.{frame-found}
+use Rattle.exports_book.proofs.frame_numbers.Statement.{statement}
+use Rattle.exports_book.proofs.frame_numbers.Tie as tie
 
 enum-known-f : tie.Need-enum-known-f
 enum-known-f c = search needs

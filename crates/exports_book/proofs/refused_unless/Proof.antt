@@ -2,10 +2,10 @@
 use mathlib.Core.Path.{refl}
 use borrow.Author.Tests.{not-true, not-false}
 use Rattle.lists.proofs.Tests.{clash}
-use Rattle.rhoikandra.proofs.Reading.{too-many}
+use Rattle.exports_book.proofs.Reading.{too-many}
 use borrow.Author.Needs.{needs}
-use Rattle.rhoikandra.proofs.refused_unless.Statement.{statement}
-use Rattle.rhoikandra.proofs.refused_unless.Tie as tie
+use Rattle.exports_book.proofs.refused_unless.Statement.{statement}
+use Rattle.exports_book.proofs.refused_unless.Tie as tie
 
 add-count : tie.Need-add-count
 add-count c = search needs

@@ -1,8 +1,8 @@
 -- The two numbers are those of the answer, and the words written are what the answer lets move of the book after it.
-use Rattle.rhoikandra.proofs.Calling.{finish-silent, finish-accepted, finish-refused}
+use Rattle.exports_book.proofs.Writing.{finish-silent, finish-accepted, finish-refused}
 use borrow.Author.Needs.{needs}
-use Rattle.rhoikandra.proofs.finish.Statement.{statement}
-use Rattle.rhoikandra.proofs.finish.Tie as tie
+use Rattle.exports_book.proofs.finish.Statement.{statement}
+use Rattle.exports_book.proofs.finish.Tie as tie
 
 said-of-requires : tie.Need-said-of-requires
 said-of-requires c κs = search needs

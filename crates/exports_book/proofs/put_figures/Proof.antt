@@ -1,8 +1,8 @@
 -- The three numbers in their order.
-use Rattle.rhoikandra.proofs.Saying.{figures-written}
+use Rattle.exports_book.proofs.Writing.{figures-written}
 use borrow.Author.Needs.{needs}
-use Rattle.rhoikandra.proofs.put_figures.Statement.{statement}
-use Rattle.rhoikandra.proofs.put_figures.Tie as tie
+use Rattle.exports_book.proofs.put_figures.Statement.{statement}
+use Rattle.exports_book.proofs.put_figures.Tie as tie
 
 bit-of-requires : tie.Need-bit-of-requires
 bit-of-requires c κs = search needs

@@ -1,8 +1,8 @@
 -- A silent refusal leaves the tally, and every other answer raises its cell.
-use Rattle.rhoikandra.proofs.Tallying.{stays, raises}
+use Rattle.exports_book.proofs.Tallying.{stays, raises}
 use borrow.Author.Needs.{needs}
-use Rattle.rhoikandra.proofs.tally_after.Statement.{statement}
-use Rattle.rhoikandra.proofs.tally_after.Tie as tie
+use Rattle.exports_book.proofs.tally_after.Statement.{statement}
+use Rattle.exports_book.proofs.tally_after.Tie as tie
 
 is-silent-requires : tie.Need-is-silent-requires
 is-silent-requires c κs = search needs

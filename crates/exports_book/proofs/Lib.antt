@@ -1,0 +1,4 @@
+pub mod Reading
+mod Writing
+mod Tallying
+mod Counting

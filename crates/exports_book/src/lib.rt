@@ -1,0 +1,150 @@
+// What the calls for C and Rust do on either side of a call on the table: the book that words say, the answer and the book after a call written, a trade's figures, a frame and a tally in numbers.
+use book::Answer;
+use book::Book;
+use book::Values;
+use calls::Figures;
+use calls::Opened;
+use calls::Stepped;
+use framing::Frame;
+use tally::Tally;
+ghost use mathlib.Core.Path.{_≡_};
+ghost use mathlib.Core.Bool.{true, false};
+ghost use lib.ListN.{length};
+ghost use Rattle.lists.specs.Lists.{pasted};
+ghost use Rattle.book.specs.Opening.{valuesFine};
+ghost use Rattle.book.specs.Step.{tallyAfter};
+ghost use Rattle.image.specs.Images.{isImage};
+ghost use Rattle.exports_book.specs.Reading.{timeWidth, callable, Reads, ReadsValues};
+ghost use Rattle.exports_book.specs.Writing.{Finishes, OpensTo, figuresNumbers, frameNumbers};
+ghost use Rattle.exports_book.specs.Tally.{rowsAfter};
+
+const TIME_WIDTH: usize = 6;
+
+// The number of an opening that is refused.
+const REFUSED: u64 = 41;
+
+// A book where it is known; else it gets more trades than a book has: an opening by its values and every call on it are refused, whatever the table is.
+fn refused_unless(known: bool, book: Book) -> Book
+    ensures { λ r. ⌜ (known ≡ true → r ≡ book) × (known ≡ false → valuesFine (r .values) ≡ false) ⌝ }
+{
+    let mut given = book;
+    if !known {
+        let count = book::TRADES_MAX + 1;
+        given.values.tradeCount = count;
+    }
+    given
+}
+
+// The book that words say; where they say none, one that is refused.
+pub fn book_of(image: &[u64]) -> Book
+    ensures { λ r. ⌜ Reads (isImage (now (image .entry))) (now (image .entry)) r ⌝ }
+{
+    let read = image_reading::read_book(image);
+    let book = read.book;
+    refused_unless(read.fine, book)
+}
+
+// The book that words say, where the time bytes are six; else one that is refused.
+pub fn start(image: &[u64], time: &[u8]) -> Book
+    ensures { λ r. ⌜ Reads (callable (now (image .entry)) (now (time .entry))) (now (image .entry)) r ⌝ }
+{
+    let read = image_reading::read_book(image);
+    let book = read.book;
+    refused_unless(read.fine & (time.len() == TIME_WIDTH), book)
+}
+
+// The time bytes, where they are six.
+pub fn six_of(time: &[u8]) -> [u8; 6]
+    ensures { λ r. ⌜ (length (now (time .entry)) ≡ timeWidth → r ≡ now (time .entry)) ⌝ }
+{
+    if time.len() != TIME_WIDTH {
+        return [0; 6];
+    }
+    [time[0], time[1], time[2], time[3], time[4], time[5]]
+}
+
+// Writes the answer in two numbers, and of the book after the call what can have moved: nothing after a silent refusal, and all but the trades after any other.
+pub fn finish(image: &mut [u64], said: &mut [u64], stepped: Stepped)
+    ensures { λ _. ⌜ Finishes (now (image .entry)) (now (said .entry)) stepped (now (image .exit)) (now (said .exit)) ⌝ }
+{
+    let answer = stepped.answer;
+    let two = exports_numbers::said_of(answer);
+    exports_numbers::put_numbers(&mut *said, &two);
+    if answers::is_silent(answer) {
+        return;
+    }
+    let after = stepped.book;
+    if answers::is_accepted(answer) {
+        image::write_book(&mut *image, after);
+        return;
+    }
+    image::write_rest(&mut *image, after);
+}
+
+// The values that words say; where they say none, values that are refused.
+pub fn values_of(image: &[u64]) -> Values
+    ensures { λ r. ⌜ ReadsValues (now (image .entry)) r ⌝ }
+{
+    let book = book_of(image);
+    book.values
+}
+
+// Writes the opened book, and gives the number of the opening.
+pub fn finish_opening(image: &mut [u64], opened: Opened) -> u64
+    ensures { λ r. ⌜ OpensTo (now (image .entry)) opened (now (image .exit)) r ⌝ }
+{
+    if !opened.fine {
+        return REFUSED;
+    }
+    let book = opened.book;
+    image::write_book(&mut *image, book);
+    0
+}
+
+// Writes what is said of a trade in three numbers.
+pub fn put_figures(out: &mut [u64], f: Figures)
+    ensures { λ _. ⌜ now (out .exit) ≡ pasted (now (out .entry)) 0 (figuresNumbers f) ⌝ }
+{
+    let known = exports_numbers::bit_of(f.known);
+    let three = [known, f.openPar, f.millions];
+    exports_numbers::put_numbers(&mut *out, &three);
+}
+
+// The tally goes in and comes back; it stands beside the frame call.
+fn tally_after(body: &[u8], said: Answer, tally: Tally) -> Tally
+    ensures { λ r. ⌜ r ≡ tallyAfter (now (body .entry)) said tally ⌝ }
+{
+    if answers::is_silent(said) {
+        return tally;
+    }
+    let kind = header::message_type(body);
+    let outcome = answers::outcome_of(said);
+    tally::raise(tally, kind, outcome)
+}
+
+// The tally after a frame call: raised by the message's type and the answer that two numbers say. A slice that is not four rows stays as it is, and so does any where no answer says the numbers.
+pub fn count(rows: &mut [[u32; 3]], body: &[u8], said: &[u64])
+    ensures { λ _. ⌜ now (rows .exit) ≡ rowsAfter (now (body .entry)) (now (said .entry)) (now (rows .entry)) ⌝ }
+{
+    if rows.len() != tally::TYPES {
+        return;
+    }
+    let heard = exports_numbers::hear(said);
+    if !heard.fine {
+        return;
+    }
+    let answer = heard.answer;
+    let before = tally::tally_of(rows);
+    let after = tally_after(body, answer, before);
+    tally::put_rows(&mut *rows, after);
+}
+
+// A frame as four numbers.
+pub fn frame_numbers(f: Frame) -> [u64; 4]
+    ensures { λ r. ⌜ r ≡ frameNumbers f ⌝ }
+{
+    match f {
+        Frame::Body { start, end, next } => [1, start as u64, end as u64, next as u64],
+        Frame::Nothing => [0, 0, 0, 0],
+    }
+}
