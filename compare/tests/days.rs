@@ -302,7 +302,7 @@ fn images_that_are_no_book() {
         // Whether a number was received, and which.
         let received = client.words.len() - 4;
         match cases.random.below(6) {
-            0 => client.words.truncate(cases.random.below(2740) as usize),
+            0 => client.words.truncate(cases.random.below(rhoikandra::BOOK_WORDS as u64) as usize),
             1 => client.words.push(0),
             2 => client.words[received..][..2].copy_from_slice(&[0, cases.random.between(1, 9)]),
             3 => client.words[received..][..2].copy_from_slice(&[cases.random.between(2, 9), 0]),
