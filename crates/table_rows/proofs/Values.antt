@@ -1,8 +1,8 @@
 -- The machine values of what a call passes by value: the book, what a frame call gives back with and without the records that moved, and the time bytes.
 --     BookR, SteppedR, MovedR, TimeR       their types in the program logic
 --     bookVal, steppedVal, timeVals      their machine values
---     book-typed, stepped-typed, moved-typed, time-typed       each value has its MIR type
---     book-makes, stepped-makes, moved-makes, time-makes        what each owns is had for nothing
+--     book-value, stepped-value, moved-value      the laws of these values
+--     time-tells, time-makes, time-typed      those of the time bytes, an array
 --     live-fits        what whoever holds a book knows of its live pools
 -- Assumes nothing.
 use Prim.Native.Nat.{ℕ, _<_, _^_}
@@ -22,9 +22,9 @@ use denote.Array.{Array, array-vals, array-tells, array-lawful, array-makes}
 use denote.Builtin.{u8}
 use denote.Steps.{only}
 use denote.Struct.Laws as LL
+use Rattle.slice_laws.proofs.Machine.{Machine, machine}
 use Rattle.book.specs.declared.Book.{Book}
 use Rattle.calls.specs.declared.Stepped.{Stepped}
-use Rattle.rows_enough.specs.declared.Moved.{Moved}
 use Rattle.book.proofs.Book as B
 use Rattle.book.proofs.Book.Laws as B′
 use Rattle.calls.proofs.Stepped as S
@@ -42,14 +42,8 @@ bookVal = LL.val B.the-type B′.the-laws
 abbrev pub bookVals : Book → List Val
 bookVals = LL.vals B.the-type B′.the-laws
 
-pub book-tells : Tells BookR (Is BookR) bookVals
-book-tells = LL.tells B.the-type B′.the-laws
-
-pub book-makes : {M : Type 1} (𝓤 : URA M) (H : Heap 𝓤) (A : Atoms 𝓤) → Makes 𝓤 H A BookR (Is BookR)
-book-makes 𝓤 H A = LL.makes B.the-type B′.the-plain 𝓤 H A
-
-pub book-typed : {M : Type 1} (𝓤 : URA M) (H : Heap 𝓤) (A : Atoms 𝓤) (W : Given 𝓤 H A) (b : Book) (w : Val) → Is BookR b (w ∷ []) → Holds (hasTy B′.mir w) × WT w
-book-typed 𝓤 H A W b w g = LL.lawful B.the-type B′.the-laws 𝓤 H A W .typed b (w ∷ []) g .0
+pub book-value : Machine B.the-type B′.the-laws
+book-value = machine B.the-type B′.the-laws B′.the-plain
 
 pub live-fits : (b : Book) → Is BookR b (bookVals b) → b .live < 2 ^ 64
 live-fits b g = LL.owed B.the-type B′.the-laws b (bookVals b) g .1 .1 .0 .1
@@ -64,21 +58,15 @@ steppedVal = LL.val S.the-type S′.the-laws
 abbrev pub steppedVals : Stepped → List Val
 steppedVals = LL.vals S.the-type S′.the-laws
 
-pub stepped-makes : {M : Type 1} (𝓤 : URA M) (H : Heap 𝓤) (A : Atoms 𝓤) → Makes 𝓤 H A SteppedR (Is SteppedR)
-stepped-makes 𝓤 H A = LL.makes S.the-type S′.the-plain 𝓤 H A
-
-pub stepped-typed : {M : Type 1} (𝓤 : URA M) (H : Heap 𝓤) (A : Atoms 𝓤) (W : Given 𝓤 H A) (r : Stepped) (w : Val) → Is SteppedR r (w ∷ []) → Holds (hasTy S′.mir w) × WT w
-stepped-typed 𝓤 H A W r w g = LL.lawful S.the-type S′.the-laws 𝓤 H A W .typed r (w ∷ []) g .0
+pub stepped-value : Machine S.the-type S′.the-laws
+stepped-value = machine S.the-type S′.the-laws S′.the-plain
 
 -- ---- what a frame call on rows gives back
 abbrev pub MovedR : RattleType
 MovedR = M.the-row
 
-pub moved-makes : {M : Type 1} (𝓤 : URA M) (H : Heap 𝓤) (A : Atoms 𝓤) → Makes 𝓤 H A MovedR (Is MovedR)
-moved-makes 𝓤 H A = LL.makes M.the-type M′.the-plain 𝓤 H A
-
-pub moved-typed : {M : Type 1} (𝓤 : URA M) (H : Heap 𝓤) (A : Atoms 𝓤) (W : Given 𝓤 H A) (r : Moved) (w : Val) → Is MovedR r (w ∷ []) → Holds (hasTy M′.mir w) × WT w
-moved-typed 𝓤 H A W r w g = LL.lawful M.the-type M′.the-laws 𝓤 H A W .typed r (w ∷ []) g .0
+pub moved-value : Machine M.the-type M′.the-laws
+moved-value = machine M.the-type M′.the-laws M′.the-plain
 
 -- ---- the time bytes
 abbrev pub TimeR : RattleType

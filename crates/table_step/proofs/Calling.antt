@@ -52,7 +52,7 @@ use Rattle.calls.specs.declared.Stepped.{Stepped}
 use Rattle.calls.proofs.Stepped.Laws as S′
 use Rattle.table_load.proofs.Row.{R}
 use Rattle.calls.specs.Calls.{Framed}
-use Rattle.table_rows.proofs.Values.{BookR, bookVal, bookVals, book-tells, book-makes, SteppedR, stepped-makes, stepped-typed, TimeR, timeVal, timeVals, time-tells, time-makes}
+use Rattle.table_rows.proofs.Values.{BookR, bookVal, bookVals, book-value, SteppedR, stepped-value, TimeR, timeVal, timeVals, time-tells, time-makes}
 use Rattle.table_step.proofs.step_with as sw
 use Rattle.table_step.proofs.step_with.Symbol.{name as #table-step·step-with}
 use Rattle.slice_laws.proofs.Blanks.{blanks, length-blanks, RowR, zeros, rowVal, rows-typed, rows-out}
@@ -108,7 +108,7 @@ abbrev pub all-vals : (κs : Lfts 3) → Spells (typesAt (f.signature .params) �
 all-vals κs = (bookVals, (slice-vals, (slice-vals, (uint-vals w64, (uint-vals w64, (timeVals, (slice-vals, tt)))))))
 
 pub all-tell : (κs : Lfts 3) → Tellss (typesAt (f.signature .params) κs) (Ises (typesAt (f.signature .params) κs)) (all-vals κs)
-all-tell κs = (book-tells, (mut-slice-tells (named 0) (κs .0) R, (shr-slice-tells (named 1) (κs .1 .0) u8, (uint-tells w64, (uint-tells w64, (time-tells, (mut-slice-tells (named 2) (κs .1 .1 .0) u8, tt)))))))
+all-tell κs = (book-value .tells, (mut-slice-tells (named 0) (κs .0) R, (shr-slice-tells (named 1) (κs .1 .0) u8, (uint-tells w64, (uint-tells w64, (time-tells, (mut-slice-tells (named 2) (κs .1 .1 .0) u8, tt)))))))
 
 pub all-go : {M : Type 1} (𝓤 : URA M) (H : Heap 𝓤) (A : Atoms 𝓤) (W : Given 𝓤 H A) → AllGo 𝓤 H A W 3 (f.ended .signature .params) (f.ended .kept) stayed
 all-go 𝓤 H A W = (
@@ -242,7 +242,7 @@ module _ {M : Type 1} (𝓤 : URA M) (H : Heap 𝓤) (A : Atoms 𝓤) (W : Given
   exits r w ps ws gr lp lw e =
       qed W (Left ps ws) ∵ suffices ! _ (ends-at 𝓤 H A f.ended stayed (f.clauses 𝓤 H A mem run) W bound w r (tt, (ps, (tt, (tt, (tt, (tt, (ws, tt))))))) (tt, (lp, (tt, (tt, (tt, (tt, (lw, tt)))))))) $ says ! e $
       move ! (1 ∷ 0 ∷ []) $ join ! $ frame ! $ nothing ! $ move ! (1 ∷ 0 ∷ []) $ fjoin ! $ nothing ! $ fjoin ! $ nothing ! $ fjoin ! $ nothing ! $ fjoin ! $ nothing ! $ fjoin ! $ move ! (1 ∷ 0 ∷ []) $ fjoin ! $ nothing ! $ fjoin ! $ frame ! $
-      owned ! SteppedR (Is SteppedR) (stepped-makes 𝓤 H A) r _ gr $ done !
+      owned ! SteppedR (Is SteppedR) (stepped-value .makes 𝓤 H A) r _ gr $ done !
 
   module _ (m : ℕ) where
     -- a local array as a slice
@@ -285,7 +285,7 @@ module _ {M : Type 1} (𝓤 : URA M) (H : Heap 𝓤) (A : Atoms 𝓤) (W : Given
           -- [tape; output; keys; numbers; pools]
           nothing ! $ move ! (2 ∷ 0 ∷ []) $ fjoin ! $ owned ! TimeR (Is TimeR) (time-makes 𝓤 H A W) time _ gt $ fjoin ! $ owned ! usize (Is usize) (uint-makes 𝓤 H A W w64) past _ (refl, gp) $ fjoin ! $
           owned ! usize (Is usize) (uint-makes 𝓤 H A W w64) start _ (refl, gs) $ fjoin ! $ move ! (1 ∷ 0 ∷ []) $ fjoin ! $ move ! (1 ∷ 0 ∷ []) $ fjoin ! $ move ! (1 ∷ 0 ∷ []) $ fjoin ! $ move ! (1 ∷ 0 ∷ []) $ fjoin ! $
-          owned ! BookR (Is BookR) (book-makes 𝓤 H A) k _ gk $ fjoin ! $ done !
+          owned ! BookR (Is BookR) (book-value .makes 𝓤 H A) k _ gk $ fjoin ! $ done !
 
     -- what `step_with` says
     abbrev Stepping : Stepped → Lasts → Type 0
@@ -337,7 +337,7 @@ module _ {M : Type 1} (𝓤 : URA M) (H : Heap 𝓤) (A : Atoms 𝓤) (W : Given
           split ! $ move ! (1 ∷ []) $ heard ! (Stepping r zs) (λ e. fsplit ! $ drop ! $ fsplit ! $ fsplit ! $ move ! (1 ∷ []) $ feqL ! (λ lp. move ! (1 ∷ []) $ fsplit ! $ fsplit ! $ move ! (1 ∷ []) $ feqL ! (λ ln. move ! (1 ∷ []) $
           fsplit ! $ fsplit ! $ move ! (1 ∷ []) $ feqL ! (λ lk. move ! (1 ∷ []) $ fsplit ! $ drop ! $ fsplit ! $ drop ! $ fsplit ! $ drop ! $ fsplit ! $ drop ! $ fsplit ! $ fsplit ! $ move ! (1 ∷ []) $ feqL ! (λ lw.
           -- [the last output; true; the last keys; the last numbers; the last table; the tokens and the result; the lender's parts; _19 at 8; …]
-          move ! (5 ∷ []) $ split ! $ move ! (1 ∷ []) $ peeks ! SteppedR (Is SteppedR) (shows 𝓤 H A SteppedR) r (w ∷ []) (λ gr. land ! (from ! (stop !)) (init ! 45 refl (subst (λ (T : Ty). Holds (hasTy T w) × WT w) is-stepped (stepped-typed 𝓤 H A W r w gr))) $ drop ! $
+          move ! (5 ∷ []) $ split ! $ move ! (1 ∷ []) $ peeks ! SteppedR (Is SteppedR) (shows 𝓤 H A SteppedR) r (w ∷ []) (λ gr. land ! (from ! (stop !)) (init ! 45 refl (subst (λ (T : Ty). Holds (hasTy T w) × WT w) is-stepped (stepped-value .typed 𝓤 H A W r w gr))) $ drop ! $
           split ! $ move ! (1 ∷ []) $ split ! $ lft-end ! tt $ move ! (0 ∷ 9 ∷ 6 ∷ []) $
           use3 W (later (‵ (Arr (memory.mem N) (length (numbers m)) .lies (zs .1 .1 .0) l₈ 0))) (slice-back 𝓤 H A W N (ν ∷ []) δ (zs .1 .1 .0) (length (numbers m)) l₈ 0) $ await ! tt $ fsplit ! $ drop ! $
           use1 W (‵ (froom (numbersTy m) l₈ 0)) (elems-room N 𝓤 H A W m l₈ (zs .1 .1 .0) (ln ∙ many-numbers)) $ rewrite ! 0 (λ (T : Ty). ‵ (froom T l₈ 0)) is-numbers refl $

@@ -55,8 +55,8 @@ use Rattle.day.specs.declared.Going.{Going}
 use Rattle.day.specs.declared.Place.{Place}
 use Rattle.day.specs.Turns.{placeAfter, countedOf, turn}
 use Rattle.day.proofs.Turning.{outgoing, outgoing-are, outgoing-long, turned}
-use Rattle.table_rows.proofs.Values.{BookR, bookVals, book-makes, book-typed, SteppedR, steppedVals, stepped-makes, stepped-typed, TimeR, timeVals, time-makes, time-typed}
-use Rattle.day.proofs.Values.{book-is, book-its, stepped-is, stepped-its, midnight, midnight-is, GoingR, goingVal, goingVals, going-tells, going-makes, going-typed, going-is, going-its, PlaceR, placeVals, place-makes, place-typed, place-is, place-its}
+use Rattle.table_rows.proofs.Values.{BookR, bookVals, book-value, SteppedR, steppedVals, stepped-value, TimeR, timeVals, time-makes, time-typed}
+use Rattle.day.proofs.Values.{midnight, midnight-is, GoingR, goingVal, goingVals, going-value, PlaceR, placeVals, place-value}
 use Rattle.day.proofs.frame_after as fa
 use Rattle.day.proofs.frame_after.Symbol as after-def
 use Rattle.day.proofs.frame_after.Symbol.{name as #day·frame-after}
@@ -186,8 +186,8 @@ module _ {M : Type 1} (𝓤 : URA M) (H : Heap 𝓤) (A : Atoms 𝓤) (W : Given
   exits : (r : Going) (ps : List Pool) → (r ≡ turn (t .now) g ys .0) × (ps ≡ turn (t .now) g ys .1) → Is GoingR r (goingVals r) → length ps ≡ length ys → ent 𝓤 (⋆ 𝓤 H A (Left ps)) (Post (goingVal r))
   exits r ps e gr long′ =
       qed W (Left ps) ∵ suffices ! _ (ends-at 𝓤 H A f.ended stayed (f.clauses 𝓤 H A mem run) W bound (goingVal r) r (tt, (ps, (tt, tt))) (tt, (long′, (tt, tt)))) $ says ! e $
-      move ! (1 ∷ 0 ∷ []) $ join ! $ move ! (1 ∷ 0 ∷ []) $ join ! $ frame ! $ move ! (2 ∷ 0 ∷ []) $ fjoin ! $ move ! (1 ∷ 0 ∷ []) $ fjoin ! $ owned ! GoingR (Is GoingR) (going-makes 𝓤 H A) g _ gg $ fjoin ! $ frame ! $
-      owned ! GoingR (Is GoingR) (going-makes 𝓤 H A) r _ gr $ done !
+      move ! (1 ∷ 0 ∷ []) $ join ! $ move ! (1 ∷ 0 ∷ []) $ join ! $ frame ! $ move ! (2 ∷ 0 ∷ []) $ fjoin ! $ move ! (1 ∷ 0 ∷ []) $ fjoin ! $ owned ! GoingR (Is GoingR) (going-value .makes 𝓤 H A) g _ gg $ fjoin ! $ frame ! $
+      owned ! GoingR (Is GoingR) (going-value .makes 𝓤 H A) r _ gr $ done !
 
   -- what each callee's triple binds outside, that the caller has what it asks, and what is known of its result
   abbrev to-after : After 𝓤 H A mem run .Ghost
@@ -195,7 +195,7 @@ module _ {M : Type 1} (𝓤 : URA M) (H : Heap 𝓤) (A : Atoms 𝓤) (W : Given
 
   goes-after : ent 𝓤 (⋆ 𝓤 H A (Token ∷ Tape ∷ [])) (After 𝓤 H A mem run .pre to-after)
   goes-after =
-      qed W (Token ∷ Tape ∷ []) ∵ nothing ! $ owned ! GoingR (Is GoingR) (going-makes 𝓤 H A) g _ gg $ fjoin ! $ move ! (2 ∷ 0 ∷ []) $ fjoin ! $ move ! (1 ∷ 0 ∷ []) $ join ! $ frame ! $ done !
+      qed W (Token ∷ Tape ∷ []) ∵ nothing ! $ owned ! GoingR (Is GoingR) (going-value .makes 𝓤 H A) g _ gg $ fjoin ! $ move ! (2 ∷ 0 ∷ []) $ fjoin ! $ move ! (1 ∷ 0 ∷ []) $ join ! $ frame ! $ done !
 
   abbrev Found : Place → Type 0
   Found r = (r ≡ place) × (r .start ≤ r .end) × (r .end ≤ length (t .now))
@@ -207,7 +207,7 @@ module _ {M : Type 1} (𝓤 : URA M) (H : Heap 𝓤) (A : Atoms 𝓤) (W : Given
   to-book = ((tt, tt, tt, (g, tt), (goingVals g, tt)), tt)
 
   goes-book : ent 𝓤 (emp 𝓤) (BookOf 𝓤 H A mem run .pre to-book)
-  goes-book = qed W [] ∵ nothing ! $ owned ! GoingR (Is GoingR) (going-makes 𝓤 H A) g _ gg $ fjoin ! $ nothing ! $ join ! $ frame ! $ done !
+  goes-book = qed W [] ∵ nothing ! $ owned ! GoingR (Is GoingR) (going-value .makes 𝓤 H A) g _ gg $ fjoin ! $ nothing ! $ join ! $ frame ! $ done !
 
   said-book : (r : Book) → ent 𝓤 (ensured 𝓤 H A bo.ended (bo.clauses 𝓤 H A mem run) tt (g, tt) tt r) (fact 𝓤 (r ≡ bk))
   said-book r = exE 𝓤 _ (λ zs. snd∗ 𝓤 (sem 𝓤 H A (lasts bo.ended tt (g, tt) zs)) (fact 𝓤 (r ≡ bk)))
@@ -216,7 +216,7 @@ module _ {M : Type 1} (𝓤 : URA M) (H : Heap 𝓤) (A : Atoms 𝓤) (W : Given
   to-start = ((tt, tt, tt, (place, tt), (placeVals place, tt)), tt)
 
   goes-start : Is PlaceR place (placeVals place) → ent 𝓤 (emp 𝓤) (StartOf 𝓤 H A mem run .pre to-start)
-  goes-start gp = qed W [] ∵ nothing ! $ owned ! PlaceR (Is PlaceR) (place-makes 𝓤 H A) place _ gp $ fjoin ! $ nothing ! $ join ! $ frame ! $ done !
+  goes-start gp = qed W [] ∵ nothing ! $ owned ! PlaceR (Is PlaceR) (place-value .makes 𝓤 H A) place _ gp $ fjoin ! $ nothing ! $ join ! $ frame ! $ done !
 
   said-start : (r : ℕ) → ent 𝓤 (ensured 𝓤 H A so.ended (so.clauses 𝓤 H A mem run) tt (place, tt) tt r) (fact 𝓤 (r ≡ place .start))
   said-start r = exE 𝓤 _ (λ zs. snd∗ 𝓤 (sem 𝓤 H A (lasts so.ended tt (place, tt) zs)) (fact 𝓤 (r ≡ place .start)))
@@ -225,7 +225,7 @@ module _ {M : Type 1} (𝓤 : URA M) (H : Heap 𝓤) (A : Atoms 𝓤) (W : Given
   to-end = ((tt, tt, tt, (place, tt), (placeVals place, tt)), tt)
 
   goes-end : Is PlaceR place (placeVals place) → ent 𝓤 (emp 𝓤) (EndOf 𝓤 H A mem run .pre to-end)
-  goes-end gp = qed W [] ∵ nothing ! $ owned ! PlaceR (Is PlaceR) (place-makes 𝓤 H A) place _ gp $ fjoin ! $ nothing ! $ join ! $ frame ! $ done !
+  goes-end gp = qed W [] ∵ nothing ! $ owned ! PlaceR (Is PlaceR) (place-value .makes 𝓤 H A) place _ gp $ fjoin ! $ nothing ! $ join ! $ frame ! $ done !
 
   said-end : (r : ℕ) → ent 𝓤 (ensured 𝓤 H A eo.ended (eo.clauses 𝓤 H A mem run) tt (place, tt) tt r) (fact 𝓤 (r ≡ place .end))
   said-end r = exE 𝓤 _ (λ zs. snd∗ 𝓤 (sem 𝓤 H A (lasts eo.ended tt (place, tt) zs)) (fact 𝓤 (r ≡ place .end)))
@@ -249,15 +249,15 @@ module _ {M : Type 1} (𝓤 : URA M) (H : Heap 𝓤) (A : Atoms 𝓤) (W : Given
       move ! (1 ∷ []) $ split ! $ split ! $ move ! (2 ∷ 1 ∷ []) $ join ! $ move ! (1 ∷ 0 ∷ []) $ join ! $ move ! (1 ∷ 0 ∷ []) $ join ! $ frame ! $
       split ! $ move ! (1 ∷ []) $ split ! $ nothing ! $ move ! (2 ∷ 0 ∷ []) $ fjoin ! $ owned ! TimeR (Is TimeR) (time-makes 𝓤 H A W) midnight _ midnight-is $ fjoin ! $
       owned ! usize (Is usize) (uint-makes 𝓤 H A W w64) (place .end) _ (refl, ge) $ fjoin ! $ owned ! usize (Is usize) (uint-makes 𝓤 H A W w64) (place .start) _ (refl, gs) $ fjoin ! $
-      move ! (1 ∷ 0 ∷ []) $ fjoin ! $ move ! (1 ∷ 0 ∷ []) $ fjoin ! $ owned ! BookR (Is BookR) (book-makes 𝓤 H A) bk _ gb $ fjoin ! $ done !
+      move ! (1 ∷ 0 ∷ []) $ fjoin ! $ move ! (1 ∷ 0 ∷ []) $ fjoin ! $ owned ! BookR (Is BookR) (book-value .makes 𝓤 H A) bk _ gb $ fjoin ! $ done !
 
   abbrev to-counted : Stepped → Counted 𝓤 H A mem run .Ghost
   to-counted r = ((tt, tt, tt, (g, (r, (place, tt))), (goingVals g, (steppedVals r, (placeVals place, tt)))), tt)
 
   goes-counted : (r : Stepped) → Is SteppedR r (steppedVals r) → Is PlaceR place (placeVals place) → (g .day .accepted < 2 ^ 63) × (g .day .others < 2 ^ 63) → ent 𝓤 (emp 𝓤) (Counted 𝓤 H A mem run .pre (to-counted r))
   goes-counted r gr gn small =
-      qed W [] ∵ says ! small $ nothing ! $ frame ! $ nothing ! $ owned ! PlaceR (Is PlaceR) (place-makes 𝓤 H A) place _ gn $ fjoin ! $ owned ! SteppedR (Is SteppedR) (stepped-makes 𝓤 H A) r _ gr $ fjoin ! $
-      owned ! GoingR (Is GoingR) (going-makes 𝓤 H A) g _ gg $ fjoin ! $ done !
+      qed W [] ∵ says ! small $ nothing ! $ frame ! $ nothing ! $ owned ! PlaceR (Is PlaceR) (place-value .makes 𝓤 H A) place _ gn $ fjoin ! $ owned ! SteppedR (Is SteppedR) (stepped-value .makes 𝓤 H A) r _ gr $ fjoin ! $
+      owned ! GoingR (Is GoingR) (going-value .makes 𝓤 H A) g _ gg $ fjoin ! $ done !
 
   abbrev Gone : Stepped → Going → Type 0
   Gone r r′ = r′ ≡ countedOf g (r .book) (isAccepted (r .answer)) (place .next)
@@ -278,7 +278,7 @@ module _ {M : Type 1} (𝓤 : URA M) (H : Heap 𝓤) (A : Atoms 𝓤) (W : Given
     walk room room₂ small =
         qed W ((‵ (flft κ q) ⊛ Token) ∷ ‵ (owns (GoingR ∷ MutSlice (named 0) κ R ∷ ShrSlice (named 1) κ₂ u8 ∷ []) a at) ∷ []) ∵ enter ! (𝓣 .C) (𝓣 .Λ) code.function (goingVal g ∷ s ∷ s₂ ∷ []) _ $
         alloc1 ! (λ l₀. alloc1 ! (λ l₁. alloc1 ! (λ l₂. alloc1 ! (λ l₃. alloc1 ! (λ l₄. alloc1 ! (λ l₅. alloc1 ! (λ l₆. alloc1 ! (λ l₇. alloc1 ! (λ l₈. alloc1 ! (λ l₉. alloc1 ! (λ l₁₀. alloc1 ! (λ l₁₁. alloc1 ! (λ l₁₂. alloc1 ! (λ l₁₃. alloc1 ! (λ l₁₄. alloc0 ! $ params1 ! $
-        pass1 ! (init ! 26 refl (going-typed 𝓤 H A W g (goingVal g) gg)) $ pass1 ! (init ! 24 refl (tt, (tt, (record { fits = room .0 }, tt)))) $ pass1 ! (init ! 22 refl (tt, (tt, (record { fits = room₂ .0 }, tt)))) $ pass0 ! $
+        pass1 ! (init ! 26 refl (going-value .typed 𝓤 H A W g (goingVal g) gg)) $ pass1 ! (init ! 24 refl (tt, (tt, (record { fits = room .0 }, tt)))) $ pass1 ! (init ! 22 refl (tt, (tt, (record { fits = room₂ .0 }, tt)))) $ pass0 ! $
         -- [_14; …; _0; …; the tokens; what the parameters own]
         move ! (31 ∷ []) $ fsplit ! $ drop ! $ fsplit ! $ move ! (1 ∷ []) $ fsplit ! $ move ! (1 ∷ []) $ drop ! $ move ! (32 ∷ []) $ split ! $
         -- [the table's token; the tape's token; tape; pools; _14 at 4; …]
@@ -287,19 +287,19 @@ module _ {M : Type 1} (𝓤 : URA M) (H : Heap 𝓤) (A : Atoms 𝓤) (W : Given
         calls-at ! (fmOf 𝓤 H (W .laws) 𝓣) (After 𝓤 H A mem run) known-after to-after (and-then ! (load ! (from ! (stop !)) (look ! 26 refl)) (and-then ! (load ! (from ! (stop !)) (look ! 30 refl)) (no-more !))) (λ w.
         use1 W (later (some (λ (r : Place). (Token ⊛ ‵ (PlaceR .own r (w ∷ []))) ⊛ raw (ensured 𝓤 H A fa.ended (fa.clauses 𝓤 H A mem run) (κ₂, tt) (t, (g, tt)) tt r)))) (id⊢ 𝓤 _) $ await ! tt $ pick ! (λ r.
         split ! $ move ! (1 ∷ []) $ use1 W (raw (fact 𝓤 (Found r))) (said-after r) $ heard ! (Found r) (λ e. split ! $ move ! (1 ∷ []) $ rewrite ! 0 (λ (z : Place). ‵ (PlaceR .own z (w ∷ []))) (e .0) refl $
-        peeks ! PlaceR (Is PlaceR) (shows 𝓤 H A PlaceR) place (w ∷ []) (λ gp. land ! (from ! (stop !)) (init ! 25 refl (place-typed 𝓤 H A W place w gp)) $ rewrite ! 25 (λ (u : Val). ‵ (fat fullShare (τ 4) l₄ 0 u)) (place-is place w gp) refl $ drop ! $
+        peeks ! PlaceR (Is PlaceR) (shows 𝓤 H A PlaceR) place (w ∷ []) (λ gp. land ! (from ! (stop !)) (init ! 25 refl (place-value .typed 𝓤 H A W place w gp)) $ rewrite ! 25 (λ (u : Val). ‵ (fat fullShare (τ 4) l₄ 0 u)) (place-value .is place w gp) refl $ drop ! $
         -- [the tape's token; tape; the table's token; pools; _14 at 4; …]
         use0 W (raw (BookOf 𝓤 H A mem run .pre to-book)) goes-book $
         calls-at ! (fmOf 𝓤 H (W .laws) 𝓣) (BookOf 𝓤 H A mem run) known-book to-book (and-then ! (load ! (from ! (stop !)) (look ! 31 refl)) (no-more !)) (λ w₁.
         use1 W (later (some (λ (r₁ : Book). (‵ ftrue ⊛ ‵ (BookR .own r₁ (w₁ ∷ []))) ⊛ raw (ensured 𝓤 H A bo.ended (bo.clauses 𝓤 H A mem run) tt (g, tt) tt r₁)))) (id⊢ 𝓤 _) $ await ! tt $ pick ! (λ r₁.
         split ! $ move ! (1 ∷ []) $ use1 W (raw (fact 𝓤 (r₁ ≡ bk))) (said-book r₁) $ heard ! (r₁ ≡ bk) (λ e₁. split ! $ drop ! $ rewrite ! 0 (λ (z : Book). ‵ (BookR .own z (w₁ ∷ []))) e₁ refl $
-        peeks ! BookR (Is BookR) (shows 𝓤 H A BookR) bk (w₁ ∷ []) (λ gb. land ! (from ! (stop !)) (init ! 23 refl (book-typed 𝓤 H A W bk w₁ gb)) $ rewrite ! 23 (λ (u : Val). ‵ (fat fullShare (τ 5) l₅ 0 u)) (book-is bk w₁ gb) refl $ drop ! $
-        use0 W (raw (StartOf 𝓤 H A mem run .pre to-start)) (goes-start (place-its place w gp)) $
+        peeks ! BookR (Is BookR) (shows 𝓤 H A BookR) bk (w₁ ∷ []) (λ gb. land ! (from ! (stop !)) (init ! 23 refl (book-value .typed 𝓤 H A W bk w₁ gb)) $ rewrite ! 23 (λ (u : Val). ‵ (fat fullShare (τ 5) l₅ 0 u)) (book-value .is bk w₁ gb) refl $ drop ! $
+        use0 W (raw (StartOf 𝓤 H A mem run .pre to-start)) (goes-start (place-value .its place w gp)) $
         calls-at ! (fmOf 𝓤 H (W .laws) 𝓣) (StartOf 𝓤 H A mem run) known-start to-start (and-then ! (load ! (from ! (stop !)) (look ! 25 refl)) (no-more !)) (λ w₅.
         use1 W (later (some (λ (j : ℕ). (‵ ftrue ⊛ ‵ (usize .own j (w₅ ∷ []))) ⊛ raw (ensured 𝓤 H A so.ended (so.clauses 𝓤 H A mem run) tt (place, tt) tt j)))) (id⊢ 𝓤 _) $ await ! tt $ pick ! (λ j₅.
         split ! $ move ! (1 ∷ []) $ use1 W (raw (fact 𝓤 (j₅ ≡ place .start))) (said-start j₅) $ heard ! (j₅ ≡ place .start) (λ e₅. split ! $ drop ! $ rewrite ! 0 (λ (j : ℕ). ‵ (usize .own j (w₅ ∷ []))) e₅ refl $
         peeks ! usize (Is usize) (shows 𝓤 H A usize) (place .start) (w₅ ∷ []) (λ is₅. land ! (from ! (stop !)) (init ! 21 refl (uint-lawful 𝓤 H A W w64 .typed (place .start) _ is₅ .0)) $ rewrite ! 21 (λ (u : Val). ‵ (fat fullShare (τ 6) l₆ 0 u)) (ap only (is₅ .0)) refl $ drop ! $
-        use0 W (raw (EndOf 𝓤 H A mem run .pre to-end)) (goes-end (place-its place w gp)) $
+        use0 W (raw (EndOf 𝓤 H A mem run .pre to-end)) (goes-end (place-value .its place w gp)) $
         calls-at ! (fmOf 𝓤 H (W .laws) 𝓣) (EndOf 𝓤 H A mem run) known-end to-end (and-then ! (load ! (from ! (stop !)) (look ! 25 refl)) (no-more !)) (λ w₆.
         use1 W (later (some (λ (j : ℕ). (‵ ftrue ⊛ ‵ (usize .own j (w₆ ∷ []))) ⊛ raw (ensured 𝓤 H A eo.ended (eo.clauses 𝓤 H A mem run) tt (place, tt) tt j)))) (id⊢ 𝓤 _) $ await ! tt $ pick ! (λ j₆.
         split ! $ move ! (1 ∷ []) $ use1 W (raw (fact 𝓤 (j₆ ≡ place .end))) (said-end j₆) $ heard ! (j₆ ≡ place .end) (λ e₆. split ! $ drop ! $ rewrite ! 0 (λ (j : ℕ). ‵ (usize .own j (w₆ ∷ []))) e₆ refl $
@@ -318,7 +318,7 @@ module _ {M : Type 1} (𝓤 : URA M) (H : Heap 𝓤) (A : Atoms 𝓤) (W : Given
         -- [the array, lent; the lender's part; its token; the tape's token; tape; the table's token; pools; _14 at 7; …]
         move ! (4 ∷ []) $ use1 W (Tape ⊛ Tape) (shr-slice-copy 𝓤 H A W (named 1) κ₂ u8 .twice t (s₂ ∷ [])) $ split ! $
         move ! (0 ∷ 2 ∷ []) $ join ! $ move ! (6 ∷ 0 ∷ []) $ join ! $ move ! (4 ∷ 3 ∷ []) $ join ! $ move ! (4 ∷ 0 ∷ 1 ∷ []) $
-        use3 W (raw (Step 𝓤 H A mem run .pre (to-step l₈ ν δ))) (goes-step l₈ ν δ (book-its bk w₁ gb) (is₅ .1) (is₆ .1) (subst (λ (z : Place). (z .start ≤ z .end) × (z .end ≤ length (t .now))) (e .0) (e .1, e .2))) $
+        use3 W (raw (Step 𝓤 H A mem run .pre (to-step l₈ ν δ))) (goes-step l₈ ν δ (book-value .its bk w₁ gb) (is₅ .1) (is₆ .1) (subst (λ (z : Place). (z .start ≤ z .end) × (z .end ≤ length (t .now))) (e .0) (e .1, e .2))) $
         -- [what the frame call asks; tape; the lender's part; _14 at 3; …; _12 at 7; _11 at 9; …; _9 at 13; that _8 dies at 15; _7 at 16; _6 at 18; _5 at 20; _4 at 22; _3 at 24; _2 at 26; _1 at 28; _0 at 30]
         calls-at ! (fmOf 𝓤 H (W .laws) 𝓣) (Step 𝓤 H A mem run) known-step (to-step l₈ ν δ)
         (and-then ! (load ! (from ! (stop !)) (look ! 20 refl)) (and-then ! (load ! (from ! (stop !)) (look ! 9 refl)) (and-then ! (load ! (from ! (stop !)) (look ! 24 refl)) (and-then ! (load ! (from ! (stop !)) (look ! 18 refl))
@@ -329,31 +329,31 @@ module _ {M : Type 1} (𝓤 : URA M) (H : Heap 𝓤) (A : Atoms 𝓤) (W : Given
         split ! $ move ! (1 ∷ []) $ heard ! (Stepping r₂ zs) (λ e₂. fsplit ! $ drop ! $ fsplit ! $ fsplit ! $ move ! (1 ∷ []) $ feqL ! (λ lp. move ! (1 ∷ []) $
         fsplit ! $ drop ! $ fsplit ! $ drop ! $ fsplit ! $ drop ! $ fsplit ! $ drop ! $ fsplit ! $ fsplit ! $ move ! (1 ∷ []) $ feqL ! (λ lo.
         -- [the last output; true; the last table; the tokens and the result; tape; the lender's part; _14 at 6; …]
-        move ! (3 ∷ []) $ split ! $ move ! (1 ∷ []) $ peeks ! SteppedR (Is SteppedR) (shows 𝓤 H A SteppedR) r₂ (w₂ ∷ []) (λ gs. land ! (from ! (stop !)) (init ! 17 refl (stepped-typed 𝓤 H A W r₂ w₂ gs)) $
-        rewrite ! 17 (λ (u : Val). ‵ (fat fullShare (τ 9) l₉ 0 u)) (stepped-is r₂ w₂ gs) refl $ drop ! $
+        move ! (3 ∷ []) $ split ! $ move ! (1 ∷ []) $ peeks ! SteppedR (Is SteppedR) (shows 𝓤 H A SteppedR) r₂ (w₂ ∷ []) (λ gs. land ! (from ! (stop !)) (init ! 17 refl (stepped-value .typed 𝓤 H A W r₂ w₂ gs)) $
+        rewrite ! 17 (λ (u : Val). ‵ (fat fullShare (τ 9) l₉ 0 u)) (stepped-value .is r₂ w₂ gs) refl $ drop ! $
         -- [the tokens; the last output; true; the last table; tape; the lender's part; _14 at 6; …]
         split ! $ move ! (1 ∷ []) $ split ! $ move ! (1 ∷ []) $ split ! $ lft-end ! tt $ move ! (0 ∷ 8 ∷ 4 ∷ []) $
         use3 W (later (‵ (Arr (memory.mem u8) (length zeros) .lies (zs .1 .1 .1 .1 .1 .1 .0) l₈ 0))) (slice-back 𝓤 H A W u8 (ν ∷ []) δ (zs .1 .1 .1 .1 .1 .1 .0) (length zeros) l₈ 0) $ await ! tt $ fsplit ! $ drop ! $
         use1 W (‵ (froom (τ 8) l₈ 0)) (elems-room u8 𝓤 H A W 217 l₈ (zs .1 .1 .1 .1 .1 .1 .0) (lo ∙ long)) $
         -- [room for _8; true; the tape's token; the table's token; true; the last table; tape; _14 at 7; …]
-        use0 W (raw (Counted 𝓤 H A mem run .pre (to-counted r₂))) (goes-counted r₂ (stepped-its r₂ w₂ gs) (place-its place w gp) small) $
+        use0 W (raw (Counted 𝓤 H A mem run .pre (to-counted r₂))) (goes-counted r₂ (stepped-value .its r₂ w₂ gs) (place-value .its place w gp) small) $
         -- [what `counted` asks; room for _8; …; _14 at 8; …; _9 at 18; that _8 dies at 20; _7 at 21; _6 at 23; _5 at 25; _4 at 27; _3 at 29; _2 at 31; _1 at 33; _0 at 35]
         calls-at ! (fmOf 𝓤 H (W .laws) 𝓣) (Counted 𝓤 H A mem run) known-counted (to-counted r₂)
         (and-then ! (load ! (from ! (stop !)) (look ! 33 refl)) (and-then ! (load ! (from ! (stop !)) (look ! 18 refl)) (and-then ! (load ! (from ! (stop !)) (look ! 27 refl)) (no-more !)))) (λ w₃.
         use1 W (later (some (λ (r₃ : Going). (‵ ftrue ⊛ ‵ (GoingR .own r₃ (w₃ ∷ []))) ⊛ raw (ensured 𝓤 H A ct.ended (ct.clauses 𝓤 H A mem run) tt (g, (r₂, (place, tt))) tt r₃)))) (id⊢ 𝓤 _) $ await ! tt $ pick ! (λ r₃.
         split ! $ move ! (1 ∷ []) $ use1 W (raw (fact 𝓤 (Gone r₂ r₃))) (said-counted r₂ r₃) $ heard ! (Gone r₂ r₃) (λ e₃. split ! $ drop ! $
-        peeks ! GoingR (Is GoingR) (shows 𝓤 H A GoingR) r₃ (w₃ ∷ []) (λ gr. land ! (from ! (stop !)) (init ! 35 refl (going-typed 𝓤 H A W r₃ w₃ gr)) $ rewrite ! 35 (λ (u : Val). ‵ (fat fullShare (τ 0) l₀ 0 u)) (going-is r₃ w₃ gr) refl $ drop ! $
+        peeks ! GoingR (Is GoingR) (shows 𝓤 H A GoingR) r₃ (w₃ ∷ []) (λ gr. land ! (from ! (stop !)) (init ! 35 refl (going-value .typed 𝓤 H A W r₃ w₃ gr)) $ rewrite ! 35 (λ (u : Val). ‵ (fat fullShare (τ 0) l₀ 0 u)) (going-value .is r₃ w₃ gr) refl $ drop ! $
         -- [room for _8; true; the tape's token; the table's token; true; the last table; tape; _14 at 7; …; _9 at 17; that _8 dies at 19; _7 at 20; …; _0 at 34]
         returns ! (look ! 34 refl) $ forget ! 7 refl $ forget ! 9 refl $ forget ! 11 refl $ forget ! 13 refl $ forget ! 15 refl $ forget ! 17 refl $ forget ! 20 refl $ forget ! 22 refl $ forget ! 24 refl $ forget ! 26 refl $ forget ! 28 refl $ forget ! 30 refl $ forget ! 32 refl $ forget ! 34 refl $
         move ! (34 ∷ 35 ∷ []) $ free1 ! $ move ! (32 ∷ 33 ∷ []) $ free1 ! $ move ! (30 ∷ 31 ∷ []) $ free1 ! $ move ! (28 ∷ 29 ∷ []) $ free1 ! $ move ! (26 ∷ 27 ∷ []) $ free1 ! $ move ! (24 ∷ 25 ∷ []) $ free1 ! $ move ! (22 ∷ 23 ∷ []) $ free1 ! $ move ! (20 ∷ 21 ∷ []) $ free1 ! $ move ! (0 ∷ 19 ∷ []) $ free1 ! $
         move ! (16 ∷ 17 ∷ []) $ free1 ! $ move ! (14 ∷ 15 ∷ []) $ free1 ! $ move ! (12 ∷ 13 ∷ []) $ free1 ! $ move ! (10 ∷ 11 ∷ []) $ free1 ! $ move ! (8 ∷ 9 ∷ []) $ free1 ! $ move ! (6 ∷ 7 ∷ []) $ free1 ! $ free0 ! $
-        by ! (exits r₃ (zs .1 .0) (turned (t .now) g ys midnight zeros r₂ (zs .1 .0) (zs .1 .1 .1 .1 .1 .1 .0) long e₂ r₃ e₃) (going-its r₃ w₃ gr) lp)))))))))))))))))))))))))))))))))))))))))))))
+        by ! (exits r₃ (zs .1 .0) (turned (t .now) g ys midnight zeros r₂ (zs .1 .0) (zs .1 .1 .1 .1 .1 .1 .0) long e₂ r₃ e₃) (going-value .its r₃ w₃ gr) lp)))))))))))))))))))))))))))))))))))))))))))))
 
 module _ {M : Type 1} (𝓤 : URA M) (H : Heap 𝓤) (A : Atoms 𝓤) (W : Given 𝓤 H A) (mem : Memory → SProp 𝓤) (run : Routine → Fun 𝓤) where
   put-frame-walks : (𝓣 : Tables 𝓤 H) → Triple 𝓤 (𝓣 .C #day·frame-after) (After 𝓤 H A mem run) → Triple 𝓤 (𝓣 .C #day·book-of) (BookOf 𝓤 H A mem run) → Triple 𝓤 (𝓣 .C #day·start-of) (StartOf 𝓤 H A mem run) → Triple 𝓤 (𝓣 .C #day·end-of) (EndOf 𝓤 H A mem run) → Triple 𝓤 (𝓣 .C #table-step·step-part) (Step 𝓤 H A mem run) → Triple 𝓤 (𝓣 .C #day·counted) (Counted 𝓤 H A mem run)
       → Walks 𝓤 H A f.ended stayed (WpFn 𝓤 H (𝓣 .C) (𝓣 .Λ) code.function) (f.clauses 𝓤 H A mem run)
   put-frame-walks 𝓣 known-after known-book known-start known-end known-step known-counted = walked 𝓤 H A f.ended stayed (f.clauses 𝓤 H A mem run) (WpFn 𝓤 H (𝓣 .C) (𝓣 .Λ) code.function)
-      (λ κs. (goingVals, (slice-vals, (slice-vals, tt)))) (λ κs. (going-tells, (mut-slice-tells (named 0) (κs .0) R, (shr-slice-tells (named 1) (κs .1 .0) u8, tt))))
+      (λ κs. (goingVals, (slice-vals, (slice-vals, tt)))) (λ κs. (going-value .tells, (mut-slice-tells (named 0) (κs .0) R, (shr-slice-tells (named 1) (κs .1 .0) u8, tt))))
       (λ κs qs bounds a g are. needs 𝓤 ((a .0 .day .accepted < 2 ^ 63) × (a .0 .day .others < 2 ^ 63)) _
       (walk 𝓤 H A W mem run (κs .0) (κs .1 .0) (qs .0) (qs .1 .0) (a .0) (are .0) (a .1 .0 .ptr .0) (a .1 .0 .ptr .1) (a .1 .0 .name) (a .1 .0 .now) (a .1 .1 .0)
       𝓣 known-after known-book known-start known-end known-step known-counted (are .1 .0 .0 .1) (are .1 .1 .0 .0 .1)))

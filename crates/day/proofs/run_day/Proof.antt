@@ -49,8 +49,8 @@ use Rattle.day.specs.declared.Going.{Going}
 use Rattle.day.specs.Turns.{framesIn, begunOf, turn, turns}
 use Rattle.day.proofs.Counting.{frames-at-most}
 use Rattle.day.proofs.Turning.{accepted-at-most, others-at-most, passes}
-use Rattle.table_rows.proofs.Values.{BookR, bookVal, bookVals, book-tells, book-makes, book-typed}
-use Rattle.day.proofs.Values.{DayR, dayVal, day-makes, day-typed, GoingR, goingVal, goingVals, going-makes, going-typed, going-is, going-its, day-of}
+use Rattle.table_rows.proofs.Values.{BookR, bookVal, bookVals, book-value}
+use Rattle.day.proofs.Values.{DayR, dayVal, day-value, GoingR, goingVal, goingVals, going-value, day-of}
 use Rattle.day.proofs.frames_in as fi
 use Rattle.day.proofs.frames_in.Symbol as frames-def
 use Rattle.day.proofs.frames_in.Symbol.{name as #day·frames-in}
@@ -142,8 +142,8 @@ module _ {M : Type 1} (𝓤 : URA M) (H : Heap 𝓤) (A : Atoms 𝓤) (W : Given
   exits e =
       qed W (Table κ γ (ps count) n ∷ ‵ (flft κ q) ∷ Token ∷ Tape ∷ []) ∵
       suffices ! _ (ends-at 𝓤 H A f.ended stayed (f.clauses 𝓤 H A mem run) W bound (dayVal (g count .day)) (g count .day) (tt, (ps count, (tt, tt))) (tt, (e .0, (tt, tt)))) $ says ! (passes (t .now) bk ys) $
-      move ! (1 ∷ 2 ∷ []) $ join ! $ frame ! $ nothing ! $ move ! (2 ∷ 0 ∷ []) $ fjoin ! $ move ! (1 ∷ 0 ∷ []) $ fjoin ! $ owned ! BookR (Is BookR) (book-makes 𝓤 H A) bk _ gb $ fjoin ! $ frame ! $
-      owned ! DayR (Is DayR) (day-makes 𝓤 H A) (g count .day) _ (day-of (g count) (e .1)) $ done !
+      move ! (1 ∷ 2 ∷ []) $ join ! $ frame ! $ nothing ! $ move ! (2 ∷ 0 ∷ []) $ fjoin ! $ move ! (1 ∷ 0 ∷ []) $ fjoin ! $ owned ! BookR (Is BookR) (book-value .makes 𝓤 H A) bk _ gb $ fjoin ! $ frame ! $
+      owned ! DayR (Is DayR) (day-value .makes 𝓤 H A) (g count .day) _ (day-of (g count) (e .1)) $ done !
 
   -- what each callee's triple binds outside, that the caller has what it asks, and what is known of its result
   abbrev to-frames : Frames 𝓤 H A mem run .Ghost
@@ -159,7 +159,7 @@ module _ {M : Type 1} (𝓤 : URA M) (H : Heap 𝓤) (A : Atoms 𝓤) (W : Given
   to-begun = ((tt, tt, tt, (bk, tt), (bookVals bk, tt)), tt)
 
   goes-begun : ent 𝓤 (emp 𝓤) (Begun 𝓤 H A mem run .pre to-begun)
-  goes-begun = qed W [] ∵ nothing ! $ owned ! BookR (Is BookR) (book-makes 𝓤 H A) bk _ gb $ fjoin ! $ nothing ! $ join ! $ frame ! $ done !
+  goes-begun = qed W [] ∵ nothing ! $ owned ! BookR (Is BookR) (book-value .makes 𝓤 H A) bk _ gb $ fjoin ! $ nothing ! $ join ! $ frame ! $ done !
 
   said-begun : (r : Going) → ent 𝓤 (ensured 𝓤 H A bg.ended (bg.clauses 𝓤 H A mem run) tt (bk, tt) tt r) (fact 𝓤 (r ≡ begunOf bk))
   said-begun r = exE 𝓤 _ (λ zs. snd∗ 𝓤 (sem 𝓤 H A (lasts bg.ended tt (bk, tt) zs)) (fact 𝓤 (r ≡ begunOf bk)))
@@ -171,7 +171,7 @@ module _ {M : Type 1} (𝓤 : URA M) (H : Heap 𝓤) (A : Atoms 𝓤) (W : Given
       → ent 𝓤 (⋆ 𝓤 H A (‵ (flft (ν ∷ []) fullShare) ∷ Token ∷ (Table (ν ∷ []) δ (ps i) n ⊛ Tape) ∷ [])) (PutFrame 𝓤 H A mem run .pre (to-put i ν δ))
   goes-put i ν δ gg small =
       qed W (‵ (flft (ν ∷ []) fullShare) ∷ Token ∷ (Table (ν ∷ []) δ (ps i) n ⊛ Tape) ∷ []) ∵ says ! small $ join ! $ frame ! $ split ! $
-      nothing ! $ move ! (2 ∷ 0 ∷ []) $ fjoin ! $ move ! (1 ∷ 0 ∷ []) $ fjoin ! $ owned ! GoingR (Is GoingR) (going-makes 𝓤 H A) (g i) _ gg $ fjoin ! $ done !
+      nothing ! $ move ! (2 ∷ 0 ∷ []) $ fjoin ! $ move ! (1 ∷ 0 ∷ []) $ fjoin ! $ owned ! GoingR (Is GoingR) (going-value .makes 𝓤 H A) (g i) _ gg $ fjoin ! $ done !
 
   module _ (𝓣 : Tables 𝓤 H) (known-frames : Triple 𝓤 (𝓣 .C #day·frames-in) (Frames 𝓤 H A mem run)) (known-begun : Triple 𝓤 (𝓣 .C #day·begun) (Begun 𝓤 H A mem run)) (known-put : Triple 𝓤 (𝓣 .C #day·put-frame) (PutFrame 𝓤 H A mem run)) (room : Room R n) (room₂ : Room u8 (length (t .now))) where
     few : count < 2 ^ 63
@@ -216,14 +216,14 @@ module _ {M : Type 1} (𝓤 : URA M) (H : Heap 𝓤) (A : Atoms 𝓤) (W : Given
           -- [the last table; true; the tokens and the result; tape; what is kept of pools; _9 at 5; …]
           move ! (2 ∷ []) $ split ! $ move ! (1 ∷ []) $ rewrite ! 0 (λ (z : Going). ‵ (GoingR .own z (w ∷ []))) (is .0) refl $
           peeks ! GoingR (Is GoingR) (shows 𝓤 H A GoingR) (g (suc i)) (w ∷ []) (λ gr.
-          land ! (from ! (stop !)) (store ! 14 refl (going-typed 𝓤 H A W (g (suc i)) w gr)) $ rewrite ! 14 (λ (u : Val). ‵ (fat fullShare (τ 5) l₅ 0 u)) (going-is (g (suc i)) w gr) refl $ drop ! $
+          land ! (from ! (stop !)) (store ! 14 refl (going-value .typed 𝓤 H A W (g (suc i)) w gr)) $ rewrite ! 14 (λ (u : Val). ‵ (fat fullShare (τ 5) l₅ 0 u)) (going-value .is (g (suc i)) w gr) refl $ drop ! $
           -- [the tokens; the last table; true; tape; what is kept of pools; _9 at 5; …]
           split ! $ lft-end ! tt $ move ! (0 ∷ 5 ∷ 2 ∷ []) $ use3 W (later (Table κ γ (zs .1 .0) (length (ps i)) ⊛ ‵ (flft κ q))) (mut-back R κ (ν ∷ []) q γ b o 𝓤 H A W (named 0) (named 0) (ps i) δ (zs .1 .0) (subst (Room R) (sym (e .0)) room) lz) $ await ! tt $ split ! $
           move ! (3 ∷ []) $ drop ! $ rewrite ! 0 (λ (z : List Pool). Table κ γ z (length (ps i))) (is .1) refl $ rewrite ! 0 (λ (m : ℕ). Table κ γ (ps (suc i)) m) (e .0) refl $
           -- [pools; its token; the tape's token; tape; _9 at 4; …]
           assigns-last ! (bin ! (load ! (from ! (stop !)) (look ! 10 refl)) (lit ! tt) (record { fits = next })) (from ! (stop !)) (store ! 10 refl (tt, record { fits = next })) $
           forget ! 4 refl $ forget ! 6 refl $ forget ! 8 refl $ rewrite ! 10 (λ (j : ℕ). ‵ (fat fullShare (τ 6) l₆ 0 (vint w64 j))) (one-more i) refl $
-          by ! (k (ap length (sym (is .1)) ∙ lz ∙ e .0, going-its (g (suc i)) w gr))))))))))
+          by ! (k (ap length (sym (is .1)) ∙ lz ∙ e .0, going-value .its (g (suc i)) w gr))))))))))
         where
           low : (m : ℕ) → m ≤ i → m < 2 ^ 63
           low m l = omega (arith, l, small, few)
@@ -237,7 +237,7 @@ module _ {M : Type 1} (𝓤 : URA M) (H : Heap 𝓤) (A : Atoms 𝓤) (W : Given
           qed W (At count) ∵ exec ! (𝓣 .C) (𝓣 .Λ) En body.turn-1 (anyQ (afterTurn 𝓤 H X Left)) $
           assigns ! (bin ! (load ! (from ! (stop !)) (look ! 10 refl)) (load ! (from ! (stop !)) (look ! 14 refl)) tt) (from ! (stop !)) (init ! 8 refl (tt, tt)) $
           rewrite ! 8 (λ (z : Bool). ‵ (fat fullShare tyBool l₇ 0 (vbool z))) (fails (ltb count count) (λ z. lt-irrefl count (ltb→lt count count z))) refl $ leaves-loop ! (load ! (from ! (stop !)) (look ! 8 refl)) $
-          exec ! (𝓣 .C) (𝓣 .Λ) En body.t-5 (atRet En Post) $ assigns ! (of-opd ! (load ! (from ! (fld ! refl (stop !))) (look-in ! 12 (sub ! 0 refl (whole !))))) (from ! (stop !)) (init ! 22 refl (day-typed 𝓤 H A W (g count .day) _ (day-of (g count) (e .1)))) $
+          exec ! (𝓣 .C) (𝓣 .Λ) En body.t-5 (atRet En Post) $ assigns ! (of-opd ! (load ! (from ! (fld ! refl (stop !))) (look-in ! 12 (sub ! 0 refl (whole !))))) (from ! (stop !)) (init ! 22 refl (day-value .typed 𝓤 H A W (g count .day) _ (day-of (g count) (e .1)))) $
           returns ! (look ! 22 refl) $ forget ! 8 refl $ forget ! 10 refl $ forget ! 12 refl $ forget ! 14 refl $ forget ! 16 refl $ forget ! 18 refl $ forget ! 20 refl $ forget ! 22 refl $
           move ! (22 ∷ 23 ∷ []) $ free1 ! $ move ! (20 ∷ 21 ∷ []) $ free1 ! $ move ! (18 ∷ 19 ∷ []) $ free1 ! $ move ! (16 ∷ 17 ∷ []) $ free1 ! $ move ! (14 ∷ 15 ∷ []) $ free1 ! $ move ! (12 ∷ 13 ∷ []) $ free1 ! $
           move ! (10 ∷ 11 ∷ []) $ free1 ! $ move ! (8 ∷ 9 ∷ []) $ free1 ! $ move ! (6 ∷ 7 ∷ []) $ free1 ! $ move ! (4 ∷ 5 ∷ []) $ free1 ! $ free0 ! $ by ! (exits e)
@@ -251,7 +251,7 @@ module _ {M : Type 1} (𝓤 : URA M) (H : Heap 𝓤) (A : Atoms 𝓤) (W : Given
     walk =
         qed W ((‵ (flft κ q) ⊛ Token) ∷ ‵ (owns (BookR ∷ MutSlice (named 0) κ R ∷ ShrSlice (named 1) κ₂ u8 ∷ []) a at) ∷ []) ∵ enter ! (𝓣 .C) (𝓣 .Λ) code.function (bookVal bk ∷ s ∷ s₂ ∷ []) _ $
         alloc1 ! (λ l₀. alloc1 ! (λ l₁. alloc1 ! (λ l₂. alloc1 ! (λ l₃. alloc1 ! (λ l₄. alloc1 ! (λ l₅. alloc1 ! (λ l₆. alloc1 ! (λ l₇. alloc1 ! (λ l₈. alloc1 ! (λ l₉. alloc0 ! $ params1 ! $
-        pass1 ! (init ! 16 refl (book-typed 𝓤 H A W bk _ gb)) $ pass1 ! (init ! 14 refl (tt, (tt, (record { fits = room .0 }, tt)))) $ pass1 ! (init ! 12 refl (tt, (tt, (record { fits = room₂ .0 }, tt)))) $ pass0 ! $
+        pass1 ! (init ! 16 refl (book-value .typed 𝓤 H A W bk _ gb)) $ pass1 ! (init ! 14 refl (tt, (tt, (record { fits = room .0 }, tt)))) $ pass1 ! (init ! 12 refl (tt, (tt, (record { fits = room₂ .0 }, tt)))) $ pass0 ! $
         -- [_9; …; _0; …; the tokens; what the parameters own]
         move ! (21 ∷ []) $ fsplit ! $ drop ! $ fsplit ! $ move ! (1 ∷ []) $ fsplit ! $ move ! (1 ∷ []) $ drop ! $ move ! (22 ∷ []) $ split ! $ move ! (3 ∷ 0 ∷ 1 ∷ 2 ∷ []) $
         -- [pools; its token; the tape's token; tape; _9 at 4; …; _4 at 14; _3 at 16; _2 at 18; _1 at 20; _0 at 22]
@@ -266,15 +266,15 @@ module _ {M : Type 1} (𝓤 : URA M) (H : Heap 𝓤) (A : Atoms 𝓤) (W : Given
         calls-at ! (fmOf 𝓤 H (W .laws) 𝓣) (Begun 𝓤 H A mem run) known-begun to-begun (and-then ! (load ! (from ! (stop !)) (look ! 21 refl)) (no-more !)) (λ w₂.
         use1 W (later (some (λ (r₂ : Going). (‵ ftrue ⊛ ‵ (GoingR .own r₂ (w₂ ∷ []))) ⊛ raw (ensured 𝓤 H A bg.ended (bg.clauses 𝓤 H A mem run) tt (bk, tt) tt r₂)))) (id⊢ 𝓤 _) $ await ! tt $ pick ! (λ r₂.
         split ! $ move ! (1 ∷ []) $ use1 W (raw (fact 𝓤 (r₂ ≡ begunOf bk))) (said-begun r₂) $ heard ! (r₂ ≡ begunOf bk) (λ e₂. split ! $ drop ! $ rewrite ! 0 (λ (z : Going). ‵ (GoingR .own z (w₂ ∷ []))) e₂ refl $
-        peeks ! GoingR (Is GoingR) (shows 𝓤 H A GoingR) (begunOf bk) (w₂ ∷ []) (λ gr. land ! (from ! (stop !)) (init ! 13 refl (going-typed 𝓤 H A W (begunOf bk) w₂ gr)) $ rewrite ! 13 (λ (u : Val). ‵ (fat fullShare (τ 5) l₅ 0 u)) (going-is (begunOf bk) w₂ gr) refl $ drop ! $
+        peeks ! GoingR (Is GoingR) (shows 𝓤 H A GoingR) (begunOf bk) (w₂ ∷ []) (λ gr. land ! (from ! (stop !)) (init ! 13 refl (going-value .typed 𝓤 H A W (begunOf bk) w₂ gr)) $ rewrite ! 13 (λ (u : Val). ‵ (fat fullShare (τ 5) l₅ 0 u)) (going-value .is (begunOf bk) w₂ gr) refl $ drop ! $
         assigns ! (of-opd ! (lit ! tt)) (from ! (stop !)) (init ! 10 refl (tt, record { fits = lit< tt })) $ move ! (2 ∷ 3 ∷ 0 ∷ 1 ∷ []) $
-        by ! (loops l₀ l₁ l₂ l₃ l₄ l₅ l₆ l₇ l₈ l₉ (refl, going-its (begunOf bk) w₂ gr))))))))))))))))))))
+        by ! (loops l₀ l₁ l₂ l₃ l₄ l₅ l₆ l₇ l₈ l₉ (refl, going-value .its (begunOf bk) w₂ gr))))))))))))))))))))
 
 module _ {M : Type 1} (𝓤 : URA M) (H : Heap 𝓤) (A : Atoms 𝓤) (W : Given 𝓤 H A) (mem : Memory → SProp 𝓤) (run : Routine → Fun 𝓤) where
   run-day-walks : (𝓣 : Tables 𝓤 H) → Triple 𝓤 (𝓣 .C #day·frames-in) (Frames 𝓤 H A mem run) → Triple 𝓤 (𝓣 .C #day·begun) (Begun 𝓤 H A mem run) → Triple 𝓤 (𝓣 .C #day·put-frame) (PutFrame 𝓤 H A mem run)
       → Walks 𝓤 H A f.ended stayed (WpFn 𝓤 H (𝓣 .C) (𝓣 .Λ) code.function) (f.clauses 𝓤 H A mem run)
   run-day-walks 𝓣 known-frames known-begun known-put = walked 𝓤 H A f.ended stayed (f.clauses 𝓤 H A mem run) (WpFn 𝓤 H (𝓣 .C) (𝓣 .Λ) code.function)
-      (λ κs. (bookVals, (slice-vals, (slice-vals, tt)))) (λ κs. (book-tells, (mut-slice-tells (named 0) (κs .0) R, (shr-slice-tells (named 1) (κs .1 .0) u8, tt))))
+      (λ κs. (bookVals, (slice-vals, (slice-vals, tt)))) (λ κs. (book-value .tells, (mut-slice-tells (named 0) (κs .0) R, (shr-slice-tells (named 1) (κs .1 .0) u8, tt))))
       (λ κs qs bounds a g are. via 𝓤 _ (fst∗ 𝓤 _ (emp 𝓤))
       (walk 𝓤 H A W mem run (κs .0) (κs .1 .0) (qs .0) (qs .1 .0) (a .0) (are .0) (a .1 .0 .ptr .0) (a .1 .0 .ptr .1) (a .1 .0 .name) (a .1 .0 .now) (a .1 .1 .0)
       𝓣 known-frames known-begun known-put (are .1 .0 .0 .1) (are .1 .1 .0 .0 .1)))

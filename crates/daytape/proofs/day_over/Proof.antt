@@ -56,14 +56,14 @@ use Rattle.calls.specs.declared.Opened.{Opened}
 use Rattle.calls.specs.declared.Figures.{Figures}
 use Rattle.day.specs.declared.Day.{Day}
 use Rattle.day.specs.Days.{Passes}
-use Rattle.table_rows.proofs.Values.{BookR, bookVals, book-makes, book-typed}
-use Rattle.day.proofs.Values.{book-is, book-its, DayR, dayVals, day-makes, day-typed, day-is, day-its}
-use Rattle.table_open.proofs.MachineValues.{ValuesR, valuesVal, valuesVals, values-tells, values-makes, values-typed, OpenedR, openedVals, opened-makes, opened-typed, opened-is, opened-its}
-use Rattle.table_figures.proofs.MachineValues.{FiguresR, figuresVals, figures-makes, figures-typed, figures-is, figures-its}
+use Rattle.table_rows.proofs.Values.{BookR, bookVals, book-value}
+use Rattle.day.proofs.Values.{DayR, dayVals, day-value}
+use Rattle.table_open.proofs.MachineValues.{ValuesR, valuesVal, valuesVals, values-value, OpenedR, openedVals, opened-value}
+use Rattle.table_figures.proofs.MachineValues.{FiguresR, figuresVals, figures-value}
 use Rattle.daytape.specs.declared.Report.{Report}
 use Rattle.daytape.specs.Program.{reportOf, ReportsOver}
 use Rattle.daytape.proofs.Given.{noPools, no-pools-are, no-pools-long, reports}
-use Rattle.daytape.proofs.MachineValues.{ReportR, reportVal, reportVals, report-makes, report-typed, report-is, report-its}
+use Rattle.daytape.proofs.MachineValues.{ReportR, reportVal, reportVals, report-value}
 use Rattle.table_load.proofs.none as np
 use Rattle.table_load.proofs.none.Symbol as none-def
 use Rattle.table_load.proofs.none.Symbol.{name as #table-load·none}
@@ -187,7 +187,7 @@ module _ {M : Type 1} (𝓤 : URA M) (H : Heap 𝓤) (A : Atoms 𝓤) (W : Given
   exits r gr e =
       qed W (‵ ftrue ∷ Token ∷ Tape ∷ []) ∵ suffices ! _ (ends-at 𝓤 H A f.ended stayed (f.clauses 𝓤 H A mem run) W bound (reportVal r) r (tt, (tt, tt)) (tt, (tt, tt))) $ says ! e $
       drop ! $ frame ! $ drop ! $ nothing ! $ nothing ! $ fjoin ! $ nothing ! $ fjoin ! $ frame ! $
-      owned ! ReportR (Is ReportR) (report-makes 𝓤 H A) r _ gr $ done !
+      owned ! ReportR (Is ReportR) (report-value .makes 𝓤 H A) r _ gr $ done !
 
   -- what each callee's triple binds outside, that the caller has what it asks, and what is known of its result
   abbrev to-none : None 𝓤 H A mem run .Ghost
@@ -204,14 +204,14 @@ module _ {M : Type 1} (𝓤 : URA M) (H : Heap 𝓤) (A : Atoms 𝓤) (W : Given
 
   goes-open : (l ν : ℕ) (δ : GName) → Is ValuesR v (valuesVals v) → ent 𝓤 (⋆ 𝓤 H A (‵ (flft (ν ∷ []) fullShare) ∷ Lent l ν δ ys 512 ∷ [])) (Open 𝓤 H A mem run .pre (to-open l ν δ))
   goes-open l ν δ gv =
-      qed W (‵ (flft (ν ∷ []) fullShare) ∷ Lent l ν δ ys 512 ∷ []) ∵ nothing ! $ move ! (2 ∷ 0 ∷ []) $ fjoin ! $ owned ! ValuesR (Is ValuesR) (values-makes 𝓤 H A) v _ gv $ fjoin ! $
+      qed W (‵ (flft (ν ∷ []) fullShare) ∷ Lent l ν δ ys 512 ∷ []) ∵ nothing ! $ move ! (2 ∷ 0 ∷ []) $ fjoin ! $ owned ! ValuesR (Is ValuesR) (values-value .makes 𝓤 H A) v _ gv $ fjoin ! $
       nothing ! $ move ! (2 ∷ 0 ∷ []) $ join ! $ join ! $ frame ! $ done !
 
   abbrev to-opened : Opened → BookOpened 𝓤 H A mem run .Ghost
   to-opened r = ((tt, tt, tt, (r, tt), (openedVals r, tt)), tt)
 
   goes-opened : (r : Opened) → Is OpenedR r (openedVals r) → ent 𝓤 (emp 𝓤) (BookOpened 𝓤 H A mem run .pre (to-opened r))
-  goes-opened r gr = qed W [] ∵ nothing ! $ owned ! OpenedR (Is OpenedR) (opened-makes 𝓤 H A) r _ gr $ fjoin ! $ nothing ! $ join ! $ frame ! $ done !
+  goes-opened r gr = qed W [] ∵ nothing ! $ owned ! OpenedR (Is OpenedR) (opened-value .makes 𝓤 H A) r _ gr $ fjoin ! $ nothing ! $ join ! $ frame ! $ done !
 
   said-opened : (r : Opened) (b : Book) → ent 𝓤 (ensured 𝓤 H A bo.ended (bo.clauses 𝓤 H A mem run) tt (r, tt) tt b) (fact 𝓤 (b ≡ r .book))
   said-opened r b = exE 𝓤 _ (λ zs. snd∗ 𝓤 (sem 𝓤 H A (lasts bo.ended tt (r, tt) zs)) (fact 𝓤 (b ≡ r .book)))
@@ -223,13 +223,13 @@ module _ {M : Type 1} (𝓤 : URA M) (H : Heap 𝓤) (A : Atoms 𝓤) (W : Given
       → ent 𝓤 (⋆ 𝓤 H A (‵ (flft (ν ∷ []) fullShare) ∷ Token ∷ (Lent l ν δ ps 512 ⊛ Tape) ∷ [])) (RunDay 𝓤 H A mem run .pre (to-day l ν δ b ps))
   goes-day l ν δ b ps gb =
       qed W (‵ (flft (ν ∷ []) fullShare) ∷ Token ∷ (Lent l ν δ ps 512 ⊛ Tape) ∷ []) ∵ move ! (2 ∷ []) $ split ! $ nothing ! $ move ! (2 ∷ 0 ∷ []) $ fjoin ! $ move ! (1 ∷ 0 ∷ []) $ fjoin ! $
-      owned ! BookR (Is BookR) (book-makes 𝓤 H A) b _ gb $ fjoin ! $ move ! (1 ∷ 2 ∷ []) $ join ! $ join ! $ frame ! $ done !
+      owned ! BookR (Is BookR) (book-value .makes 𝓤 H A) b _ gb $ fjoin ! $ move ! (1 ∷ 2 ∷ []) $ join ! $ join ! $ frame ! $ done !
 
   abbrev to-after : Day → BookAfter 𝓤 H A mem run .Ghost
   to-after d = ((tt, tt, tt, (d, tt), (dayVals d, tt)), tt)
 
   goes-after : (d : Day) → Is DayR d (dayVals d) → ent 𝓤 (emp 𝓤) (BookAfter 𝓤 H A mem run .pre (to-after d))
-  goes-after d gd = qed W [] ∵ nothing ! $ owned ! DayR (Is DayR) (day-makes 𝓤 H A) d _ gd $ fjoin ! $ nothing ! $ join ! $ frame ! $ done !
+  goes-after d gd = qed W [] ∵ nothing ! $ owned ! DayR (Is DayR) (day-value .makes 𝓤 H A) d _ gd $ fjoin ! $ nothing ! $ join ! $ frame ! $ done !
 
   said-after : (d : Day) (b : Book) → ent 𝓤 (ensured 𝓤 H A ba.ended (ba.clauses 𝓤 H A mem run) tt (d, tt) tt b) (fact 𝓤 (b ≡ d .book))
   said-after d b = exE 𝓤 _ (λ zs. snd∗ 𝓤 (sem 𝓤 H A (lasts ba.ended tt (d, tt) zs)) (fact 𝓤 (b ≡ d .book)))
@@ -241,7 +241,7 @@ module _ {M : Type 1} (𝓤 : URA M) (H : Heap 𝓤) (A : Atoms 𝓤) (W : Given
       → ent 𝓤 (⋆ 𝓤 H A (‵ (flft (ν ∷ []) fullShare) ∷ Shared l ν δ ps 512 ∷ [])) (TableFigures 𝓤 H A mem run .pre (to-figures l ν δ b ps))
   goes-figures l ν δ b ps gb =
       qed W (‵ (flft (ν ∷ []) fullShare) ∷ Shared l ν δ ps 512 ∷ []) ∵ nothing ! $ owned ! usize (Is usize) (uint-makes 𝓤 H A W w64) 0 _ (refl, lit< tt) $ fjoin ! $ move ! (2 ∷ 0 ∷ []) $ fjoin ! $
-      owned ! BookR (Is BookR) (book-makes 𝓤 H A) b _ gb $ fjoin ! $ nothing ! $ move ! (2 ∷ 0 ∷ []) $ join ! $ join ! $ frame ! $ done !
+      owned ! BookR (Is BookR) (book-value .makes 𝓤 H A) b _ gb $ fjoin ! $ nothing ! $ move ! (2 ∷ 0 ∷ []) $ join ! $ join ! $ frame ! $ done !
 
   said-figures : (l ν : ℕ) (δ : GName) (b : Book) (ps : List Pool) (r : Figures) → ent 𝓤 (ensured 𝓤 H A tf.ended (tf.clauses 𝓤 H A mem run) (ν ∷ [], tt) (b, (x l δ ps, (0, tt))) tt r) (fact 𝓤 (Says b ps 0 r))
   said-figures l ν δ b ps r = exE 𝓤 _ (λ zs. snd∗ 𝓤 (sem 𝓤 H A (lasts tf.ended (ν ∷ [], tt) (b, (x l δ ps, (0, tt))) zs)) (fact 𝓤 (Says b ps 0 r)))
@@ -251,7 +251,7 @@ module _ {M : Type 1} (𝓤 : URA M) (H : Heap 𝓤) (A : Atoms 𝓤) (W : Given
 
   goes-report : (d : Day) (g : Figures) → Is DayR d (dayVals d) → Is FiguresR g (figuresVals g) → ent 𝓤 (emp 𝓤) (MakeReport 𝓤 H A mem run .pre (to-report d g))
   goes-report d g gd gg =
-      qed W [] ∵ nothing ! $ owned ! FiguresR (Is FiguresR) (figures-makes 𝓤 H A) g _ gg $ fjoin ! $ owned ! DayR (Is DayR) (day-makes 𝓤 H A) d _ gd $ fjoin ! $ nothing ! $ join ! $ frame ! $ done !
+      qed W [] ∵ nothing ! $ owned ! FiguresR (Is FiguresR) (figures-value .makes 𝓤 H A) g _ gg $ fjoin ! $ owned ! DayR (Is DayR) (day-value .makes 𝓤 H A) d _ gd $ fjoin ! $ nothing ! $ join ! $ frame ! $ done !
 
   said-report : (d : Day) (g : Figures) (r : Report) → ent 𝓤 (ensured 𝓤 H A rp.ended (rp.clauses 𝓤 H A mem run) tt (d, (g, tt)) tt r) (fact 𝓤 (r ≡ reportOf d g))
   said-report d g r = exE 𝓤 _ (λ zs. snd∗ 𝓤 (sem 𝓤 H A (lasts rp.ended tt (d, (g, tt)) zs)) (fact 𝓤 (r ≡ reportOf d g)))
@@ -261,7 +261,7 @@ module _ {M : Type 1} (𝓤 : URA M) (H : Heap 𝓤) (A : Atoms 𝓤) (W : Given
     walk gv room₂ =
         qed W (Token ∷ ‵ (owns (ValuesR ∷ ShrSlice (named 0) κ u8 ∷ []) a at) ∷ []) ∵ enter ! (𝓣 .C) (𝓣 .Λ) code.function (valuesVal v ∷ s₂ ∷ []) _ $
         alloc1 ! (λ l₀. alloc1 ! (λ l₁. alloc1 ! (λ l₂. alloc1 ! (λ l₃. alloc1 ! (λ l₄. alloc1 ! (λ l₅. alloc1 ! (λ l₆. alloc1 ! (λ l₇. alloc1 ! (λ l₈. alloc1 ! (λ l₉. alloc1 ! (λ l₁₀. alloc1 ! (λ l₁₁. alloc1 ! (λ l₁₂. alloc1 ! (λ l₁₃. alloc1 ! (λ l₁₄. alloc1 ! (λ l₁₅. alloc0 ! $ params1 ! $
-        pass1 ! (init ! 28 refl (values-typed 𝓤 H A W v _ gv)) $ pass1 ! (init ! 26 refl (tt, (tt, (record { fits = room₂ .0 }, tt)))) $ pass0 ! $
+        pass1 ! (init ! 28 refl (values-value .typed 𝓤 H A W v _ gv)) $ pass1 ! (init ! 26 refl (tt, (tt, (record { fits = room₂ .0 }, tt)))) $ pass0 ! $
         -- [_15; …; _0; …; the token; what the parameters own]
         move ! (33 ∷ []) $ fsplit ! $ drop ! $ fsplit ! $ move ! (1 ∷ []) $ drop ! $ move ! (33 ∷ []) $
         -- [the token; tape; _15 at 2; …; _4 at 24; _3 at 26; _2 at 28; _1 at 30; _0 at 32]
@@ -283,15 +283,15 @@ module _ {M : Type 1} (𝓤 : URA M) (H : Heap 𝓤) (A : Atoms 𝓤) (W : Given
         split ! $ move ! (1 ∷ []) $ use1 W (some (λ (zs : Unit {0} × (List Pool × Unit {0})). ‵ (lasts ot.ended (ν ∷ [], tt) (v, (x l₄ δ ys, tt)) zs) ⊛ raw (fact 𝓤 (Opens v ys r₁ (zs .1 .0))))) (id⊢ 𝓤 _) $ pick ! (λ zs.
         split ! $ move ! (1 ∷ []) $ heard ! (Opens v ys r₁ (zs .1 .0)) (λ e₁. fsplit ! $ drop ! $ fsplit ! $ fsplit ! $ move ! (1 ∷ []) $ feqL ! (λ lz.
         -- [the last table; true; the token and the result; the lender's part; the tape's token; tape; _15 at 6; …]
-        move ! (2 ∷ []) $ split ! $ move ! (1 ∷ []) $ peeks ! OpenedR (Is OpenedR) (shows 𝓤 H A OpenedR) r₁ (w₁ ∷ []) (λ go. land ! (from ! (stop !)) (init ! 27 refl (opened-typed 𝓤 H A W r₁ w₁ go)) $
-        rewrite ! 27 (λ (u : Val). ‵ (fat fullShare (τ 5) l₅ 0 u)) (opened-is r₁ w₁ go) refl $ drop ! $ split ! $ lft-end ! tt $ move ! (0 ∷ 4 ∷ 2 ∷ []) $
+        move ! (2 ∷ []) $ split ! $ move ! (1 ∷ []) $ peeks ! OpenedR (Is OpenedR) (shows 𝓤 H A OpenedR) r₁ (w₁ ∷ []) (λ go. land ! (from ! (stop !)) (init ! 27 refl (opened-value .typed 𝓤 H A W r₁ w₁ go)) $
+        rewrite ! 27 (λ (u : Val). ‵ (fat fullShare (τ 5) l₅ 0 u)) (opened-value .is r₁ w₁ go) refl $ drop ! $ split ! $ lft-end ! tt $ move ! (0 ∷ 4 ∷ 2 ∷ []) $
         use3 W (later (‵ (Arr (memory.mem R) (length ys) .lies (zs .1 .0) l₄ 0))) (slice-back 𝓤 H A W R (ν ∷ []) δ (zs .1 .0) (length ys) l₄ 0) $ await ! tt $ fsplit ! $ drop ! $ move ! (1 ∷ []) $ drop ! $ move ! (1 ∷ []) $ drop ! $
         -- [the table; the tape's token; tape; _15 at 3; …; _13 at 7; _12 at 9; …; _5 at 23; that _4 dies at 25; _3 at 26; _2 at 28; _1 at 30; _0 at 32]
-        use0 W (raw (BookOpened 𝓤 H A mem run .pre (to-opened r₁))) (goes-opened r₁ (opened-its r₁ w₁ go)) $
+        use0 W (raw (BookOpened 𝓤 H A mem run .pre (to-opened r₁))) (goes-opened r₁ (opened-value .its r₁ w₁ go)) $
         calls-at ! (fmOf 𝓤 H (W .laws) 𝓣) (BookOpened 𝓤 H A mem run) known-opened (to-opened r₁) (and-then ! (load ! (from ! (stop !)) (look ! 24 refl)) (no-more !)) (λ w₂.
         use1 W (later (some (λ (b : Book). (‵ ftrue ⊛ ‵ (BookR .own b (w₂ ∷ []))) ⊛ raw (ensured 𝓤 H A bo.ended (bo.clauses 𝓤 H A mem run) tt (r₁, tt) tt b)))) (id⊢ 𝓤 _) $ await ! tt $ pick ! (λ b.
         split ! $ move ! (1 ∷ []) $ use1 W (raw (fact 𝓤 (b ≡ r₁ .book))) (said-opened r₁ b) $ heard ! (b ≡ r₁ .book) (λ e₂. split ! $ drop ! $
-        peeks ! BookR (Is BookR) (shows 𝓤 H A BookR) b (w₂ ∷ []) (λ gb. land ! (from ! (stop !)) (init ! 22 refl (book-typed 𝓤 H A W b w₂ gb)) $ rewrite ! 22 (λ (u : Val). ‵ (fat fullShare (τ 6) l₆ 0 u)) (book-is b w₂ gb) refl $ drop ! $
+        peeks ! BookR (Is BookR) (shows 𝓤 H A BookR) b (w₂ ∷ []) (λ gb. land ! (from ! (stop !)) (init ! 22 refl (book-value .typed 𝓤 H A W b w₂ gb)) $ rewrite ! 22 (λ (u : Val). ‵ (fat fullShare (τ 6) l₆ 0 u)) (book-value .is b w₂ gb) refl $ drop ! $
         assigns ! (addr ! (from ! (stop !))) (from ! (stop !)) (init ! 9 refl (tt, tt)) $
         assigns ! (agg ! (and-then ! (load ! (from ! (stop !)) (look ! 9 refl)) (and-then ! (lit ! tt) (no-more !)))) (from ! (stop !)) (init ! 7 refl (tt, (tt, (record { fits = lit< tt }, tt)))) $
         -- `run_day`: the records are lent as a `&mut`, for ν₂
@@ -299,51 +299,51 @@ module _ {M : Type 1} (𝓤 : URA M) (H : Heap 𝓤) (A : Atoms 𝓤) (W : Given
         use1 W (later (some (λ (δ₂ : GName). Lent l₄ ν₂ δ₂ (zs .1 .0) (length (zs .1 .0)) ⊛ ‵ (flent (ν₂ ∷ []) (Held R (length (zs .1 .0)) l₄ 0 δ₂))))) (lends-slice 𝓤 H A W R (named 0) (ν₂ ∷ []) (zs .1 .0) l₄ 0 (room (zs .1 .0) (lz ∙ long))) $ await ! tt $ pick ! (λ δ₂. split ! $
         rewrite ! 0 (λ (m : ℕ). Lent l₄ ν₂ δ₂ (zs .1 .0) m) (lz ∙ long) refl $
         move ! (4 ∷ []) $ use1 W (Tape ⊛ Tape) (shr-slice-copy 𝓤 H A W (named 0) κ u8 .twice t (s₂ ∷ [])) $ split ! $ move ! (2 ∷ 0 ∷ []) $ join ! $ move ! (3 ∷ 4 ∷ 0 ∷ []) $
-        use3 W (raw (RunDay 𝓤 H A mem run .pre (to-day l₄ ν₂ δ₂ b (zs .1 .0)))) (goes-day l₄ ν₂ δ₂ b (zs .1 .0) (book-its b w₂ gb)) $
+        use3 W (raw (RunDay 𝓤 H A mem run .pre (to-day l₄ ν₂ δ₂ b (zs .1 .0)))) (goes-day l₄ ν₂ δ₂ b (zs .1 .0) (book-value .its b w₂ gb)) $
         -- [what `run_day` asks; tape; the lender's part; _15 at 3; …; _13 at 7; …; _7 at 19; _6 at 21; _5 at 23; that _4 dies at 25; _3 at 26; _2 at 28; …]
         calls-at ! (fmOf 𝓤 H (W .laws) 𝓣) (RunDay 𝓤 H A mem run) known-day (to-day l₄ ν₂ δ₂ b (zs .1 .0)) (and-then ! (load ! (from ! (stop !)) (look ! 21 refl)) (and-then ! (load ! (from ! (stop !)) (look ! 7 refl)) (and-then ! (load ! (from ! (stop !)) (look ! 28 refl)) (no-more !)))) (λ w₃.
         use1 W (later (some (λ (d : Day). ((‵ (flft (ν₂ ∷ []) fullShare) ⊛ Token) ⊛ ‵ (DayR .own d (w₃ ∷ []))) ⊛ raw (ensured 𝓤 H A rd.ended (rd.clauses 𝓤 H A mem run) (ν₂ ∷ [], (κ, tt)) (b, (x l₄ δ₂ (zs .1 .0), (t, tt))) tt d)))) (id⊢ 𝓤 _) $ await ! tt $ pick ! (λ d.
         split ! $ move ! (1 ∷ []) $ use1 W (some (λ (zs₂ : Unit {0} × (List Pool × (Unit {0} × Unit {0}))). ‵ (lasts rd.ended (ν₂ ∷ [], (κ, tt)) (b, (x l₄ δ₂ (zs .1 .0), (t, tt))) zs₂) ⊛ raw (fact 𝓤 (Passes b (zs .1 .0) (t .now) d (zs₂ .1 .0))))) (id⊢ 𝓤 _) $ pick ! (λ zs₂.
         split ! $ move ! (1 ∷ []) $ heard ! (Passes b (zs .1 .0) (t .now) d (zs₂ .1 .0)) (λ e₃. fsplit ! $ drop ! $ fsplit ! $ fsplit ! $ move ! (1 ∷ []) $ feqL ! (λ lz₂.
         -- [the last table; true; the tokens and the result; tape; the lender's part; _15 at 5; …]
-        move ! (2 ∷ []) $ split ! $ move ! (1 ∷ []) $ peeks ! DayR (Is DayR) (shows 𝓤 H A DayR) d (w₃ ∷ []) (λ gd. land ! (from ! (stop !)) (init ! 22 refl (day-typed 𝓤 H A W d w₃ gd)) $
-        rewrite ! 22 (λ (u : Val). ‵ (fat fullShare (τ 7) l₇ 0 u)) (day-is d w₃ gd) refl $ drop ! $ split ! $ lft-end ! tt $ move ! (0 ∷ 5 ∷ 2 ∷ []) $
+        move ! (2 ∷ []) $ split ! $ move ! (1 ∷ []) $ peeks ! DayR (Is DayR) (shows 𝓤 H A DayR) d (w₃ ∷ []) (λ gd. land ! (from ! (stop !)) (init ! 22 refl (day-value .typed 𝓤 H A W d w₃ gd)) $
+        rewrite ! 22 (λ (u : Val). ‵ (fat fullShare (τ 7) l₇ 0 u)) (day-value .is d w₃ gd) refl $ drop ! $ split ! $ lft-end ! tt $ move ! (0 ∷ 5 ∷ 2 ∷ []) $
         use3 W (later (‵ (Arr (memory.mem R) (length (zs .1 .0)) .lies (zs₂ .1 .0) l₄ 0))) (slice-back 𝓤 H A W R (ν₂ ∷ []) δ₂ (zs₂ .1 .0) (length (zs .1 .0)) l₄ 0) $ await ! tt $ fsplit ! $ drop ! $ move ! (2 ∷ []) $ drop ! $
         -- [the table; the tape's token; tape; _15 at 3; …; _8 at 17; _7 at 19; …]
-        use0 W (raw (BookAfter 𝓤 H A mem run .pre (to-after d))) (goes-after d (day-its d w₃ gd)) $
+        use0 W (raw (BookAfter 𝓤 H A mem run .pre (to-after d))) (goes-after d (day-value .its d w₃ gd)) $
         calls-at ! (fmOf 𝓤 H (W .laws) 𝓣) (BookAfter 𝓤 H A mem run) known-after (to-after d) (and-then ! (load ! (from ! (stop !)) (look ! 20 refl)) (no-more !)) (λ w₄.
         use1 W (later (some (λ (b₂ : Book). (‵ ftrue ⊛ ‵ (BookR .own b₂ (w₄ ∷ []))) ⊛ raw (ensured 𝓤 H A ba.ended (ba.clauses 𝓤 H A mem run) tt (d, tt) tt b₂)))) (id⊢ 𝓤 _) $ await ! tt $ pick ! (λ b₂.
         split ! $ move ! (1 ∷ []) $ use1 W (raw (fact 𝓤 (b₂ ≡ d .book))) (said-after d b₂) $ heard ! (b₂ ≡ d .book) (λ e₄. split ! $ drop ! $
-        peeks ! BookR (Is BookR) (shows 𝓤 H A BookR) b₂ (w₄ ∷ []) (λ gb₂. land ! (from ! (stop !)) (init ! 18 refl (book-typed 𝓤 H A W b₂ w₄ gb₂)) $ rewrite ! 18 (λ (u : Val). ‵ (fat fullShare (τ 8) l₈ 0 u)) (book-is b₂ w₄ gb₂) refl $ drop ! $
+        peeks ! BookR (Is BookR) (shows 𝓤 H A BookR) b₂ (w₄ ∷ []) (λ gb₂. land ! (from ! (stop !)) (init ! 18 refl (book-value .typed 𝓤 H A W b₂ w₄ gb₂)) $ rewrite ! 18 (λ (u : Val). ‵ (fat fullShare (τ 8) l₈ 0 u)) (book-value .is b₂ w₄ gb₂) refl $ drop ! $
         assigns ! (addr ! (from ! (stop !))) (from ! (stop !)) (init ! 5 refl (tt, tt)) $
         assigns ! (agg ! (and-then ! (load ! (from ! (stop !)) (look ! 5 refl)) (and-then ! (lit ! tt) (no-more !)))) (from ! (stop !)) (init ! 3 refl (tt, (tt, (record { fits = lit< tt }, tt)))) $
         -- `table_figures`: the records are lent as a `&`, for μ
         lft-new ! tt (λ μ. move ! (1 ∷ []) $
         use1 W (later (some (λ (ε : GName). Shared l₄ μ ε (zs₂ .1 .0) (length (zs₂ .1 .0)) ⊛ ‵ (ElemsLent R (μ ∷ []) (zs₂ .1 .0) l₄)))) (lends-elems R 𝓤 H A W (named 0) (μ ∷ []) (zs₂ .1 .0) l₄ (room (zs₂ .1 .0) (lz₂ ∙ lz ∙ long))) $ await ! tt $ pick ! (λ ε. split ! $
         rewrite ! 0 (λ (m : ℕ). Shared l₄ μ ε (zs₂ .1 .0) m) (lz₂ ∙ lz ∙ long) refl $ move ! (2 ∷ 0 ∷ []) $
-        use2 W (raw (TableFigures 𝓤 H A mem run .pre (to-figures l₄ μ ε b₂ (zs₂ .1 .0)))) (goes-figures l₄ μ ε b₂ (zs₂ .1 .0) (book-its b₂ w₄ gb₂)) $
+        use2 W (raw (TableFigures 𝓤 H A mem run .pre (to-figures l₄ μ ε b₂ (zs₂ .1 .0)))) (goes-figures l₄ μ ε b₂ (zs₂ .1 .0) (book-value .its b₂ w₄ gb₂)) $
         -- [what `table_figures` asks; the lender's part; the tape's token; tape; _15 at 4; …; _8 at 18; …]
         calls-at ! (fmOf 𝓤 H (W .laws) 𝓣) (TableFigures 𝓤 H A mem run) known-figures (to-figures l₄ μ ε b₂ (zs₂ .1 .0)) (and-then ! (load ! (from ! (stop !)) (look ! 18 refl)) (and-then ! (load ! (from ! (stop !)) (look ! 4 refl)) (and-then ! (lit ! tt) (no-more !)))) (λ w₅.
         use1 W (later (some (λ (g : Figures). ((‵ (flft (μ ∷ []) fullShare) ⊛ ‵ ftrue) ⊛ ‵ (FiguresR .own g (w₅ ∷ []))) ⊛ raw (ensured 𝓤 H A tf.ended (tf.clauses 𝓤 H A mem run) (μ ∷ [], tt) (b₂, (x l₄ ε (zs₂ .1 .0), (0, tt))) tt g)))) (id⊢ 𝓤 _) $ await ! tt $ pick ! (λ g.
         split ! $ move ! (1 ∷ []) $ use1 W (raw (fact 𝓤 (Says b₂ (zs₂ .1 .0) 0 g))) (said-figures l₄ μ ε b₂ (zs₂ .1 .0) g) $ heard ! (Says b₂ (zs₂ .1 .0) 0 g) (λ e₅. split ! $ move ! (1 ∷ []) $
-        peeks ! FiguresR (Is FiguresR) (shows 𝓤 H A FiguresR) g (w₅ ∷ []) (λ gf. land ! (from ! (stop !)) (init ! 17 refl (figures-typed 𝓤 H A W g w₅ gf)) $ rewrite ! 17 (λ (u : Val). ‵ (fat fullShare (τ 9) l₉ 0 u)) (figures-is g w₅ gf) refl $ drop ! $
+        peeks ! FiguresR (Is FiguresR) (shows 𝓤 H A FiguresR) g (w₅ ∷ []) (λ gf. land ! (from ! (stop !)) (init ! 17 refl (figures-value .typed 𝓤 H A W g w₅ gf)) $ rewrite ! 17 (λ (u : Val). ‵ (fat fullShare (τ 9) l₉ 0 u)) (figures-value .is g w₅ gf) refl $ drop ! $
         split ! $ lft-end ! tt $ move ! (0 ∷ 2 ∷ []) $ use2 W (later (‵ (cells (memory.mem R) (zs₂ .1 .0) l₄ 0))) (elems-back R 𝓤 H A W (μ ∷ []) (zs₂ .1 .0) l₄) $ await ! tt $
         use1 W (‵ (froom (τ 4) l₄ 0)) (elems-room R 𝓤 H A W 512 l₄ (zs₂ .1 .0) (lz₂ ∙ lz ∙ long)) $
         -- [room for _4; true; the tape's token; tape; _15 at 4; …; _9 at 16; …; _7 at 20; …; _5 at 24; that _4 dies at 26; _3 at 27; _2 at 29; _1 at 31; _0 at 33]
-        use0 W (raw (MakeReport 𝓤 H A mem run .pre (to-report d g))) (goes-report d g (day-its d w₃ gd) (figures-its g w₅ gf)) $
+        use0 W (raw (MakeReport 𝓤 H A mem run .pre (to-report d g))) (goes-report d g (day-value .its d w₃ gd) (figures-value .its g w₅ gf)) $
         calls-at ! (fmOf 𝓤 H (W .laws) 𝓣) (MakeReport 𝓤 H A mem run) known-report (to-report d g) (and-then ! (load ! (from ! (stop !)) (look ! 21 refl)) (and-then ! (load ! (from ! (stop !)) (look ! 17 refl)) (no-more !))) (λ w₆.
         use1 W (later (some (λ (r₂ : Report). (‵ ftrue ⊛ ‵ (ReportR .own r₂ (w₆ ∷ []))) ⊛ raw (ensured 𝓤 H A rp.ended (rp.clauses 𝓤 H A mem run) tt (d, (g, tt)) tt r₂)))) (id⊢ 𝓤 _) $ await ! tt $ pick ! (λ r₂.
         split ! $ move ! (1 ∷ []) $ use1 W (raw (fact 𝓤 (r₂ ≡ reportOf d g))) (said-report d g r₂) $ heard ! (r₂ ≡ reportOf d g) (λ e₆. split ! $ drop ! $
-        peeks ! ReportR (Is ReportR) (shows 𝓤 H A ReportR) r₂ (w₆ ∷ []) (λ gr. land ! (from ! (stop !)) (init ! 34 refl (report-typed 𝓤 H A W r₂ w₆ gr)) $ rewrite ! 34 (λ (u : Val). ‵ (fat fullShare (τ 0) l₀ 0 u)) (report-is r₂ w₆ gr) refl $ drop ! $
+        peeks ! ReportR (Is ReportR) (shows 𝓤 H A ReportR) r₂ (w₆ ∷ []) (λ gr. land ! (from ! (stop !)) (init ! 34 refl (report-value .typed 𝓤 H A W r₂ w₆ gr)) $ rewrite ! 34 (λ (u : Val). ‵ (fat fullShare (τ 0) l₀ 0 u)) (report-value .is r₂ w₆ gr) refl $ drop ! $
         returns ! (look ! 33 refl) $ forget ! 4 refl $ forget ! 6 refl $ forget ! 8 refl $ forget ! 10 refl $ forget ! 12 refl $ forget ! 14 refl $ forget ! 16 refl $ forget ! 18 refl $ forget ! 20 refl $ forget ! 22 refl $ forget ! 24 refl $ forget ! 27 refl $ forget ! 29 refl $ forget ! 31 refl $ forget ! 33 refl $
         move ! (33 ∷ 34 ∷ []) $ free1 ! $ move ! (31 ∷ 32 ∷ []) $ free1 ! $ move ! (29 ∷ 30 ∷ []) $ free1 ! $ move ! (27 ∷ 28 ∷ []) $ free1 ! $ move ! (0 ∷ 26 ∷ []) $ free1 ! $ move ! (23 ∷ 24 ∷ []) $ free1 ! $ move ! (21 ∷ 22 ∷ []) $ free1 ! $ move ! (19 ∷ 20 ∷ []) $ free1 ! $ move ! (17 ∷ 18 ∷ []) $ free1 ! $ move ! (15 ∷ 16 ∷ []) $ free1 ! $ move ! (13 ∷ 14 ∷ []) $ free1 ! $ move ! (11 ∷ 12 ∷ []) $ free1 ! $ move ! (9 ∷ 10 ∷ []) $ free1 ! $ move ! (7 ∷ 8 ∷ []) $ free1 ! $ move ! (5 ∷ 6 ∷ []) $ free1 ! $ move ! (3 ∷ 4 ∷ []) $ free1 ! $ free0 ! $
-        by ! (exits r₂ (report-its r₂ w₆ gr) (reports v (zs .1 .0) r₁ e₁ b e₂ (t .now) d (zs₂ .1 .0) e₃ b₂ e₄ g e₅ r₂ e₆))))))))))))))))))))))))))))))))))))))))))))))))))))))))
+        by ! (exits r₂ (report-value .its r₂ w₆ gr) (reports v (zs .1 .0) r₁ e₁ b e₂ (t .now) d (zs₂ .1 .0) e₃ b₂ e₄ g e₅ r₂ e₆))))))))))))))))))))))))))))))))))))))))))))))))))))))))
 
 module _ {M : Type 1} (𝓤 : URA M) (H : Heap 𝓤) (A : Atoms 𝓤) (W : Given 𝓤 H A) (mem : Memory → SProp 𝓤) (run : Routine → Fun 𝓤) where
   day-over-walks : (𝓣 : Tables 𝓤 H) → Triple 𝓤 (𝓣 .C #table-load·none) (None 𝓤 H A mem run) → Triple 𝓤 (𝓣 .C #table-open·open-table) (Open 𝓤 H A mem run) → Triple 𝓤 (𝓣 .C #daytape·book-opened) (BookOpened 𝓤 H A mem run) → Triple 𝓤 (𝓣 .C #day·run-day) (RunDay 𝓤 H A mem run) → Triple 𝓤 (𝓣 .C #daytape·book-after) (BookAfter 𝓤 H A mem run) → Triple 𝓤 (𝓣 .C #table-figures·table-figures) (TableFigures 𝓤 H A mem run) → Triple 𝓤 (𝓣 .C #daytape·reported) (MakeReport 𝓤 H A mem run)
       → Walks 𝓤 H A f.ended stayed (WpFn 𝓤 H (𝓣 .C) (𝓣 .Λ) code.function) (f.clauses 𝓤 H A mem run)
   day-over-walks 𝓣 known-none known-open known-opened known-day known-after known-figures known-report = walked 𝓤 H A f.ended stayed (f.clauses 𝓤 H A mem run) (WpFn 𝓤 H (𝓣 .C) (𝓣 .Λ) code.function)
-      (λ κs. (valuesVals, (slice-vals, tt))) (λ κs. (values-tells, (shr-slice-tells (named 0) (κs .0) u8, tt)))
+      (λ κs. (valuesVals, (slice-vals, tt))) (λ κs. (values-value .tells, (shr-slice-tells (named 0) (κs .0) u8, tt)))
       (λ κs qs bounds a g are. via 𝓤 _ (fst∗ 𝓤 _ (emp 𝓤))
       (walk 𝓤 H A W mem run (κs .0) (qs .0) (a .0) (a .1 .0) 𝓣 known-none known-open known-opened known-day known-after known-figures known-report (are .0) (are .1 .0 .0 .1)))
 

@@ -44,8 +44,8 @@ use Rattle.calls.specs.Calls.{Says}
 use Rattle.exports_book.specs.Reading.{Reads}
 use Rattle.exports_book.specs.Writing.{figuresNumbers}
 use Rattle.rhoikandra.specs.Figures.{figuresIn}
-use Rattle.table_rows.proofs.Values.{BookR, book-makes, book-typed}
-use Rattle.table_figures.proofs.MachineValues.{FiguresR, figures-makes, figures-typed}
+use Rattle.table_rows.proofs.Values.{BookR, book-value}
+use Rattle.table_figures.proofs.MachineValues.{FiguresR, figures-value}
 use Rattle.rhoikandra.proofs.Saying.{figures-said}
 use Rattle.exports_book.proofs.book_of as bo
 use Rattle.exports_book.proofs.book_of.Symbol as book-def
@@ -166,7 +166,7 @@ module _ {M : Type 1} (𝓤 : URA M) (H : Heap 𝓤) (A : Atoms 𝓤) (W : Given
     goes-figures : Is BookR k (w ∷ []) → v < 2 ^ 64 → ent 𝓤 (⋆ 𝓤 H A (‵ (flft κ₂ q₂) ∷ Pools ∷ [])) (TableFigures 𝓤 H A mem run .pre to-figures)
     goes-figures is gv =
         qed W (‵ (flft κ₂ q₂) ∷ Pools ∷ []) ∵ nothing ! $ move ! (1 ∷ 0 ∷ []) $ join ! $ move ! (1 ∷ []) $
-        nothing ! $ owned ! usize (Is usize) (uint-makes 𝓤 H A W w64) v _ (refl, gv) $ fjoin ! $ move ! (1 ∷ 0 ∷ []) $ fjoin ! $ owned ! BookR (Is BookR) (book-makes 𝓤 H A) k _ is $ fjoin ! $ move ! (1 ∷ 0 ∷ []) $ join ! $ frame ! $ done !
+        nothing ! $ owned ! usize (Is usize) (uint-makes 𝓤 H A W w64) v _ (refl, gv) $ fjoin ! $ move ! (1 ∷ 0 ∷ []) $ fjoin ! $ owned ! BookR (Is BookR) (book-value .makes 𝓤 H A) k _ is $ fjoin ! $ move ! (1 ∷ 0 ∷ []) $ join ! $ frame ! $ done !
 
     said-figures : (r : Figures) → ent 𝓤 (ensured 𝓤 H A tf.ended (tf.clauses 𝓤 H A mem run) (κ₂, tt) (k, (y, (v, tt))) tt r) (fact 𝓤 (Says k ys v r))
     said-figures r = exE 𝓤 _ (λ zs. snd∗ 𝓤 (sem 𝓤 H A (lasts tf.ended (κ₂, tt) (k, (y, (v, tt))) zs)) (fact 𝓤 (Says k ys v r)))
@@ -177,7 +177,7 @@ module _ {M : Type 1} (𝓤 : URA M) (H : Heap 𝓤) (A : Atoms 𝓤) (W : Given
 
     goes-put : Is FiguresR r (w ∷ []) → ent 𝓤 (⋆ 𝓤 H A (Third ∷ Out ∷ [])) (PutFigures 𝓤 H A mem run .pre to-put)
     goes-put is =
-        qed W (Third ∷ Out ∷ []) ∵ nothing ! $ owned ! FiguresR (Is FiguresR) (figures-makes 𝓤 H A) r _ is $ fjoin ! $ move ! (2 ∷ 0 ∷ []) $ fjoin ! $ move ! (1 ∷ 0 ∷ []) $ join ! $ frame ! $ done !
+        qed W (Third ∷ Out ∷ []) ∵ nothing ! $ owned ! FiguresR (Is FiguresR) (figures-value .makes 𝓤 H A) r _ is $ fjoin ! $ move ! (2 ∷ 0 ∷ []) $ fjoin ! $ move ! (1 ∷ 0 ∷ []) $ join ! $ frame ! $ done !
 
   module _ (𝓣 : Tables 𝓤 H) (known-book : Triple 𝓤 (𝓣 .C #book-of) (BookOf 𝓤 H A mem run)) (known-figures : Triple 𝓤 (𝓣 .C #table-figures) (TableFigures 𝓤 H A mem run)) (known-put : Triple 𝓤 (𝓣 .C #put-figures) (PutFigures 𝓤 H A mem run)) where
     walk : Room u64 (length ws) → Room R (length ys) → v < 2 ^ 64 → Room u64 (length us)
@@ -194,14 +194,14 @@ module _ {M : Type 1} (𝓤 : URA M) (H : Heap 𝓤) (A : Atoms 𝓤) (W : Given
         calls-at ! (fmOf 𝓤 H (W .laws) 𝓣) (BookOf 𝓤 H A mem run) known-book to-book (and-then ! (load ! (from ! (stop !)) (look ! 21 refl)) (no-more !)) (λ w.
         use1 W (later (some (λ (k : Book). (First ⊛ ‵ (BookR .own k (w ∷ []))) ⊛ raw (ensured 𝓤 H A bo.ended (bo.clauses 𝓤 H A mem run) (κ, tt) (x, tt) tt k)))) (id⊢ 𝓤 _) $ await ! tt $ pick ! (λ k.
         split ! $ move ! (1 ∷ []) $ use1 W (raw (fact 𝓤 (Reads (isImage ws) ws k))) (said-book k) $ heard ! (Reads (isImage ws) ws k) (λ e. split ! $ move ! (1 ∷ []) $
-        peeks ! BookR (Is BookR) (shows 𝓤 H A BookR) k (w ∷ []) (λ is. land ! (from ! (stop !)) (init ! 14 refl (book-typed 𝓤 H A W k w is)) $ drop ! $
+        peeks ! BookR (Is BookR) (shows 𝓤 H A BookR) k (w ∷ []) (λ is. land ! (from ! (stop !)) (init ! 14 refl (book-value .typed 𝓤 H A W k w is)) $ drop ! $
         -- [the first token; image; the other tokens; pools; out; _9 at 5; …]: `table_figures` has a copy of the records
         move ! (2 ∷ []) $ split ! $ move ! (4 ∷ []) $ use1 W (Pools ⊛ Pools) (shr-slice-copy 𝓤 H A W (named 1) κ₂ R .twice y (s₂ ∷ [])) $ split ! $ move ! (2 ∷ 0 ∷ []) $ use2 W (raw (TableFigures 𝓤 H A mem run .pre (to-figures k w))) (goes-figures k w is gv) $
         -- [what `table_figures` asks; pools; the third token; the first token; image; out; _9 at 6; …; _5 at 14; …; _3 at 18; …; _2 at 20; …]
         calls-at ! (fmOf 𝓤 H (W .laws) 𝓣) (TableFigures 𝓤 H A mem run) known-figures (to-figures k w) (and-then ! (load ! (from ! (stop !)) (look ! 14 refl)) (and-then ! (load ! (from ! (stop !)) (look ! 20 refl)) (and-then ! (load ! (from ! (stop !)) (look ! 18 refl)) (no-more !)))) (λ w₂.
         use1 W (later (some (λ (r : Figures). (Second ⊛ ‵ (FiguresR .own r (w₂ ∷ []))) ⊛ raw (ensured 𝓤 H A tf.ended (tf.clauses 𝓤 H A mem run) (κ₂, tt) (k, (y, (v, tt))) tt r)))) (id⊢ 𝓤 _) $ await ! tt $ pick ! (λ r.
         split ! $ move ! (1 ∷ []) $ use1 W (raw (fact 𝓤 (Says k ys v r))) (said-figures k w r) $ heard ! (Says k ys v r) (λ e₂. split ! $ move ! (1 ∷ []) $
-        peeks ! FiguresR (Is FiguresR) (shows 𝓤 H A FiguresR) r (w₂ ∷ []) (λ is₂. land ! (from ! (stop !)) (init ! 13 refl (figures-typed 𝓤 H A W r w₂ is₂)) $ drop ! $
+        peeks ! FiguresR (Is FiguresR) (shows 𝓤 H A FiguresR) r (w₂ ∷ []) (λ is₂. land ! (from ! (stop !)) (init ! 13 refl (figures-value .typed 𝓤 H A W r w₂ is₂)) $ drop ! $
         -- [the second token; pools; the third token; the first token; image; out; _9 at 6; …]
         assigns ! (addr ! (from ! (fld ! refl (hop ! (look-in ! 16 (sub ! 0 refl (whole !))) (stop !))))) (from ! (stop !)) (init ! 8 refl (tt, tt)) $
         assigns ! (agg ! (and-then ! (load ! (from ! (stop !)) (look ! 8 refl)) (and-then ! (load ! (from ! (fld ! refl (stop !))) (look-in ! 16 (sub ! 1 refl (whole !)))) (no-more !)))) (from ! (stop !)) (init ! 6 refl (tt, (tt, (record { fits = room₃ .0 }, tt)))) $

@@ -45,7 +45,7 @@ use Rattle.calls.specs.Calls.{Opens}
 use Rattle.exports_book.specs.Reading.{ReadsValues}
 use Rattle.exports_book.specs.Writing.{OpensTo}
 use Rattle.rhoikandra.specs.Opening.{Opening}
-use Rattle.table_open.proofs.MachineValues.{ValuesR, OpenedR, values-makes, opened-makes, values-typed, opened-typed}
+use Rattle.table_open.proofs.MachineValues.{ValuesR, OpenedR, values-value, opened-value}
 use Rattle.rhoikandra.proofs.Opening.{opening-made}
 use Rattle.exports_book.proofs.values_of as vo
 use Rattle.exports_book.proofs.values_of.Symbol as values-def
@@ -157,7 +157,7 @@ module _ {M : Type 1} (𝓤 : URA M) (H : Heap 𝓤) (A : Atoms 𝓤) (W : Given
 
     goes-open : Is ValuesR v (w ∷ []) → ent 𝓤 (⋆ 𝓤 H A (Second ∷ Pools ∷ [])) (OpenTable 𝓤 H A mem run .pre to-open)
     goes-open is =
-        qed W (Second ∷ Pools ∷ []) ∵ nothing ! $ move ! (2 ∷ 0 ∷ []) $ fjoin ! $ owned ! ValuesR (Is ValuesR) (values-makes 𝓤 H A) v _ is $ fjoin ! $ move ! (1 ∷ 0 ∷ []) $ join ! $ frame ! $ done !
+        qed W (Second ∷ Pools ∷ []) ∵ nothing ! $ move ! (2 ∷ 0 ∷ []) $ fjoin ! $ owned ! ValuesR (Is ValuesR) (values-value .makes 𝓤 H A) v _ is $ fjoin ! $ move ! (1 ∷ 0 ∷ []) $ join ! $ frame ! $ done !
 
   module _ (r : Opened) (w : Val) where
     abbrev to-finish : Finish 𝓤 H A mem run .Ghost
@@ -166,7 +166,7 @@ module _ {M : Type 1} (𝓤 : URA M) (H : Heap 𝓤) (A : Atoms 𝓤) (W : Given
     goes-finish : Is OpenedR r (w ∷ []) → ent 𝓤 (⋆ 𝓤 H A (‵ (flft κ q) ∷ Image ∷ [])) (Finish 𝓤 H A mem run .pre to-finish)
     goes-finish is =
         qed W (‵ (flft κ q) ∷ Image ∷ []) ∵ nothing ! $ move ! (1 ∷ 0 ∷ []) $ join ! $ move ! (1 ∷ []) $
-        nothing ! $ owned ! OpenedR (Is OpenedR) (opened-makes 𝓤 H A) r _ is $ fjoin ! $ move ! (1 ∷ 0 ∷ []) $ fjoin ! $ move ! (1 ∷ 0 ∷ []) $ join ! $ frame ! $ done !
+        nothing ! $ owned ! OpenedR (Is OpenedR) (opened-value .makes 𝓤 H A) r _ is $ fjoin ! $ move ! (1 ∷ 0 ∷ []) $ fjoin ! $ move ! (1 ∷ 0 ∷ []) $ join ! $ frame ! $ done !
 
   module _ (𝓣 : Tables 𝓤 H) (known-values : Triple 𝓤 (𝓣 .C #values-of) (ValuesOf 𝓤 H A mem run)) (known-open : Triple 𝓤 (𝓣 .C #open-table) (OpenTable 𝓤 H A mem run)) (known-finish : Triple 𝓤 (𝓣 .C #finish-opening) (Finish 𝓤 H A mem run)) where
     walk : Room u64 (length ws) → Room R (length ys) → ent 𝓤 (onEntry 𝓤 H A f.signature (κ, (κ₂, tt)) (q, (q₂, tt)) a at) (WpFn 𝓤 H (𝓣 .C) (𝓣 .Λ) code.function (s ∷ s₂ ∷ []) Post)
@@ -187,7 +187,7 @@ module _ {M : Type 1} (𝓤 : URA M) (H : Heap 𝓤) (A : Atoms 𝓤) (W : Given
         calls-at ! (fmOf 𝓤 H (W .laws) 𝓣) (ValuesOf 𝓤 H A mem run) known-values (to-values ν δ) (and-then ! (load ! (from ! (stop !)) (look ! 12 refl)) (no-more !)) (λ w.
         use1 W (later (some (λ (v : Values). ((‵ (flft (ν ∷ []) fullShare) ⊛ ‵ ftrue) ⊛ ‵ (ValuesR .own v (w ∷ []))) ⊛ raw (ensured 𝓤 H A vo.ended (vo.clauses 𝓤 H A mem run) (ν ∷ [], tt) (x δ, tt) tt v)))) (id⊢ 𝓤 _) $ await ! tt $ pick ! (λ v.
         split ! $ move ! (1 ∷ []) $ use1 W (raw (fact 𝓤 (ReadsValues ws v))) (said-values ν δ v) $ heard ! (ReadsValues ws v) (λ e. split ! $ move ! (1 ∷ []) $
-        peeks ! ValuesR (Is ValuesR) (shows 𝓤 H A ValuesR) v (w ∷ []) (λ is. land ! (from ! (stop !)) (init ! 19 refl (values-typed 𝓤 H A W v w is)) $ drop ! $
+        peeks ! ValuesR (Is ValuesR) (shows 𝓤 H A ValuesR) v (w ∷ []) (λ is. land ! (from ! (stop !)) (init ! 19 refl (values-value .typed 𝓤 H A W v w is)) $ drop ! $
         split ! $ lft-end ! tt $ move ! (0 ∷ 2 ∷ []) $ use2 W (later (Image ⊛ ‵ (flft κ q))) (shared-back u64 κ (ν ∷ []) q γ b o 𝓤 H A W (named 0) (named 0) ws room) $ await ! tt $ split ! $ move ! (2 ∷ []) $ drop ! $
         -- [image; its token; the second token; pools; _10 at 4; …; _8 at 8; _7 at 10; …; _2 at 20; …]
         assigns ! (addr ! (from ! (fld ! refl (hop ! (look-in ! 20 (sub ! 0 refl (whole !))) (stop !))))) (from ! (stop !)) (init ! 10 refl (tt, tt)) $
@@ -199,7 +199,7 @@ module _ {M : Type 1} (𝓤 : URA M) (H : Heap 𝓤) (A : Atoms 𝓤) (W : Given
         split ! $ move ! (1 ∷ []) $ use1 W (some (λ (zs : Unit {0} × (List Pool × Unit {0})). ‵ (lasts ot.ended (κ₂, tt) (v, (y, tt)) zs) ⊛ raw (fact 𝓤 (Opens v ys r (zs .1 .0))))) (id⊢ 𝓤 _) $ pick ! (λ zs.
         split ! $ move ! (1 ∷ []) $ heard ! (Opens v ys r (zs .1 .0)) (λ e₂. fsplit ! $ drop ! $ fsplit ! $ fsplit ! $ move ! (1 ∷ []) $ feqL ! (λ len₂.
         -- [the last records; true; the second token and the result; image; its token; _10 at 5; …; _4 at 17; …]
-        move ! (1 ∷ []) $ drop ! $ move ! (1 ∷ []) $ split ! $ move ! (1 ∷ []) $ peeks ! OpenedR (Is OpenedR) (shows 𝓤 H A OpenedR) r (w₂ ∷ []) (λ is₂. land ! (from ! (stop !)) (init ! 17 refl (opened-typed 𝓤 H A W r w₂ is₂)) $ drop ! $
+        move ! (1 ∷ []) $ drop ! $ move ! (1 ∷ []) $ split ! $ move ! (1 ∷ []) $ peeks ! OpenedR (Is OpenedR) (shows 𝓤 H A OpenedR) r (w₂ ∷ []) (λ is₂. land ! (from ! (stop !)) (init ! 17 refl (opened-value .typed 𝓤 H A W r w₂ is₂)) $ drop ! $
         -- [the second token; the last records; image; its token; _10 at 4; _9 at 6; …; _1 at 22; …]
         assigns ! (addr ! (from ! (fld ! refl (hop ! (look-in ! 22 (sub ! 0 refl (whole !))) (stop !))))) (from ! (stop !)) (init ! 6 refl (tt, tt)) $
         assigns ! (agg ! (and-then ! (load ! (from ! (stop !)) (look ! 6 refl)) (and-then ! (load ! (from ! (fld ! refl (stop !))) (look-in ! 22 (sub ! 1 refl (whole !)))) (no-more !)))) (from ! (stop !)) (init ! 4 refl (tt, (tt, (record { fits = room .0 }, tt)))) $

@@ -45,7 +45,7 @@ use Rattle.calls.specs.Calls.{Framed}
 use Rattle.exports_book.specs.Reading.{timeWidth, callable, Reads}
 use Rattle.exports_book.specs.Writing.{Finishes}
 use Rattle.rhoikandra.specs.Calls.{Calls}
-use Rattle.table_rows.proofs.Values.{BookR, SteppedR, TimeR, book-makes, stepped-makes, time-makes, book-typed, stepped-typed, time-typed}
+use Rattle.table_rows.proofs.Values.{BookR, SteppedR, TimeR, book-value, stepped-value, time-makes, time-typed}
 use Rattle.rhoikandra.proofs.Calling.{called}
 use Rattle.exports_book.proofs.start as sa
 use Rattle.exports_book.proofs.start.Symbol as start-def
@@ -240,7 +240,7 @@ module _ {M : Type 1} (𝓤 : URA M) (H : Heap 𝓤) (A : Atoms 𝓤) (W : Given
     goes-step is is₂ =
         qed W ((K₂ ⊛ K₃ ⊛ K₅) ∷ (Pools ⊛ Body ⊛ Out) ∷ []) ∵ split ! $ move ! (1 ∷ []) $ split ! $ nothing ! $ move ! (2 ∷ 0 ∷ []) $ join ! $ move ! (1 ∷ 0 ∷ []) $ join ! $ move ! (1 ∷ 0 ∷ []) $ join ! $
         move ! (1 ∷ []) $ split ! $ move ! (1 ∷ []) $ split ! $ nothing ! $ move ! (2 ∷ 0 ∷ []) $ fjoin ! $ owned ! TimeR (Is TimeR) (time-makes 𝓤 H A W) six _ is₂ $ fjoin ! $ move ! (1 ∷ 0 ∷ []) $ fjoin ! $ move ! (1 ∷ 0 ∷ []) $ fjoin ! $
-        owned ! BookR (Is BookR) (book-makes 𝓤 H A) k _ is $ fjoin ! $ move ! (1 ∷ 0 ∷ []) $ join ! $ frame ! $ done !
+        owned ! BookR (Is BookR) (book-value .makes 𝓤 H A) k _ is $ fjoin ! $ move ! (1 ∷ 0 ∷ []) $ join ! $ frame ! $ done !
 
   module _ (r : Stepped) (w : Val) where
     abbrev to-finish : Finish 𝓤 H A mem run .Ghost
@@ -249,7 +249,7 @@ module _ {M : Type 1} (𝓤 : URA M) (H : Heap 𝓤) (A : Atoms 𝓤) (W : Given
     goes-finish : Is SteppedR r (w ∷ []) → ent 𝓤 (⋆ 𝓤 H A ((K₁ ⊛ K₆) ∷ (Image ⊛ Said) ∷ [])) (Finish 𝓤 H A mem run .pre to-finish)
     goes-finish is =
         qed W ((K₁ ⊛ K₆) ∷ (Image ⊛ Said) ∷ []) ∵ split ! $ nothing ! $ move ! (2 ∷ 0 ∷ []) $ join ! $ move ! (1 ∷ 0 ∷ []) $ join ! $ move ! (1 ∷ []) $ split ! $
-        nothing ! $ owned ! SteppedR (Is SteppedR) (stepped-makes 𝓤 H A) r _ is $ fjoin ! $ move ! (2 ∷ 0 ∷ []) $ fjoin ! $ move ! (1 ∷ 0 ∷ []) $ fjoin ! $ move ! (1 ∷ 0 ∷ []) $ join ! $ frame ! $ done !
+        nothing ! $ owned ! SteppedR (Is SteppedR) (stepped-value .makes 𝓤 H A) r _ is $ fjoin ! $ move ! (2 ∷ 0 ∷ []) $ fjoin ! $ move ! (1 ∷ 0 ∷ []) $ fjoin ! $ move ! (1 ∷ 0 ∷ []) $ join ! $ frame ! $ done !
 
   module _ (𝓣 : Tables 𝓤 H) (known-start : Triple 𝓤 (𝓣 .C #start) (Start 𝓤 H A mem run)) (known-six : Triple 𝓤 (𝓣 .C #six-of) (SixOf 𝓤 H A mem run)) (known-step : Triple 𝓤 (𝓣 .C #step) (Step 𝓤 H A mem run)) (known-finish : Triple 𝓤 (𝓣 .C #finish) (Finish 𝓤 H A mem run)) where
     walk : Room u64 (length ws) → Room R (length ys) → Room u8 (length bs) → Room u8 (length ts) → Room u8 (length us) → Room u64 (length ns)
@@ -273,7 +273,7 @@ module _ {M : Type 1} (𝓤 : URA M) (H : Heap 𝓤) (A : Atoms 𝓤) (W : Given
         calls-at ! (fmOf 𝓤 H (W .laws) 𝓣) (Start 𝓤 H A mem run) known-start (to-start ν δ) (and-then ! (load ! (from ! (stop !)) (look ! 29 refl)) (and-then ! (load ! (from ! (stop !)) (look ! 43 refl)) (no-more !))) (λ w.
         use1 W (later (some (λ (k : Book). ((N ν δ ⊛ K₄ ⊛ ‵ ftrue) ⊛ ‵ (BookR .own k (w ∷ []))) ⊛ raw (ensured 𝓤 H A sa.ended (sa.clauses 𝓤 H A mem run) (ν ∷ [], (κ₄, tt)) (x₁ δ, (x₄, tt)) tt k)))) (id⊢ 𝓤 _) $ await ! tt $ pick ! (λ k.
         split ! $ move ! (1 ∷ []) $ use1 W (raw (fact 𝓤 (Reads (callable ws ts) ws k))) (said-start ν δ k) $ heard ! (Reads (callable ws ts) ws k) (λ e. split ! $ move ! (1 ∷ []) $
-        peeks ! BookR (Is BookR) (shows 𝓤 H A BookR) k (w ∷ []) (λ is. land ! (from ! (stop !)) (init ! 38 refl (book-typed 𝓤 H A W k w is)) $ drop ! $
+        peeks ! BookR (Is BookR) (shows 𝓤 H A BookR) k (w ∷ []) (λ is. land ! (from ! (stop !)) (init ! 38 refl (book-value .typed 𝓤 H A W k w is)) $ drop ! $
         split ! $ lft-end ! tt $ move ! (0 ∷ 3 ∷ []) $ use2 W (later (Image ⊛ K₁)) (shared-back u64 κ₁ (ν ∷ []) q₁ γ₁ b₁ o₁ 𝓤 H A W (named 0) (named 0) ws room₁) $ await ! tt $ split ! $
         -- [image; token 1; token 4; time; tokens 2, 3, 5, 6; pools; body; out; said; _20 at 12; …]: `six_of` has a copy of the time bytes
         move ! (3 ∷ []) $ use1 W (Time ⊛ Time) (shr-slice-copy 𝓤 H A W (named 3) κ₄ u8 .twice x₄ (s₄ ∷ [])) $ split ! $ move ! (4 ∷ 0 ∷ []) $ use2 W (raw (SixOf 𝓤 H A mem run .pre to-six)) goes-six $
@@ -298,7 +298,7 @@ module _ {M : Type 1} (𝓤 : URA M) (H : Heap 𝓤) (A : Atoms 𝓤) (W : Given
         split ! $ move ! (1 ∷ []) $ heard ! (Framed k ys bs six us r (zs .1 .0) (zs .1 .1 .1 .1 .0)) (λ e₃. fsplit ! $ drop ! $ fsplit ! $ fsplit ! $ move ! (1 ∷ []) $ feqL ! (λ len₂.
         move ! (1 ∷ []) $ fsplit ! $ drop ! $ fsplit ! $ drop ! $ fsplit ! $ fsplit ! $ move ! (1 ∷ []) $ feqL ! (λ len₅. move ! (1 ∷ []) $ drop ! $
         -- [the last output; the last records; the tokens and the result; body; token 4; time; image; tokens 1, 6; said; _20 at 10; …]
-        move ! (2 ∷ []) $ split ! $ move ! (1 ∷ []) $ peeks ! SteppedR (Is SteppedR) (shows 𝓤 H A SteppedR) r (w₃ ∷ []) (λ is₃. land ! (from ! (stop !)) (init ! 33 refl (stepped-typed 𝓤 H A W r w₃ is₃)) $ drop ! $
+        move ! (2 ∷ []) $ split ! $ move ! (1 ∷ []) $ peeks ! SteppedR (Is SteppedR) (shows 𝓤 H A SteppedR) r (w₃ ∷ []) (λ is₃. land ! (from ! (stop !)) (init ! 33 refl (stepped-value .typed 𝓤 H A W r w₃ is₃)) $ drop ! $
         -- [tokens 2, 3, 5; the last output; the last records; body; token 4; time; image; tokens 1, 6; said; _20 at 10; …]
         assigns ! (addr ! (from ! (fld ! refl (hop ! (look-in ! 48 (sub ! 0 refl (whole !))) (stop !))))) (from ! (stop !)) (init ! 16 refl (tt, tt)) $
         assigns ! (agg ! (and-then ! (load ! (from ! (stop !)) (look ! 16 refl)) (and-then ! (load ! (from ! (fld ! refl (stop !))) (look-in ! 48 (sub ! 1 refl (whole !)))) (no-more !)))) (from ! (stop !)) (init ! 14 refl (tt, (tt, (record { fits = room₁ .0 }, tt)))) $

@@ -54,8 +54,8 @@ use Rattle.rows_enough.specs.Moving.{SaysRows}
 use Rattle.calls.specs.Calls.{Says}
 use Rattle.table_rows.specs.LoadsRows.{LoadsRows}
 use Rattle.table_rows.proofs.Staging.{rows-enough}
-use Rattle.table_rows.proofs.Values.{BookR, bookVal, bookVals, book-tells, book-makes, book-typed, live-fits}
-use Rattle.table_figures.proofs.MachineValues.{FiguresR, figuresVal, figuresVals, figures-makes, figures-typed, figures-is, figures-its}
+use Rattle.table_rows.proofs.Values.{BookR, bookVal, bookVals, book-value, live-fits}
+use Rattle.table_figures.proofs.MachineValues.{FiguresR, figuresVal, figuresVals, figures-value}
 use Rattle.table_figures.proofs.Saying.{says-figures}
 use Rattle.table_rows.proofs.load_rows as sg
 use Rattle.table_rows.proofs.load_rows.Symbol as stage-def
@@ -175,7 +175,7 @@ module _ {M : Type 1} (𝓤 : URA M) (H : Heap 𝓤) (A : Atoms 𝓤) (W : Given
   exits r gr e =
       qed W (‵ (flft κ q) ∷ Pools ∷ []) ∵ suffices ! _ (ends-at 𝓤 H A f.ended stayed (f.clauses 𝓤 H A mem run) W bound (figuresVal r) r (tt, (tt, (tt, tt))) (tt, (tt, (tt, tt)))) $ says ! e $
       nothing ! $ move ! (1 ∷ 0 ∷ []) $ join ! $ frame ! $ drop ! $ nothing ! $ nothing ! $ fjoin ! $ nothing ! $ fjoin ! $ nothing ! $ fjoin ! $ frame ! $
-      owned ! FiguresR (Is FiguresR) (figures-makes 𝓤 H A) r _ gr $ done !
+      owned ! FiguresR (Is FiguresR) (figures-value .makes 𝓤 H A) r _ gr $ done !
 
   -- what the triple of `load_rows` binds outside, and that the caller has what it asks: the arrays at l and l′ are lent for ν and ν₂
   module _ (l l′ : ℕ) where
@@ -228,7 +228,7 @@ module _ {M : Type 1} (𝓤 : URA M) (H : Heap 𝓤) (A : Atoms 𝓤) (W : Given
       goes-figures ν δ ν₂ δ₂ gk gn gt within =
           qed W (ToFigures ν δ ν₂ δ₂) ∵ says ! within $ frame ! $ split ! $ nothing ! $ owned ! usize (Is usize) (uint-makes 𝓤 H A W w64) trade _ (refl, gt) $ fjoin ! $
           owned ! bool (Is bool) (bool-makes 𝓤 H A W) rest _ refl $ fjoin ! $ owned ! usize (Is usize) (uint-makes 𝓤 H A W w64) (length ys) _ (refl, gn) $ fjoin ! $
-          move ! (2 ∷ 0 ∷ []) $ fjoin ! $ move ! (1 ∷ 0 ∷ []) $ fjoin ! $ owned ! BookR (Is BookR) (book-makes 𝓤 H A) k _ gk $ fjoin ! $ done !
+          move ! (2 ∷ 0 ∷ []) $ fjoin ! $ move ! (1 ∷ 0 ∷ []) $ fjoin ! $ owned ! BookR (Is BookR) (book-value .makes 𝓤 H A) k _ gk $ fjoin ! $ done !
 
       said-figures : (ν : ℕ) (δ : GName) (ν₂ : ℕ) (δ₂ : GName) (r : Figures)
           → ent 𝓤 (ensured 𝓤 H A fr.ended (fr.clauses 𝓤 H A mem run) (ν ∷ [], (ν₂ ∷ [], tt)) (figures-args δ δ₂) tt r) (fact 𝓤 (SaysRows k ns ks (length ys) rest trade r))
@@ -239,7 +239,7 @@ module _ {M : Type 1} (𝓤 : URA M) (H : Heap 𝓤) (A : Atoms 𝓤) (W : Given
     walk gk room gt =
         qed W ((‵ (flft κ q) ⊛ ‵ ftrue) ∷ ‵ (owns (BookR ∷ ShrSlice (named 0) κ R ∷ usize ∷ []) a at) ∷ []) ∵ enter ! (𝓣 .C) (𝓣 .Λ) code.function given _ $
         alloc1 ! (λ l₀. alloc1 ! (λ l₁. alloc1 ! (λ l₂. alloc1 ! (λ l₃. alloc1 ! (λ l₄. alloc1 ! (λ l₅. alloc1 ! (λ l₆. alloc1 ! (λ l₇. alloc1 ! (λ l₈. alloc1 ! (λ l₉. alloc1 ! (λ l₁₀. alloc1 ! (λ l₁₁. alloc1 ! (λ l₁₂. alloc1 ! (λ l₁₃. alloc1 ! (λ l₁₄. alloc1 ! (λ l₁₅. alloc1 ! (λ l₁₆. alloc1 ! (λ l₁₇. alloc0 ! $ params1 ! $
-        pass1 ! (init ! 32 refl (book-typed 𝓤 H A W k _ gk)) $ pass1 ! (init ! 30 refl (tt, (tt, (record { fits = room .0 }, tt)))) $ pass1 ! (init ! 28 refl (tt, record { fits = gt })) $ pass0 ! $
+        pass1 ! (init ! 32 refl (book-value .typed 𝓤 H A W k _ gk)) $ pass1 ! (init ! 30 refl (tt, (tt, (record { fits = room .0 }, tt)))) $ pass1 ! (init ! 28 refl (tt, record { fits = gt })) $ pass0 ! $
         -- [_17; …; _0; …; the tokens; what the parameters own]
         move ! (37 ∷ []) $ fsplit ! $ drop ! $ fsplit ! $ move ! (1 ∷ []) $ drop ! $ move ! (37 ∷ []) $ split ! $ move ! (1 ∷ []) $ drop ! $
         -- [the token; pools; _17 at 2; …; _8 at 20; _7 at 22; _6 at 24; _5 at 26; _4 at 28; _3 at 30; _2 at 32; _1 at 34; _0 at 36]
@@ -299,7 +299,7 @@ module _ {M : Type 1} (𝓤 : URA M) (H : Heap 𝓤) (A : Atoms 𝓤) (W : Given
         use1 W (later (some (λ (r : Figures). (FiguresTokens l₄ l₅ rest (zs .1 .1 .0) (zs .1 .1 .1 .0) μ μ₂ ⊛ ‵ (FiguresR .own r (w₂ ∷ []))) ⊛ raw (ensured 𝓤 H A fr.ended (fr.clauses 𝓤 H A mem run) (μ ∷ [], (μ₂ ∷ [], tt)) (figures-args l₄ l₅ rest (zs .1 .1 .0) (zs .1 .1 .1 .0) ε ε₂) tt r)))) (id⊢ 𝓤 _) $ await ! tt $ pick ! (λ r.
         split ! $ move ! (1 ∷ []) $ use1 W (raw (fact 𝓤 (SaysRows k (zs .1 .1 .0) (zs .1 .1 .1 .0) (length ys) rest trade r))) (said-figures l₄ l₅ rest (zs .1 .1 .0) (zs .1 .1 .1 .0) μ ε μ₂ ε₂ r) $
         heard ! (SaysRows k (zs .1 .1 .0) (zs .1 .1 .1 .0) (length ys) rest trade r) (λ e₂. split ! $ move ! (1 ∷ []) $
-        peeks ! FiguresR (Is FiguresR) (shows 𝓤 H A FiguresR) r (w₂ ∷ []) (λ gr. land ! (from ! (stop !)) (init ! 38 refl (figures-typed 𝓤 H A W r w₂ gr)) $ rewrite ! 38 (λ (u : Val). ‵ (fat fullShare (τ 0) l₀ 0 u)) (figures-is r w₂ gr) refl $ drop ! $
+        peeks ! FiguresR (Is FiguresR) (shows 𝓤 H A FiguresR) r (w₂ ∷ []) (λ gr. land ! (from ! (stop !)) (init ! 38 refl (figures-value .typed 𝓤 H A W r w₂ gr)) $ rewrite ! 38 (λ (u : Val). ‵ (fat fullShare (τ 0) l₀ 0 u)) (figures-value .is r w₂ gr) refl $ drop ! $
         -- [the tokens; the lender's part of keys, of numbers; the token; pools; _17 at 5; …]
         split ! $ lft-end ! tt $ move ! (0 ∷ 3 ∷ []) $ use2 W (later (‵ (cells (memory.mem N) (zs .1 .1 .0) l₄ 0))) (elems-back N 𝓤 H A W (μ ∷ []) (zs .1 .1 .0) l₄) $ await ! tt $
         use1 W (‵ (froom (τ 4) l₄ 0)) (elems-room N 𝓤 H A W 4096 l₄ (zs .1 .1 .0) (ln ∙ many-us)) $
@@ -310,13 +310,13 @@ module _ {M : Type 1} (𝓤 : URA M) (H : Heap 𝓤) (A : Atoms 𝓤) (W : Given
         move ! (36 ∷ 37 ∷ []) $ free1 ! $ move ! (34 ∷ 35 ∷ []) $ free1 ! $ move ! (32 ∷ 33 ∷ []) $ free1 ! $ move ! (30 ∷ 31 ∷ []) $ free1 ! $ move ! (1 ∷ 29 ∷ []) $ free1 ! $ move ! (0 ∷ 27 ∷ []) $ free1 ! $
         move ! (24 ∷ 25 ∷ []) $ free1 ! $ move ! (22 ∷ 23 ∷ []) $ free1 ! $ move ! (20 ∷ 21 ∷ []) $ free1 ! $ move ! (18 ∷ 19 ∷ []) $ free1 ! $ move ! (16 ∷ 17 ∷ []) $ free1 ! $ move ! (14 ∷ 15 ∷ []) $ free1 ! $ move ! (12 ∷ 13 ∷ []) $ free1 ! $ move ! (10 ∷ 11 ∷ []) $ free1 ! $
         move ! (8 ∷ 9 ∷ []) $ free1 ! $ move ! (6 ∷ 7 ∷ []) $ free1 ! $ move ! (4 ∷ 5 ∷ []) $ free1 ! $ move ! (2 ∷ 3 ∷ []) $ free1 ! $ free0 ! $
-        by ! (exits r (figures-its r w₂ gr) (says-figures k ys us vs (zs .1 .1 .0) (zs .1 .1 .1 .0) rest trade r e₁ e₂)))))))))))))))))))))))))))))))))))))))
+        by ! (exits r (figures-value .its r w₂ gr) (says-figures k ys us vs (zs .1 .1 .0) (zs .1 .1 .1 .0) rest trade r e₁ e₂)))))))))))))))))))))))))))))))))))))))
 
 module _ {M : Type 1} (𝓤 : URA M) (H : Heap 𝓤) (A : Atoms 𝓤) (W : Given 𝓤 H A) (mem : Memory → SProp 𝓤) (run : Routine → Fun 𝓤) where
   table-figures-walks : (𝓣 : Tables 𝓤 H) → Triple 𝓤 (𝓣 .C #table-rows·load-rows) (Stage 𝓤 H A mem run) → Triple 𝓤 (𝓣 .C #rows-enough·figures-rows) (FiguresRows 𝓤 H A mem run)
       → Walks 𝓤 H A f.ended stayed (WpFn 𝓤 H (𝓣 .C) (𝓣 .Λ) code.function) (f.clauses 𝓤 H A mem run)
   table-figures-walks 𝓣 known-stage known-figures = walked 𝓤 H A f.ended stayed (f.clauses 𝓤 H A mem run) (WpFn 𝓤 H (𝓣 .C) (𝓣 .Λ) code.function)
-      (λ κs. (bookVals, (slice-vals, (uint-vals w64, tt)))) (λ κs. (book-tells, (shr-slice-tells (named 0) (κs .0) R, (uint-tells w64, tt))))
+      (λ κs. (bookVals, (slice-vals, (uint-vals w64, tt)))) (λ κs. (book-value .tells, (shr-slice-tells (named 0) (κs .0) R, (uint-tells w64, tt))))
       (λ κs qs bounds a g are. via 𝓤 _ (fst∗ 𝓤 _ (emp 𝓤))
       (walk 𝓤 H A W mem run (κs .0) (qs .0) (a .0) (a .1 .0 .ptr .0) (a .1 .0 .ptr .1) (a .1 .0 .name) (a .1 .0 .now) (a .1 .1 .0) 𝓣 known-stage known-figures (are .0) (are .1 .0 .0 .1) (are .1 .1 .0 .1)))
 

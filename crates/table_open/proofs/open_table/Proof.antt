@@ -44,7 +44,7 @@ use Rattle.table_load.proofs.Row.{R}
 use Rattle.rows_enough.specs.declared.Cleared.{Cleared}
 use Rattle.rows_enough.specs.Moving.{OpensRecords}
 use Rattle.calls.specs.Calls.{Opens}
-use Rattle.table_open.proofs.MachineValues.{ValuesR, valuesVal, valuesVals, values-tells, values-makes, values-typed, OpenedR, openedVal, openedVals, opened-makes, opened-typed, ClearedR, cleared-typed, cleared-is, opened-of, count-fits}
+use Rattle.table_open.proofs.MachineValues.{ValuesR, valuesVal, valuesVals, values-value, OpenedR, openedVal, openedVals, opened-value, ClearedR, cleared-value, opened-of, count-fits}
 use Rattle.table_open.proofs.Cleared.{within, opens}
 use Rattle.rows_enough.proofs.open_rows as op
 use Rattle.rows_enough.proofs.open_rows.Symbol as open-def
@@ -109,7 +109,7 @@ module _ {M : Type 1} (𝓤 : URA M) (H : Heap 𝓤) (A : Atoms 𝓤) (W : Given
   exits : (r : Opened) (ps : List Pool) → Is OpenedR r (openedVals r) → length ps ≡ length ys → Opens v ys r ps → ent 𝓤 (⋆ 𝓤 H A (Tokens ∷ ‵ (finally R γ ps) ∷ [])) (Post (openedVal r))
   exits r ps gr lp e =
       qed W (Tokens ∷ ‵ (finally R γ ps) ∷ []) ∵ suffices ! _ (ends-at 𝓤 H A f.ended stayed (f.clauses 𝓤 H A mem run) W bound (openedVal r) r (tt, (ps, tt)) (tt, (lp, tt))) $ says ! e $
-      frame ! $ nothing ! $ move ! (1 ∷ 0 ∷ []) $ fjoin ! $ nothing ! $ fjoin ! $ frame ! $ owned ! OpenedR (Is OpenedR) (opened-makes 𝓤 H A) r _ gr $ done !
+      frame ! $ nothing ! $ move ! (1 ∷ 0 ∷ []) $ fjoin ! $ nothing ! $ fjoin ! $ frame ! $ owned ! OpenedR (Is OpenedR) (opened-value .makes 𝓤 H A) r _ gr $ done !
 
   -- what each callee's triple binds outside, and that the caller has what it asks
   abbrev to-open : Open 𝓤 H A mem run .Ghost
@@ -117,7 +117,7 @@ module _ {M : Type 1} (𝓤 : URA M) (H : Heap 𝓤) (A : Atoms 𝓤) (W : Given
 
   goes-open : Is ValuesR v (valuesVals v) → length ys < 2 ^ 64 → ent 𝓤 (emp 𝓤) (Open 𝓤 H A mem run .pre to-open)
   goes-open gv gn =
-      qed W [] ∵ nothing ! $ owned ! usize (Is usize) (uint-makes 𝓤 H A W w64) (length ys) _ (refl, gn) $ fjoin ! $ owned ! ValuesR (Is ValuesR) (values-makes 𝓤 H A) v _ gv $ fjoin ! $ nothing ! $ join ! $ frame ! $ done !
+      qed W [] ∵ nothing ! $ owned ! usize (Is usize) (uint-makes 𝓤 H A W w64) (length ys) _ (refl, gn) $ fjoin ! $ owned ! ValuesR (Is ValuesR) (values-value .makes 𝓤 H A) v _ gv $ fjoin ! $ nothing ! $ join ! $ frame ! $ done !
 
   said-open : (c : Cleared) → ent 𝓤 (ensured 𝓤 H A op.ended (op.clauses 𝓤 H A mem run) tt (v, (length ys, tt)) tt c) (fact 𝓤 (OpensRecords v (length ys) c))
   said-open c = exE 𝓤 _ (λ zs. snd∗ 𝓤 (sem 𝓤 H A (lasts op.ended tt (v, (length ys, tt)) zs)) (fact 𝓤 (OpensRecords v (length ys) c)))
@@ -138,7 +138,7 @@ module _ {M : Type 1} (𝓤 : URA M) (H : Heap 𝓤) (A : Atoms 𝓤) (W : Given
     walk gv room =
         qed W (Tokens ∷ ‵ (owns (ValuesR ∷ MutSlice (named 0) κ R ∷ []) a at) ∷ []) ∵ enter ! (𝓣 .C) (𝓣 .Λ) code.function (valuesVal v ∷ s ∷ []) _ $
         alloc1 ! (λ l₀. alloc1 ! (λ l₁. alloc1 ! (λ l₂. alloc1 ! (λ l₃. alloc1 ! (λ l₄. alloc1 ! (λ l₅. alloc1 ! (λ l₆. alloc1 ! (λ l₇. alloc1 ! (λ l₈. alloc0 ! $ params1 ! $
-        pass1 ! (init ! 14 refl (values-typed 𝓤 H A W v _ gv)) $ pass1 ! (init ! 12 refl (tt, (tt, (record { fits = room .0 }, tt)))) $ pass0 ! $
+        pass1 ! (init ! 14 refl (values-value .typed 𝓤 H A W v _ gv)) $ pass1 ! (init ! 12 refl (tt, (tt, (record { fits = room .0 }, tt)))) $ pass0 ! $
         -- [_8; …; _0; …; the tokens; what the parameters own]
         move ! (19 ∷ []) $ fsplit ! $ drop ! $ fsplit ! $ move ! (1 ∷ []) $ drop ! $ move ! (19 ∷ []) $
         -- [the token; pools; _8 at 2; …; _5 at 8; _4 at 10; _3 at 12; _2 at 14; _1 at 16; _0 at 18]
@@ -147,7 +147,7 @@ module _ {M : Type 1} (𝓤 : URA M) (H : Heap 𝓤) (A : Atoms 𝓤) (W : Given
         calls-at ! (fmOf 𝓤 H (W .laws) 𝓣) (Open 𝓤 H A mem run) known-open to-open (and-then ! (load ! (from ! (stop !)) (look ! 17 refl)) (and-then ! (load ! (from ! (stop !)) (look ! 9 refl)) (no-more !))) (λ w.
         use1 W (later (some (λ (c : Cleared). (‵ ftrue ⊛ ‵ (ClearedR .own c (w ∷ []))) ⊛ raw (ensured 𝓤 H A op.ended (op.clauses 𝓤 H A mem run) tt (v, (length ys, tt)) tt c)))) (id⊢ 𝓤 _) $ await ! tt $ pick ! (λ c.
         split ! $ move ! (1 ∷ []) $ use1 W (raw (fact 𝓤 (OpensRecords v (length ys) c))) (said-open c) $ heard ! (OpensRecords v (length ys) c) (λ told. split ! $ drop ! $
-        peeks ! ClearedR (Is ClearedR) (shows 𝓤 H A ClearedR) c (w ∷ []) (λ gc. land ! (from ! (stop !)) (init ! 13 refl (cleared-typed 𝓤 H A W c w gc)) $ rewrite ! 13 (λ (u : Val). ‵ (fat fullShare (τ 3) l₃ 0 u)) (cleared-is c w gc) refl $ drop ! $
+        peeks ! ClearedR (Is ClearedR) (shows 𝓤 H A ClearedR) c (w ∷ []) (λ gc. land ! (from ! (stop !)) (init ! 13 refl (cleared-value .typed 𝓤 H A W c w gc)) $ rewrite ! 13 (λ (u : Val). ‵ (fat fullShare (τ 3) l₃ 0 u)) (cleared-value .is c w gc) refl $ drop ! $
         assigns ! (of-opd ! (load ! (from ! (fld ! refl (stop !))) (look-in ! 12 (sub ! 1 refl (whole !))))) (from ! (stop !)) (init ! 10 refl (tt, record { fits = count-fits c w gc })) $
         -- the table is handed on to `clear`
         assigns ! (addr ! (from ! (fld ! refl (hop ! (look-in ! 14 (sub ! 0 refl (whole !))) (stop !))))) (from ! (stop !)) (init ! 4 refl (tt, tt)) $
@@ -161,7 +161,7 @@ module _ {M : Type 1} (𝓤 : URA M) (H : Heap 𝓤) (A : Atoms 𝓤) (W : Given
         -- [the last table; the token and the result; _8 at 2; …]
         move ! (1 ∷ []) $ split ! $ move ! (1 ∷ []) $ peeks ! Nothing (Is Nothing) (shows 𝓤 H A Nothing) t (w₂ ∷ []) (λ u. land ! (from ! (stop !)) (init ! 7 refl (nothing-lawful 𝓤 H A W .typed t _ u .0)) $ drop ! $
         -- [the token; the last table; _8 at 2; …; _0 at 18]
-        assigns ! (of-opd ! (load ! (from ! (fld ! refl (stop !))) (look-in ! 12 (sub ! 0 refl (whole !))))) (from ! (stop !)) (init ! 18 refl (opened-typed 𝓤 H A W (c .opened) _ (opened-of c w gc))) $
+        assigns ! (of-opd ! (load ! (from ! (fld ! refl (stop !))) (look-in ! 12 (sub ! 0 refl (whole !))))) (from ! (stop !)) (init ! 18 refl (opened-value .typed 𝓤 H A W (c .opened) _ (opened-of c w gc))) $
         returns ! (look ! 18 refl) $ forget ! 2 refl $ forget ! 4 refl $ forget ! 6 refl $ forget ! 8 refl $ forget ! 10 refl $ forget ! 12 refl $ forget ! 14 refl $ forget ! 16 refl $ forget ! 18 refl $
         move ! (18 ∷ 19 ∷ []) $ free1 ! $ move ! (16 ∷ 17 ∷ []) $ free1 ! $ move ! (14 ∷ 15 ∷ []) $ free1 ! $ move ! (12 ∷ 13 ∷ []) $ free1 ! $ move ! (10 ∷ 11 ∷ []) $ free1 ! $ move ! (8 ∷ 9 ∷ []) $ free1 ! $
         move ! (6 ∷ 7 ∷ []) $ free1 ! $ move ! (4 ∷ 5 ∷ []) $ free1 ! $ move ! (2 ∷ 3 ∷ []) $ free1 ! $ free0 ! $ by ! (exits (c .opened) (zs .0) (opened-of c w gc) lp (opens v ys c told (zs .0) e)))))))))))))))))))))
@@ -169,7 +169,7 @@ module _ {M : Type 1} (𝓤 : URA M) (H : Heap 𝓤) (A : Atoms 𝓤) (W : Given
 module _ {M : Type 1} (𝓤 : URA M) (H : Heap 𝓤) (A : Atoms 𝓤) (W : Given 𝓤 H A) (mem : Memory → SProp 𝓤) (run : Routine → Fun 𝓤) where
   open-table-walks : (𝓣 : Tables 𝓤 H) → Triple 𝓤 (𝓣 .C #rows-enough·open-rows) (Open 𝓤 H A mem run) → Triple 𝓤 (𝓣 .C #table-store·clear) (Clear 𝓤 H A mem run) → Walks 𝓤 H A f.ended stayed (WpFn 𝓤 H (𝓣 .C) (𝓣 .Λ) code.function) (f.clauses 𝓤 H A mem run)
   open-table-walks 𝓣 known-open known-clear = walked 𝓤 H A f.ended stayed (f.clauses 𝓤 H A mem run) (WpFn 𝓤 H (𝓣 .C) (𝓣 .Λ) code.function)
-      (λ κs. (valuesVals, (slice-vals, tt))) (λ κs. (values-tells, (mut-slice-tells (named 0) (κs .0) R, tt)))
+      (λ κs. (valuesVals, (slice-vals, tt))) (λ κs. (values-value .tells, (mut-slice-tells (named 0) (κs .0) R, tt)))
       (λ κs qs bounds a g are. via 𝓤 _ (fst∗ 𝓤 _ (emp 𝓤))
       (walk 𝓤 H A W mem run (κs .0) (qs .0) (a .0) (a .1 .0 .ptr .0) (a .1 .0 .ptr .1) (a .1 .0 .name) (a .1 .0 .now) 𝓣 known-open known-clear (are .0) (are .1 .0 .0 .1)))
 

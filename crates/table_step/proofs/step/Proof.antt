@@ -43,7 +43,7 @@ use Rattle.book.specs.declared.Pool.{Pool}
 use Rattle.calls.specs.declared.Stepped.{Stepped}
 use Rattle.table_load.proofs.Row.{R}
 use Rattle.calls.specs.Calls.{Framed}
-use Rattle.table_rows.proofs.Values.{BookR, bookVal, bookVals, book-tells, book-makes, book-typed, SteppedR, stepped-makes, stepped-typed, TimeR, timeVal, timeVals, time-tells, time-makes, time-typed}
+use Rattle.table_rows.proofs.Values.{BookR, bookVal, bookVals, book-value, SteppedR, stepped-value, TimeR, timeVal, timeVals, time-tells, time-makes, time-typed}
 use Rattle.table_step.proofs.step_part as sp
 use Rattle.table_step.proofs.step_part.Symbol as part-def
 use Rattle.table_step.proofs.step_part.Symbol.{name as #table-step·step-part}
@@ -120,7 +120,7 @@ module _ {M : Type 1} (𝓤 : URA M) (H : Heap 𝓤) (A : Atoms 𝓤) (W : Given
   exits r w ps ws gr lp lw e =
       qed W (Left ps ws) ∵ suffices ! _ (ends-at 𝓤 H A f.ended stayed (f.clauses 𝓤 H A mem run) W bound w r (tt, (ps, (tt, (tt, (ws, tt))))) (tt, (lp, (tt, (tt, (lw, tt)))))) $ says ! e $
       frame ! $ nothing ! $ move ! (1 ∷ 0 ∷ []) $ fjoin ! $ nothing ! $ fjoin ! $ nothing ! $ fjoin ! $ move ! (1 ∷ 0 ∷ []) $ fjoin ! $ nothing ! $ fjoin ! $ frame ! $
-      owned ! SteppedR (Is SteppedR) (stepped-makes 𝓤 H A) r _ gr $ done !
+      owned ! SteppedR (Is SteppedR) (stepped-value .makes 𝓤 H A) r _ gr $ done !
 
   -- what the triple of `step_part` binds outside: all is handed on
   abbrev part-args : Book × (RefT (List Pool) × (RefT (List ℕ) × (ℕ × (ℕ × (List ℕ × (RefT (List ℕ) × Unit {0}))))))
@@ -137,7 +137,7 @@ module _ {M : Type 1} (𝓤 : URA M) (H : Heap 𝓤) (A : Atoms 𝓤) (W : Given
       qed W ToPart ∵ says ! within $ frame ! $ split ! $ move ! (1 ∷ []) $ split ! $
       -- [body; output; pools]
       nothing ! $ move ! (2 ∷ 0 ∷ []) $ fjoin ! $ owned ! TimeR (Is TimeR) (time-makes 𝓤 H A W) time _ gt $ fjoin ! $ owned ! usize (Is usize) (uint-makes 𝓤 H A W w64) (length bs) _ (refl, gp) $ fjoin ! $
-      owned ! usize (Is usize) (uint-makes 𝓤 H A W w64) 0 _ (refl, lit< tt) $ fjoin ! $ move ! (1 ∷ 0 ∷ []) $ fjoin ! $ move ! (1 ∷ 0 ∷ []) $ fjoin ! $ owned ! BookR (Is BookR) (book-makes 𝓤 H A) k _ gk $ fjoin ! $ done !
+      owned ! usize (Is usize) (uint-makes 𝓤 H A W w64) 0 _ (refl, lit< tt) $ fjoin ! $ move ! (1 ∷ 0 ∷ []) $ fjoin ! $ move ! (1 ∷ 0 ∷ []) $ fjoin ! $ owned ! BookR (Is BookR) (book-value .makes 𝓤 H A) k _ gk $ fjoin ! $ done !
 
   -- what `step_part` says
   abbrev Stepping : Stepped → Lasts → Type 0
@@ -149,7 +149,7 @@ module _ {M : Type 1} (𝓤 : URA M) (H : Heap 𝓤) (A : Atoms 𝓤) (W : Given
     walk gk room room₂ gt room₃ =
         qed W (Tokens ∷ ‵ (owns (BookR ∷ MutSlice (named 0) κ R ∷ ShrSlice (named 1) κ₂ u8 ∷ TimeR ∷ MutSlice (named 2) κ₃ u8 ∷ []) a at) ∷ []) ∵ enter ! (𝓣 .C) (𝓣 .Λ) code.function given _ $
         alloc1 ! (λ l₀. alloc1 ! (λ l₁. alloc1 ! (λ l₂. alloc1 ! (λ l₃. alloc1 ! (λ l₄. alloc1 ! (λ l₅. alloc1 ! (λ l₆. alloc1 ! (λ l₇. alloc1 ! (λ l₈. alloc1 ! (λ l₉. alloc1 ! (λ l₁₀. alloc0 ! $ params1 ! $
-        pass1 ! (init ! 18 refl (book-typed 𝓤 H A W k _ gk)) $ pass1 ! (init ! 16 refl (tt, (tt, (record { fits = room .0 }, tt)))) $ pass1 ! (init ! 14 refl (tt, (tt, (record { fits = room₂ .0 }, tt)))) $
+        pass1 ! (init ! 18 refl (book-value .typed 𝓤 H A W k _ gk)) $ pass1 ! (init ! 16 refl (tt, (tt, (record { fits = room .0 }, tt)))) $ pass1 ! (init ! 14 refl (tt, (tt, (record { fits = room₂ .0 }, tt)))) $
         pass1 ! (init ! 12 refl (time-typed 𝓤 H A W time _ gt)) $ pass1 ! (init ! 10 refl (tt, (tt, (record { fits = room₃ .0 }, tt)))) $ pass0 ! $
         -- [_10; …; _0; …; the tokens; what the parameters own]
         move ! (23 ∷ []) $ fsplit ! $ drop ! $ fsplit ! $ move ! (1 ∷ []) $ fsplit ! $ move ! (1 ∷ []) $ fsplit ! $ drop ! $ fsplit ! $ move ! (1 ∷ []) $ drop ! $ move ! (25 ∷ 2 ∷ 1 ∷ 0 ∷ []) $
@@ -168,7 +168,7 @@ module _ {M : Type 1} (𝓤 : URA M) (H : Heap 𝓤) (A : Atoms 𝓤) (W : Given
         split ! $ move ! (1 ∷ []) $ heard ! (Stepping r zs) (λ e. fsplit ! $ drop ! $ fsplit ! $ fsplit ! $ move ! (1 ∷ []) $ feqL ! (λ lp. move ! (1 ∷ []) $
         fsplit ! $ drop ! $ fsplit ! $ drop ! $ fsplit ! $ drop ! $ fsplit ! $ drop ! $ fsplit ! $ fsplit ! $ move ! (1 ∷ []) $ feqL ! (λ lw.
         -- [the last output; true; the last table; the tokens and the result; _10 at 4; …]
-        move ! (3 ∷ []) $ split ! $ move ! (1 ∷ []) $ peeks ! SteppedR (Is SteppedR) (shows 𝓤 H A SteppedR) r (w ∷ []) (λ gr. land ! (from ! (stop !)) (init ! 25 refl (stepped-typed 𝓤 H A W r w gr)) $ drop ! $ move ! (2 ∷ []) $ drop ! $
+        move ! (3 ∷ []) $ split ! $ move ! (1 ∷ []) $ peeks ! SteppedR (Is SteppedR) (shows 𝓤 H A SteppedR) r (w ∷ []) (λ gr. land ! (from ! (stop !)) (init ! 25 refl (stepped-value .typed 𝓤 H A W r w gr)) $ drop ! $ move ! (2 ∷ []) $ drop ! $
         -- [the tokens; the last output; the last table; _10 at 3; …; _0 at 23]
         returns ! (look ! 23 refl) $ forget ! 3 refl $ forget ! 5 refl $ forget ! 7 refl $ forget ! 9 refl $ forget ! 11 refl $ forget ! 13 refl $ forget ! 15 refl $ forget ! 17 refl $ forget ! 19 refl $ forget ! 21 refl $ forget ! 23 refl $
         move ! (23 ∷ 24 ∷ []) $ free1 ! $ move ! (21 ∷ 22 ∷ []) $ free1 ! $ move ! (19 ∷ 20 ∷ []) $ free1 ! $ move ! (17 ∷ 18 ∷ []) $ free1 ! $ move ! (15 ∷ 16 ∷ []) $ free1 ! $ move ! (13 ∷ 14 ∷ []) $ free1 ! $ move ! (11 ∷ 12 ∷ []) $ free1 ! $ move ! (9 ∷ 10 ∷ []) $ free1 ! $ move ! (7 ∷ 8 ∷ []) $ free1 ! $ move ! (5 ∷ 6 ∷ []) $ free1 ! $ move ! (3 ∷ 4 ∷ []) $ free1 ! $ free0 ! $
@@ -178,7 +178,7 @@ module _ {M : Type 1} (𝓤 : URA M) (H : Heap 𝓤) (A : Atoms 𝓤) (W : Given
   step-walks : (𝓣 : Tables 𝓤 H) → Triple 𝓤 (𝓣 .C #table-step·step-part) (Part 𝓤 H A mem run) → Walks 𝓤 H A f.ended stayed (WpFn 𝓤 H (𝓣 .C) (𝓣 .Λ) code.function) (f.clauses 𝓤 H A mem run)
   step-walks 𝓣 known = walked 𝓤 H A f.ended stayed (f.clauses 𝓤 H A mem run) (WpFn 𝓤 H (𝓣 .C) (𝓣 .Λ) code.function)
       (λ κs. (bookVals, (slice-vals, (slice-vals, (timeVals, (slice-vals, tt))))))
-      (λ κs. (book-tells, (mut-slice-tells (named 0) (κs .0) R, (shr-slice-tells (named 1) (κs .1 .0) u8, (time-tells, (mut-slice-tells (named 2) (κs .1 .1 .0) u8, tt))))))
+      (λ κs. (book-value .tells, (mut-slice-tells (named 0) (κs .0) R, (shr-slice-tells (named 1) (κs .1 .0) u8, (time-tells, (mut-slice-tells (named 2) (κs .1 .1 .0) u8, tt))))))
       (λ κs qs bounds a g are. via 𝓤 _ (fst∗ 𝓤 _ (emp 𝓤))
       (walk 𝓤 H A W mem run (κs .0) (κs .1 .0) (κs .1 .1 .0) (qs .0) (qs .1 .0) (qs .1 .1 .0) (a .0) (a .1 .0 .ptr .0) (a .1 .0 .ptr .1) (a .1 .0 .name) (a .1 .0 .now) (a .1 .1 .0 .ptr .0) (a .1 .1 .0 .ptr .1) (a .1 .1 .0 .name) (a .1 .1 .0 .now)
       (a .1 .1 .1 .0) (a .1 .1 .1 .1 .0 .ptr .0) (a .1 .1 .1 .1 .0 .ptr .1) (a .1 .1 .1 .1 .0 .name) (a .1 .1 .1 .1 .0 .now) 𝓣 known (are .0) (are .1 .0 .0 .1) (are .1 .1 .0 .0 .1) (are .1 .1 .1 .0) (are .1 .1 .1 .1 .0 .0 .1)))

@@ -36,7 +36,7 @@ use Rattle.slice_laws.proofs.Count.{tyOf}
 use Rattle.book.specs.declared.Pool.{Pool}
 use Rattle.table_load.proofs.Row.{R}
 use Rattle.rows_enough.specs.FirstRows.{wanted, rowsOf}
-use Rattle.table_rows.proofs.Values.{BookR, bookVals, book-typed, TimeR, timeVals, time-typed}
+use Rattle.table_rows.proofs.Values.{BookR, bookVals, book-value, TimeR, timeVals, time-typed}
 use Rattle.table_step.proofs.step_with.Symbol as with-def
 use Rattle.table_step.proofs.step_with.Symbol.{name as #table-step·step-with}
 use Rattle.table_step.proofs.step_with.Met as with-thm
@@ -76,7 +76,7 @@ module _ {M : Type 1} (𝓤 : URA M) (H : Heap 𝓤) (A : Atoms 𝓤) (W : Given
         qed W ((‵ (flft (κs .0) (qs .0)) ⊛ Rest 𝓤 H A W mem run κs qs a) ∷ ‵ (owns (BookR ∷ MutSlice (named 0) (κs .0) R ∷ ShrSlice (named 1) (κs .1 .0) u8 ∷ usize ∷ usize ∷ TimeR ∷ MutSlice (named 2) (κs .1 .1 .0) u8 ∷ []) a (at 𝓤 H A W mem run κs qs a)) ∷ []) ∵
         enter ! (𝓣 .C) (𝓣 .Λ) code.function (given 𝓤 H A W mem run κs qs a) _ $
         alloc1 ! (λ l₀. alloc1 ! (λ l₁. alloc1 ! (λ l₂. alloc1 ! (λ l₃. alloc1 ! (λ l₄. alloc1 ! (λ l₅. alloc1 ! (λ l₆. alloc1 ! (λ l₇. alloc1 ! (λ l₈. alloc1 ! (λ l₉. alloc1 ! (λ l₁₀. alloc1 ! (λ l₁₁. alloc1 ! (λ l₁₂. alloc1 ! (λ l₁₃. alloc1 ! (λ l₁₄. alloc1 ! (λ l₁₅. alloc1 ! (λ l₁₆. alloc1 ! (λ l₁₇. alloc1 ! (λ l₁₈. alloc1 ! (λ l₁₉. alloc0 ! $ params1 ! $
-        pass1 ! (init ! 36 refl (book-typed 𝓤 H A W (a .0) _ gk)) $ pass1 ! (init ! 34 refl (tt, (tt, (record { fits = room .0 }, tt)))) $ pass1 ! (init ! 32 refl (tt, (tt, (record { fits = room₂ .0 }, tt)))) $ pass1 ! (init ! 30 refl (tt, record { fits = gs })) $
+        pass1 ! (init ! 36 refl (book-value .typed 𝓤 H A W (a .0) _ gk)) $ pass1 ! (init ! 34 refl (tt, (tt, (record { fits = room .0 }, tt)))) $ pass1 ! (init ! 32 refl (tt, (tt, (record { fits = room₂ .0 }, tt)))) $ pass1 ! (init ! 30 refl (tt, record { fits = gs })) $
         pass1 ! (init ! 28 refl (tt, record { fits = gp })) $ pass1 ! (init ! 26 refl (time-typed 𝓤 H A W time _ gt)) $ pass1 ! (init ! 24 refl (tt, (tt, (record { fits = room₃ .0 }, tt)))) $ pass0 ! $
         -- [_19; …; _0; …; the tokens; what the parameters own]
         move ! (41 ∷ []) $ fsplit ! $ drop ! $ fsplit ! $ move ! (1 ∷ []) $ fsplit ! $ move ! (1 ∷ []) $ fsplit ! $ drop ! $ fsplit ! $ drop ! $ fsplit ! $ drop ! $ fsplit ! $ move ! (1 ∷ []) $ drop ! $ move ! (43 ∷ []) $ split ! $ move ! (4 ∷ 0 ∷ 3 ∷ 2 ∷ 1 ∷ []) $

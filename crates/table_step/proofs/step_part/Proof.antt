@@ -44,7 +44,7 @@ use Rattle.calls.specs.declared.Stepped.{Stepped}
 use Rattle.table_load.proofs.Row.{R}
 use Rattle.rows_enough.specs.FirstRows.{wanted, rowsOf}
 use Rattle.calls.specs.Calls.{Framed}
-use Rattle.table_rows.proofs.Values.{BookR, bookVals, book-makes, book-typed, SteppedR, stepped-typed, TimeR, timeVals, time-makes, time-typed}
+use Rattle.table_rows.proofs.Values.{BookR, bookVals, book-value, SteppedR, stepped-value, TimeR, timeVals, time-makes, time-typed}
 use Rattle.table_step.proofs.Calling.{Arg, stayed, all-vals, all-tell, all-go, at, given, Post, Pools, Tape, Output, Rest, exits}
 use Rattle.table_step.proofs.few_enough as fe
 use Rattle.table_step.proofs.few_enough.Symbol as enough-def
@@ -116,7 +116,7 @@ module _ {M : Type 1} (𝓤 : URA M) (H : Heap 𝓤) (A : Atoms 𝓤) (W : Given
     goes-enough : Is BookR (a .0) (bookVals (a .0)) → length ys < 2 ^ 64 → start < 2 ^ 64 → past < 2 ^ 64 → ent 𝓤 (emp 𝓤) (Enough 𝓤 H A mem run .pre to-enough)
     goes-enough gk gn gs gp =
         qed W [] ∵ nothing ! $ owned ! usize (Is usize) (uint-makes 𝓤 H A W w64) past _ (refl, gp) $ fjoin ! $ owned ! usize (Is usize) (uint-makes 𝓤 H A W w64) start _ (refl, gs) $ fjoin ! $
-        owned ! usize (Is usize) (uint-makes 𝓤 H A W w64) (length ys) _ (refl, gn) $ fjoin ! $ owned ! BookR (Is BookR) (book-makes 𝓤 H A) (a .0) _ gk $ fjoin ! $ nothing ! $ join ! $ frame ! $ done !
+        owned ! usize (Is usize) (uint-makes 𝓤 H A W w64) (length ys) _ (refl, gn) $ fjoin ! $ owned ! BookR (Is BookR) (book-value .makes 𝓤 H A) (a .0) _ gk $ fjoin ! $ nothing ! $ join ! $ frame ! $ done !
 
     said-enough : (r : Bool) → ent 𝓤 (ensured 𝓤 H A fe.ended (fe.clauses 𝓤 H A mem run) tt (a .0, (length ys, (start, (past, tt)))) tt r) (fact 𝓤 (r ≡ leb rows 512))
     said-enough r = exE 𝓤 _ (λ zs. snd∗ 𝓤 (sem 𝓤 H A (lasts fe.ended tt (a .0, (length ys, (start, (past, tt)))) zs)) (fact 𝓤 (r ≡ leb rows 512)))
@@ -131,7 +131,7 @@ module _ {M : Type 1} (𝓤 : URA M) (H : Heap 𝓤) (A : Atoms 𝓤) (W : Given
         qed W Handed ∵ split ! $ move ! (1 ∷ []) $ split ! $
         -- [tape; output; pools]
         nothing ! $ move ! (2 ∷ 0 ∷ []) $ fjoin ! $ owned ! TimeR (Is TimeR) (time-makes 𝓤 H A W) time _ gt $ fjoin ! $ owned ! usize (Is usize) (uint-makes 𝓤 H A W w64) past _ (refl, gp) $ fjoin ! $
-        owned ! usize (Is usize) (uint-makes 𝓤 H A W w64) start _ (refl, gs) $ fjoin ! $ move ! (1 ∷ 0 ∷ []) $ fjoin ! $ move ! (1 ∷ 0 ∷ []) $ fjoin ! $ owned ! BookR (Is BookR) (book-makes 𝓤 H A) (a .0) _ gk $ fjoin ! $ done !
+        owned ! usize (Is usize) (uint-makes 𝓤 H A W w64) start _ (refl, gs) $ fjoin ! $ move ! (1 ∷ 0 ∷ []) $ fjoin ! $ move ! (1 ∷ 0 ∷ []) $ fjoin ! $ owned ! BookR (Is BookR) (book-value .makes 𝓤 H A) (a .0) _ gk $ fjoin ! $ done !
 
     abbrev All : Item 𝓤
     All = ‵ (owns (BookR ∷ MutSlice (named 0) (κs .0) R ∷ ShrSlice (named 1) (κs .1 .0) u8 ∷ usize ∷ usize ∷ TimeR ∷ MutSlice (named 2) (κs .1 .1 .0) u8 ∷ []) a (at 𝓤 H A W mem run κs qs a))
@@ -157,7 +157,7 @@ module _ {M : Type 1} (𝓤 : URA M) (H : Heap 𝓤) (A : Atoms 𝓤) (W : Given
     walk gk room room₂ gs gp gt room₃ within =
         qed W (Tokens ∷ All ∷ []) ∵ enter ! (𝓣 .C) (𝓣 .Λ) code.function (given 𝓤 H A W mem run κs qs a) _ $
         alloc1 ! (λ l₀. alloc1 ! (λ l₁. alloc1 ! (λ l₂. alloc1 ! (λ l₃. alloc1 ! (λ l₄. alloc1 ! (λ l₅. alloc1 ! (λ l₆. alloc1 ! (λ l₇. alloc1 ! (λ l₈. alloc1 ! (λ l₉. alloc1 ! (λ l₁₀. alloc1 ! (λ l₁₁. alloc1 ! (λ l₁₂. alloc1 ! (λ l₁₃. alloc1 ! (λ l₁₄. alloc1 ! (λ l₁₅. alloc1 ! (λ l₁₆. alloc1 ! (λ l₁₇. alloc0 ! $ params1 ! $
-        pass1 ! (init ! 32 refl (book-typed 𝓤 H A W (a .0) _ gk)) $ pass1 ! (init ! 30 refl (tt, (tt, (record { fits = room .0 }, tt)))) $ pass1 ! (init ! 28 refl (tt, (tt, (record { fits = room₂ .0 }, tt)))) $ pass1 ! (init ! 26 refl (tt, record { fits = gs })) $
+        pass1 ! (init ! 32 refl (book-value .typed 𝓤 H A W (a .0) _ gk)) $ pass1 ! (init ! 30 refl (tt, (tt, (record { fits = room .0 }, tt)))) $ pass1 ! (init ! 28 refl (tt, (tt, (record { fits = room₂ .0 }, tt)))) $ pass1 ! (init ! 26 refl (tt, record { fits = gs })) $
         pass1 ! (init ! 24 refl (tt, record { fits = gp })) $ pass1 ! (init ! 22 refl (time-typed 𝓤 H A W time _ gt)) $ pass1 ! (init ! 20 refl (tt, (tt, (record { fits = room₃ .0 }, tt)))) $ pass0 ! $
         -- [_17; …; _0; …; the tokens; what the parameters own]
         move ! (37 ∷ []) $ fsplit ! $ drop ! $ fsplit ! $ move ! (1 ∷ []) $ fsplit ! $ move ! (1 ∷ []) $ fsplit ! $ drop ! $ fsplit ! $ drop ! $ fsplit ! $ drop ! $ fsplit ! $ move ! (1 ∷ []) $ drop ! $ move ! (39 ∷ 2 ∷ 1 ∷ 0 ∷ []) $
@@ -184,7 +184,7 @@ module _ {M : Type 1} (𝓤 : URA M) (H : Heap 𝓤) (A : Atoms 𝓤) (W : Given
         split ! $ move ! (1 ∷ []) $ heard ! (Stepping r zs) (λ e. fsplit ! $ drop ! $ fsplit ! $ fsplit ! $ move ! (1 ∷ []) $ feqL ! (λ lp. move ! (1 ∷ []) $
         fsplit ! $ drop ! $ fsplit ! $ drop ! $ fsplit ! $ drop ! $ fsplit ! $ drop ! $ fsplit ! $ fsplit ! $ move ! (1 ∷ []) $ feqL ! (λ lw.
         -- [the last output; true; the last table; the tokens and the result; _17 at 4; …]
-        move ! (3 ∷ []) $ split ! $ move ! (1 ∷ []) $ peeks ! SteppedR (Is SteppedR) (shows 𝓤 H A SteppedR) r (w ∷ []) (λ gr. land ! (from ! (stop !)) (init ! 39 refl (stepped-typed 𝓤 H A W r w gr)) $ drop ! $ move ! (2 ∷ []) $ drop ! $ split ! $ move ! (1 ∷ 0 ∷ []) $
+        move ! (3 ∷ []) $ split ! $ move ! (1 ∷ []) $ peeks ! SteppedR (Is SteppedR) (shows 𝓤 H A SteppedR) r (w ∷ []) (λ gr. land ! (from ! (stop !)) (init ! 39 refl (stepped-value .typed 𝓤 H A W r w gr)) $ drop ! $ move ! (2 ∷ []) $ drop ! $ split ! $ move ! (1 ∷ 0 ∷ []) $
         -- [the tokens of tape and output; the table's token; the last output; the last table; _17 at 4; …; _0 at 38]
         returns-within ! (Post 𝓤 H A W mem run κs qs a) refl (look ! 38 refl) $ forget ! 12 refl $ forget ! 14 refl $ forget ! 16 refl $ forget ! 18 refl $ forget ! 20 refl $ forget ! 22 refl $ forget ! 24 refl $ forget ! 26 refl $ forget ! 28 refl $ forget ! 30 refl $ forget ! 32 refl $ forget ! 34 refl $ forget ! 36 refl $ forget ! 38 refl $
         move ! (38 ∷ 39 ∷ []) $ free1 ! $ move ! (36 ∷ 37 ∷ []) $ free1 ! $ move ! (34 ∷ 35 ∷ []) $ free1 ! $ move ! (32 ∷ 33 ∷ []) $ free1 ! $ move ! (30 ∷ 31 ∷ []) $ free1 ! $ move ! (28 ∷ 29 ∷ []) $ free1 ! $ move ! (26 ∷ 27 ∷ []) $ free1 ! $ move ! (24 ∷ 25 ∷ []) $ free1 ! $ move ! (22 ∷ 23 ∷ []) $ free1 ! $ move ! (20 ∷ 21 ∷ []) $ free1 ! $ move ! (18 ∷ 19 ∷ []) $ free1 ! $ move ! (16 ∷ 17 ∷ []) $ free1 ! $ move ! (14 ∷ 15 ∷ []) $ free1 ! $ move ! (12 ∷ 13 ∷ []) $ free1 ! $ move ! (10 ∷ 11 ∷ []) $ free1 ! $ move ! (8 ∷ 9 ∷ []) $ free1 ! $ move ! (6 ∷ 7 ∷ []) $ free1 ! $ move ! (4 ∷ 5 ∷ []) $ free1 ! $ free0 ! $
@@ -203,7 +203,7 @@ module _ {M : Type 1} (𝓤 : URA M) (H : Heap 𝓤) (A : Atoms 𝓤) (W : Given
         split ! $ move ! (1 ∷ []) $ heard ! (Stepping r zs) (λ e. fsplit ! $ drop ! $ fsplit ! $ fsplit ! $ move ! (1 ∷ []) $ feqL ! (λ lp. move ! (1 ∷ []) $
         fsplit ! $ drop ! $ fsplit ! $ drop ! $ fsplit ! $ drop ! $ fsplit ! $ drop ! $ fsplit ! $ fsplit ! $ move ! (1 ∷ []) $ feqL ! (λ lw.
         -- [the last output; true; the last table; the tokens and the result; _17 at 4; …]
-        move ! (3 ∷ []) $ split ! $ move ! (1 ∷ []) $ peeks ! SteppedR (Is SteppedR) (shows 𝓤 H A SteppedR) r (w ∷ []) (λ gr. land ! (from ! (stop !)) (init ! 39 refl (stepped-typed 𝓤 H A W r w gr)) $ drop ! $ move ! (2 ∷ []) $ drop ! $ split ! $ move ! (1 ∷ 0 ∷ []) $
+        move ! (3 ∷ []) $ split ! $ move ! (1 ∷ []) $ peeks ! SteppedR (Is SteppedR) (shows 𝓤 H A SteppedR) r (w ∷ []) (λ gr. land ! (from ! (stop !)) (init ! 39 refl (stepped-value .typed 𝓤 H A W r w gr)) $ drop ! $ move ! (2 ∷ []) $ drop ! $ split ! $ move ! (1 ∷ 0 ∷ []) $
         -- [the tokens of tape and output; the table's token; the last output; the last table; _17 at 4; …; _0 at 38]
         returns ! (look ! 38 refl) $ forget ! 4 refl $ forget ! 6 refl $ forget ! 8 refl $ forget ! 10 refl $ forget ! 20 refl $ forget ! 22 refl $ forget ! 24 refl $ forget ! 26 refl $ forget ! 28 refl $ forget ! 30 refl $ forget ! 32 refl $ forget ! 34 refl $ forget ! 36 refl $ forget ! 38 refl $
         move ! (38 ∷ 39 ∷ []) $ free1 ! $ move ! (36 ∷ 37 ∷ []) $ free1 ! $ move ! (34 ∷ 35 ∷ []) $ free1 ! $ move ! (32 ∷ 33 ∷ []) $ free1 ! $ move ! (30 ∷ 31 ∷ []) $ free1 ! $ move ! (28 ∷ 29 ∷ []) $ free1 ! $ move ! (26 ∷ 27 ∷ []) $ free1 ! $ move ! (24 ∷ 25 ∷ []) $ free1 ! $ move ! (22 ∷ 23 ∷ []) $ free1 ! $ move ! (20 ∷ 21 ∷ []) $ free1 ! $ move ! (18 ∷ 19 ∷ []) $ free1 ! $ move ! (16 ∷ 17 ∷ []) $ free1 ! $ move ! (14 ∷ 15 ∷ []) $ free1 ! $ move ! (12 ∷ 13 ∷ []) $ free1 ! $ move ! (10 ∷ 11 ∷ []) $ free1 ! $ move ! (8 ∷ 9 ∷ []) $ free1 ! $ move ! (6 ∷ 7 ∷ []) $ free1 ! $ move ! (4 ∷ 5 ∷ []) $ free1 ! $ free0 ! $

@@ -52,7 +52,7 @@ use Rattle.rows_enough.specs.Moving.{StepsRows}
 use Rattle.calls.specs.Calls.{Framed}
 use Rattle.table_rows.specs.LoadsRows.{LoadsRows}
 use Rattle.table_step.proofs.Framing.{part-size, storable, framed}
-use Rattle.table_rows.proofs.Values.{BookR, bookVal, bookVals, book-tells, book-makes, book-typed, SteppedR, stepped-makes, stepped-typed, MovedR, moved-makes, moved-typed, TimeR, timeVal, timeVals, time-tells, time-makes, time-typed}
+use Rattle.table_rows.proofs.Values.{BookR, bookVal, bookVals, book-value, SteppedR, stepped-value, MovedR, moved-value, TimeR, timeVal, timeVals, time-tells, time-makes, time-typed}
 use Rattle.rows_enough.proofs.rows_wanted as wa
 use Rattle.rows_enough.proofs.rows_wanted.Symbol as wanted-def
 use Rattle.rows_enough.proofs.rows_wanted.Symbol.{name as #rows-enough·rows-wanted}
@@ -263,7 +263,7 @@ module _ {M : Type 1} (𝓤 : URA M) (H : Heap 𝓤) (A : Atoms 𝓤) (W : Given
       move ! (1 ∷ 6 ∷ []) $ join ! $ move ! (3 ∷ 0 ∷ []) $ join ! $ move ! (3 ∷ 0 ∷ []) $ join ! $ frame ! $
       nothing ! $ move ! (4 ∷ 0 ∷ []) $ fjoin ! $ nothing ! $ fjoin ! $ nothing ! $ fjoin ! $ nothing ! $ fjoin ! $ nothing ! $ fjoin ! $
       move ! (1 ∷ 0 ∷ []) $ fjoin ! $ move ! (1 ∷ 0 ∷ []) $ fjoin ! $ move ! (1 ∷ 0 ∷ []) $ fjoin ! $ nothing ! $ fjoin ! $ frame ! $
-      owned ! SteppedR (Is SteppedR) (stepped-makes 𝓤 H A) r _ gr $ done !
+      owned ! SteppedR (Is SteppedR) (stepped-value .makes 𝓤 H A) r _ gr $ done !
 
   -- what the triple of `rows_wanted` binds outside, that the caller has what it asks, and what it says
   abbrev to-wanted : Wanted 𝓤 H A mem run .Ghost
@@ -272,7 +272,7 @@ module _ {M : Type 1} (𝓤 : URA M) (H : Heap 𝓤) (A : Atoms 𝓤) (W : Given
   goes-wanted : Is BookR k (bookVals k) → start < 2 ^ 64 → past < 2 ^ 64 → ent 𝓤 (emp 𝓤) (Wanted 𝓤 H A mem run .pre to-wanted)
   goes-wanted gk gs gp =
       qed W [] ∵ nothing ! $ owned ! usize (Is usize) (uint-makes 𝓤 H A W w64) past _ (refl, gp) $ fjoin ! $ owned ! usize (Is usize) (uint-makes 𝓤 H A W w64) start _ (refl, gs) $ fjoin ! $
-      owned ! BookR (Is BookR) (book-makes 𝓤 H A) k _ gk $ fjoin ! $ nothing ! $ join ! $ frame ! $ done !
+      owned ! BookR (Is BookR) (book-value .makes 𝓤 H A) k _ gk $ fjoin ! $ nothing ! $ join ! $ frame ! $ done !
 
   said-wanted : (r : ℕ) → ent 𝓤 (ensured 𝓤 H A wa.ended (wa.clauses 𝓤 H A mem run) tt (k, (start, (past, tt))) tt r) (fact 𝓤 (r ≡ want))
   said-wanted r = exE 𝓤 _ (λ zs. snd∗ 𝓤 (sem 𝓤 H A (lasts wa.ended tt (k, (start, (past, tt))) zs)) (fact 𝓤 (r ≡ want)))
@@ -337,7 +337,7 @@ module _ {M : Type 1} (𝓤 : URA M) (H : Heap 𝓤) (A : Atoms 𝓤) (W : Given
         -- [tape; output; keys; numbers]
         nothing ! $ move ! (2 ∷ 0 ∷ []) $ fjoin ! $ owned ! TimeR (Is TimeR) (time-makes 𝓤 H A W) time _ gt $ fjoin ! $ owned ! usize (Is usize) (uint-makes 𝓤 H A W w64) past _ (refl, gp) $ fjoin ! $
         owned ! usize (Is usize) (uint-makes 𝓤 H A W w64) start _ (refl, gs) $ fjoin ! $ move ! (1 ∷ 0 ∷ []) $ fjoin ! $ owned ! bool (Is bool) (bool-makes 𝓤 H A W) rest _ refl $ fjoin ! $
-        owned ! usize (Is usize) (uint-makes 𝓤 H A W w64) (length ys) _ (refl, gn) $ fjoin ! $ move ! (1 ∷ 0 ∷ []) $ fjoin ! $ move ! (1 ∷ 0 ∷ []) $ fjoin ! $ owned ! BookR (Is BookR) (book-makes 𝓤 H A) k _ gk $ fjoin ! $ done !
+        owned ! usize (Is usize) (uint-makes 𝓤 H A W w64) (length ys) _ (refl, gn) $ fjoin ! $ move ! (1 ∷ 0 ∷ []) $ fjoin ! $ move ! (1 ∷ 0 ∷ []) $ fjoin ! $ owned ! BookR (Is BookR) (book-value .makes 𝓤 H A) k _ gk $ fjoin ! $ done !
 
   -- what the triple of each reading of what a step gave binds outside, that the caller has what it asks, and what it says
   module _ (r : Moved) (w : Val) where
@@ -345,7 +345,7 @@ module _ {M : Type 1} (𝓤 : URA M) (H : Heap 𝓤) (A : Atoms 𝓤) (W : Given
     to-read = ((tt, tt, tt, (r, tt), (w ∷ [], tt)), tt)
 
     goes-read : Is MovedR r (w ∷ []) → ent 𝓤 (emp 𝓤) (ChangedFrom 𝓤 H A mem run .pre to-read)
-    goes-read gr = qed W [] ∵ nothing ! $ owned ! MovedR (Is MovedR) (moved-makes 𝓤 H A) r _ gr $ fjoin ! $ nothing ! $ join ! $ frame ! $ done !
+    goes-read gr = qed W [] ∵ nothing ! $ owned ! MovedR (Is MovedR) (moved-value .makes 𝓤 H A) r _ gr $ fjoin ! $ nothing ! $ join ! $ frame ! $ done !
 
     said-from : (i : ℕ) → ent 𝓤 (ensured 𝓤 H A cf.ended (cf.clauses 𝓤 H A mem run) tt (r, tt) tt i) (fact 𝓤 (i ≡ r .from))
     said-from i = exE 𝓤 _ (λ zs. snd∗ 𝓤 (sem 𝓤 H A (lasts cf.ended tt (r, tt) zs)) (fact 𝓤 (i ≡ r .from)))
@@ -452,7 +452,7 @@ module _ {M : Type 1} (𝓤 : URA M) (H : Heap 𝓤) (A : Atoms 𝓤) (W : Given
               calls-at ! (fmOf 𝓤 H (W .laws) 𝓣) (SteppedOf 𝓤 H A mem run) (known .6) (to-read r v) (and-then ! (load ! (from ! (stop !)) (look ! 53 refl)) (no-more !)) (λ w₃.
               use1 W (later (some (λ (i : Stepped). (‵ ftrue ⊛ ‵ (SteppedR .own i (w₃ ∷ []))) ⊛ raw (ensured 𝓤 H A so.ended (so.clauses 𝓤 H A mem run) tt (r, tt) tt i)))) (id⊢ 𝓤 _) $ await ! tt $ pick ! (λ i₃.
               split ! $ move ! (1 ∷ []) $ use1 W (raw (fact 𝓤 (i₃ ≡ r .stepped))) (said-stepped r v i₃) $ heard ! (i₃ ≡ r .stepped) (λ e₃. split ! $ drop ! $ rewrite ! 0 (λ (i : Stepped). ‵ (SteppedR .own i (w₃ ∷ []))) e₃ refl $
-              peeks ! SteppedR (Is SteppedR) (shows 𝓤 H A SteppedR) (r .stepped) (w₃ ∷ []) (λ g₃. land ! (from ! (stop !)) (init ! 75 refl (stepped-typed 𝓤 H A W (r .stepped) w₃ g₃)) $ drop ! $
+              peeks ! SteppedR (Is SteppedR) (shows 𝓤 H A SteppedR) (r .stepped) (w₃ ∷ []) (λ g₃. land ! (from ! (stop !)) (init ! 75 refl (stepped-value .typed 𝓤 H A W (r .stepped) w₃ g₃)) $ drop ! $
               returns ! (look ! 74 refl) $ forget ! 8 refl $ forget ! 10 refl $ forget ! 12 refl $ forget ! 14 refl $ forget ! 16 refl $ forget ! 18 refl $ forget ! 20 refl $ forget ! 48 refl $ forget ! 50 refl $ forget ! 52 refl $ forget ! 54 refl $ forget ! 56 refl $ forget ! 58 refl $ forget ! 60 refl $ forget ! 62 refl $ forget ! 64 refl $ forget ! 66 refl $ forget ! 68 refl $ forget ! 70 refl $ forget ! 72 refl $ forget ! 74 refl $
               move ! (74 ∷ 75 ∷ []) $ free1 ! $ move ! (72 ∷ 73 ∷ []) $ free1 ! $ move ! (70 ∷ 71 ∷ []) $ free1 ! $ move ! (68 ∷ 69 ∷ []) $ free1 ! $ move ! (66 ∷ 67 ∷ []) $ free1 ! $ move ! (64 ∷ 65 ∷ []) $ free1 ! $ move ! (62 ∷ 63 ∷ []) $ free1 ! $ move ! (60 ∷ 61 ∷ []) $ free1 ! $ move ! (58 ∷ 59 ∷ []) $ free1 ! $ move ! (56 ∷ 57 ∷ []) $ free1 ! $ move ! (54 ∷ 55 ∷ []) $ free1 ! $ move ! (52 ∷ 53 ∷ []) $ free1 ! $ move ! (50 ∷ 51 ∷ []) $ free1 ! $ move ! (48 ∷ 49 ∷ []) $ free1 ! $ move ! (46 ∷ 47 ∷ []) $ free1 ! $ move ! (44 ∷ 45 ∷ []) $ free1 ! $ move ! (42 ∷ 43 ∷ []) $ free1 ! $ move ! (40 ∷ 41 ∷ []) $ free1 ! $ move ! (38 ∷ 39 ∷ []) $ free1 ! $ move ! (36 ∷ 37 ∷ []) $ free1 ! $ move ! (34 ∷ 35 ∷ []) $ free1 ! $ move ! (32 ∷ 33 ∷ []) $ free1 ! $ move ! (30 ∷ 31 ∷ []) $ free1 ! $ move ! (28 ∷ 29 ∷ []) $ free1 ! $ move ! (26 ∷ 27 ∷ []) $ free1 ! $ move ! (24 ∷ 25 ∷ []) $ free1 ! $ move ! (22 ∷ 23 ∷ []) $ free1 ! $ move ! (20 ∷ 21 ∷ []) $ free1 ! $ move ! (18 ∷ 19 ∷ []) $ free1 ! $ move ! (16 ∷ 17 ∷ []) $ free1 ! $ move ! (14 ∷ 15 ∷ []) $ free1 ! $ move ! (12 ∷ 13 ∷ []) $ free1 ! $ move ! (10 ∷ 11 ∷ []) $ free1 ! $ move ! (8 ∷ 9 ∷ []) $ free1 ! $ free0 ! $
               by ! (exits (r .stepped) w₃ (ps .0) ns₂ ks₂ ws g₃ lp (ln₂ ∙ ln) (lk₂ ∙ lk) lw (framed k ys us vs ns ks ns₂ ks₂ rest frame-body time os r ws (past - start) size staged stepped (ps .0) e))))))))))))))))))))))))
@@ -493,7 +493,7 @@ module _ {M : Type 1} (𝓤 : URA M) (H : Heap 𝓤) (A : Atoms 𝓤) (W : Given
             fsplit ! $ drop ! $ fsplit ! $ fsplit ! $ move ! (1 ∷ []) $ feqL ! (λ ln₂. move ! (1 ∷ []) $ fsplit ! $ fsplit ! $ move ! (1 ∷ []) $ feqL ! (λ lk₂. move ! (1 ∷ []) $
             fsplit ! $ drop ! $ fsplit ! $ drop ! $ fsplit ! $ drop ! $ fsplit ! $ drop ! $ fsplit ! $ drop ! $ fsplit ! $ drop ! $ fsplit ! $ fsplit ! $ move ! (1 ∷ []) $ feqL ! (λ lw.
             -- [the last output; true; the last keys; the last numbers; the tokens and the result; what is kept of keys, of numbers; pools; its token; _33 at 9; …]
-            move ! (4 ∷ []) $ split ! $ move ! (1 ∷ []) $ peeks ! MovedR (Is MovedR) (shows 𝓤 H A MovedR) r (w ∷ []) (λ gr. land ! (from ! (stop !)) (init ! 54 refl (moved-typed 𝓤 H A W r w gr)) $
+            move ! (4 ∷ []) $ split ! $ move ! (1 ∷ []) $ peeks ! MovedR (Is MovedR) (shows 𝓤 H A MovedR) r (w ∷ []) (λ gr. land ! (from ! (stop !)) (init ! 54 refl (moved-value .typed 𝓤 H A W r w gr)) $
             drop ! $ split ! $ lft-end ! tt $ move ! (0 ∷ 7 ∷ 5 ∷ []) $
             use3 W (later (Numbers (zs .1 .0) (length ns) ⊛ ‵ (flft κ₂ q₂))) (mut-back N κ₂ (ν ∷ []) q₂ γ₂ b₂ o₂ 𝓤 H A W (named 1) (named 0) ns δ (zs .1 .0) (subst (Room N) (sym ln) room₂) ln₂) $ await ! tt $ split ! $
             move ! (2 ∷ []) $ split ! $ lft-end ! tt $ move ! (0 ∷ 7 ∷ 6 ∷ []) $
@@ -507,7 +507,7 @@ module _ {M : Type 1} (𝓤 : URA M) (H : Heap 𝓤) (A : Atoms 𝓤) (W : Given
         qed W ((‵ (flft κ q) ⊛ ‵ (flft κ₂ q₂) ⊛ ‵ (flft κ₃ q₃) ⊛ Rest) ∷ ‵ (owns (BookR ∷ MutSlice (named 0) κ R ∷ MutSlice (named 1) κ₂ N ∷ MutSlice (named 2) κ₃ K ∷ ShrSlice (named 3) κ₄ u8 ∷ usize ∷ usize ∷ TimeR ∷ MutSlice (named 4) κ₅ u8 ∷ []) a at) ∷ []) ∵
         enter ! (𝓣 .C) (𝓣 .Λ) code.function given _ $
         alloc1 ! (λ l₀. alloc1 ! (λ l₁. alloc1 ! (λ l₂. alloc1 ! (λ l₃. alloc1 ! (λ l₄. alloc1 ! (λ l₅. alloc1 ! (λ l₆. alloc1 ! (λ l₇. alloc1 ! (λ l₈. alloc1 ! (λ l₉. alloc1 ! (λ l₁₀. alloc1 ! (λ l₁₁. alloc1 ! (λ l₁₂. alloc1 ! (λ l₁₃. alloc1 ! (λ l₁₄. alloc1 ! (λ l₁₅. alloc1 ! (λ l₁₆. alloc1 ! (λ l₁₇. alloc1 ! (λ l₁₈. alloc1 ! (λ l₁₉. alloc1 ! (λ l₂₀. alloc1 ! (λ l₂₁. alloc1 ! (λ l₂₂. alloc1 ! (λ l₂₃. alloc1 ! (λ l₂₄. alloc1 ! (λ l₂₅. alloc1 ! (λ l₂₆. alloc1 ! (λ l₂₇. alloc1 ! (λ l₂₈. alloc1 ! (λ l₂₉. alloc1 ! (λ l₃₀. alloc1 ! (λ l₃₁. alloc1 ! (λ l₃₂. alloc1 ! (λ l₃₃. alloc0 ! $ params1 ! $
-        pass1 ! (init ! 64 refl (book-typed 𝓤 H A W k _ gk)) $ pass1 ! (init ! 62 refl (tt, (tt, (record { fits = room .0 }, tt)))) $ pass1 ! (init ! 60 refl (tt, (tt, (record { fits = room₂ .0 }, tt)))) $
+        pass1 ! (init ! 64 refl (book-value .typed 𝓤 H A W k _ gk)) $ pass1 ! (init ! 62 refl (tt, (tt, (record { fits = room .0 }, tt)))) $ pass1 ! (init ! 60 refl (tt, (tt, (record { fits = room₂ .0 }, tt)))) $
         pass1 ! (init ! 58 refl (tt, (tt, (record { fits = room₃ .0 }, tt)))) $ pass1 ! (init ! 56 refl (tt, (tt, (record { fits = room₄ .0 }, tt)))) $ pass1 ! (init ! 54 refl (tt, record { fits = gs })) $ pass1 ! (init ! 52 refl (tt, record { fits = gp })) $
         pass1 ! (init ! 50 refl (time-typed 𝓤 H A W time _ gt)) $ pass1 ! (init ! 48 refl (tt, (tt, (record { fits = room₅ .0 }, tt)))) $ pass0 ! $
         -- [_33; …; _0; …; the tokens; what the parameters own]
@@ -559,7 +559,7 @@ module _ {M : Type 1} (𝓤 : URA M) (H : Heap 𝓤) (A : Atoms 𝓤) (W : Given
   step-with-walks : (𝓣 : Tables 𝓤 H) → Known 𝓤 H A mem run 𝓣 → Walks 𝓤 H A f.ended stayed (WpFn 𝓤 H (𝓣 .C) (𝓣 .Λ) code.function) (f.clauses 𝓤 H A mem run)
   step-with-walks 𝓣 known = walked 𝓤 H A f.ended stayed (f.clauses 𝓤 H A mem run) (WpFn 𝓤 H (𝓣 .C) (𝓣 .Λ) code.function)
       (λ κs. (bookVals, (slice-vals, (slice-vals, (slice-vals, (slice-vals, (uint-vals w64, (uint-vals w64, (timeVals, (slice-vals, tt))))))))))
-      (λ κs. (book-tells, (mut-slice-tells (named 0) (κs .0) R, (mut-slice-tells (named 1) (κs .1 .0) N, (mut-slice-tells (named 2) (κs .1 .1 .0) K, (shr-slice-tells (named 3) (κs .1 .1 .1 .0) u8, (uint-tells w64, (uint-tells w64, (time-tells, (mut-slice-tells (named 4) (κs .1 .1 .1 .1 .0) u8, tt))))))))))
+      (λ κs. (book-value .tells, (mut-slice-tells (named 0) (κs .0) R, (mut-slice-tells (named 1) (κs .1 .0) N, (mut-slice-tells (named 2) (κs .1 .1 .0) K, (shr-slice-tells (named 3) (κs .1 .1 .1 .0) u8, (uint-tells w64, (uint-tells w64, (time-tells, (mut-slice-tells (named 4) (κs .1 .1 .1 .1 .0) u8, tt))))))))))
       (λ κs qs bounds a g are. needs 𝓤 ((rowsOf (length (now (a .1 .0))) (wanted (a .0 .live) (a .1 .1 .1 .1 .1 .1 .0 - a .1 .1 .1 .1 .1 .0)) ≤ length (now (a .1 .1 .0))) × (rowsOf (length (now (a .1 .0))) (wanted (a .0 .live) (a .1 .1 .1 .1 .1 .1 .0 - a .1 .1 .1 .1 .1 .0)) ≤ length (now (a .1 .1 .1 .0))) × (a .1 .1 .1 .1 .1 .0 ≤ a .1 .1 .1 .1 .1 .1 .0) × (a .1 .1 .1 .1 .1 .1 .0 ≤ length (now (a .1 .1 .1 .1 .0)))) _
       (walk 𝓤 H A W mem run (κs .0) (κs .1 .0) (κs .1 .1 .0) (κs .1 .1 .1 .0) (κs .1 .1 .1 .1 .0) (qs .0) (qs .1 .0) (qs .1 .1 .0) (qs .1 .1 .1 .0) (qs .1 .1 .1 .1 .0) (a .0)
       (a .1 .0 .ptr .0) (a .1 .0 .ptr .1) (a .1 .0 .name) (a .1 .0 .now) (a .1 .1 .0 .ptr .0) (a .1 .1 .0 .ptr .1) (a .1 .1 .0 .name) (a .1 .1 .0 .now)
