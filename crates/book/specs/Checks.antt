@@ -6,15 +6,14 @@ use lib.ListN.{length, getD}
 use lib.Dec.{eqb, leb, ltb}
 use Rattle.lists.specs.Lists.{same, keep, any, all, between}
 use Rattle.fields.specs.declared.Field.{Field}
-use Rattle.fields.specs.declared.Field.the-variants.{Number, NotDigits}
-use Rattle.fields.specs.Fields.{allBlank}
+use Rattle.fields.specs.Fields.{isNumber, valueOf, holds, allBlank}
 use Rattle.output.specs.Output.{blanks}
 use Rattle.layout.specs.declared.Column.{Column}
 use Rattle.layout.specs.declared.Detail.{Detail}
 use Rattle.layout.specs.Columns as columns
 use Rattle.layout.specs.Columns.{bytesIn, numberIn}
 use Rattle.layout.specs.Details.{lengthFits, details}
-use Rattle.terminator.specs.Lots.{Lot, poolsOf, lots, lotKind, lotMillions, formedFor, goodMillions, replacementCount, valueOf}
+use Rattle.terminator.specs.Lots.{Lot, poolsOf, lots, lotKind, lotMillions, formedFor, goodMillions, replacementCount}
 use Rattle.terminator.specs.Groups.{lotCanceled, groupsFormed, groupsBalanced}
 use Rattle.faces.specs.Faces.{newPools, facesFail, lotsFail}
 use Rattle.calendar.specs.Calendar.{businessDate}
@@ -79,8 +78,7 @@ outputShort c = ltb (c .room) roomLeast
 -- ---- 10 to 25: the line and the sender's system
 -- not digits, or a number that fails a test
 abbrev pub notNumber : (ℕ → Bool) → Field → Bool
-notNumber p (Number n) = not (p n)
-notNumber p NotDigits = true
+notNumber p f = not (holds p f)
 
 -- 10: a body that is not a header and 1 to 250 whole details
 abbrev pub lengthWrong : List ℕ → Bool
@@ -88,8 +86,7 @@ lengthWrong body = not (lengthFits body)
 
 -- not digits, or a number that the line refuses
 abbrev pub isNoSequence : Field → Bool
-isNoSequence (Number n) = isRefused n
-isNoSequence NotDigits = true
+isNoSequence f = not (isNumber f) || isRefused (valueOf f)
 
 -- 11: a sequence that is no number, or one that the line never takes
 abbrev pub sequenceFails : List ℕ → Bool

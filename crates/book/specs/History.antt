@@ -6,7 +6,7 @@ use mathlib.Core.Bool.{Bool, true, false, cond, _&&_}
 use lib.Dec.{eqb}
 use Rattle.lists.specs.Lists.{any, keep, sumOf}
 use Rattle.fields.specs.declared.Field.{Field}
-use Rattle.fields.specs.declared.Field.the-variants.{Number, NotDigits}
+use Rattle.fields.specs.Fields.{holds}
 use Rattle.layout.specs.declared.Detail.{Detail}
 use Rattle.layout.specs.Details.{details}
 use Rattle.terminator.specs.Lots.{Lot, poolsOf, lotMillions, lotWeight}
@@ -41,8 +41,7 @@ atOpening v = record { lastMessageId = v .lastMessageId; lots = [] }
 
 -- ---- taking off
 abbrev pub isTarget : Field → ℕ → Bool
-isTarget (Number n) id = eqb id n
-isTarget NotDigits id = false
+isTarget tgt id = holds (eqb id) tgt
 
 -- a lot under the target with a pool whose matched fields are listed
 abbrev pub touches : Field → List Fields → Brought → Bool

@@ -1,11 +1,11 @@
 -- What a body says to the book (01, "Columns" and "The book"): its type, sequence, target and trade ID, the pools that it lists and the lots that it brings.
 use Prim.Native.Nat.{ℕ}
 use mathlib.Core.List.{List, [], _∷_, map}
-use mathlib.Core.Bool.{Bool, false, cond}
+use mathlib.Core.Bool.{Bool, cond}
 use lib.Dec.{eqb}
 use Rattle.lists.specs.Lists.{same, keep}
 use Rattle.fields.specs.declared.Field.{Field}
-use Rattle.fields.specs.declared.Field.the-variants.{Number, NotDigits}
+use Rattle.fields.specs.Fields.{holds}
 use Rattle.layout.specs.declared.Detail.{Detail}
 use Rattle.layout.specs.Columns as columns
 use Rattle.layout.specs.Columns.{bytesIn, numberIn}
@@ -62,8 +62,7 @@ abbrev pub targetOf : List ℕ → Field
 targetOf body = numberIn body columns.target
 
 abbrev pub under : Field → Pool → Bool
-under (Number id) r = eqb (r .message) id
-under NotDigits r = false
+under tgt r = holds (eqb (r .message)) tgt
 
 -- the pools that a message takes off: all of a DK's, a CC's canceled ones
 abbrev pub listedOf : MessageType → List Detail → List Detail

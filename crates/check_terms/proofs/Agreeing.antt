@@ -11,15 +11,14 @@ use Rattle.lists.specs.Lists.{part, same}
 use Rattle.lists.proofs.Parts.{out-past, out-short, length-part}
 use Rattle.lists.proofs.Tests.{same-unlike}
 use Rattle.fields.specs.declared.Field.{Field}
-use Rattle.fields.specs.declared.Field.the-variants.{NotDigits}
-use Rattle.fields.specs.Fields.{readNumber, samePart}
+use Rattle.fields.specs.Fields.{readNumber, isNumber, samePart}
 use Rattle.layout.specs.Columns as columns
 use Rattle.layout.specs.Columns.{bytesIn, numberIn}
 use Rattle.message_type.specs.declared.MessageType.{MessageType}
 use Rattle.message_type.specs.declared.MessageType.the-variants.{On, Cc, Dk, Cx, Other}
 use Rattle.book.specs.declared.Trade.{Trade}
 use Rattle.book.specs.Messages.{typeOf}
-use Rattle.book.specs.Trades.{sideOf, isNumber, priceIs, agrees}
+use Rattle.book.specs.Trades.{sideOf, numberIs, priceIs, agrees}
 use Rattle.book.specs.Checks.{noTrade}
 use Rattle.header.proofs.Parts.{column-same}
 use Rattle.check_terms.specs.declared.Stated.{Stated}
@@ -52,9 +51,9 @@ pub stated-is : (body : List ℕ) (m : MessageType) (date price : Field) → m �
 stated-is body m date price e f g = rw (e, f, g)
 
 module _ (body : List ℕ) (s : Stated) (is : s ≡ statedOf body) (t : Trade) (a b : Bool)
-    (date : a ≡ isNumber (s .settlement) (t .settlement)) (price : b ≡ priceIs (s .price) (t .price)) where
-  date-is : a ≡ isNumber (numberIn body columns.settlement) (t .settlement)
-  date-is = date ∙ ap (λ (r : Stated). isNumber (r .settlement) (t .settlement)) is
+    (date : a ≡ numberIs (s .settlement) (t .settlement)) (price : b ≡ priceIs (s .price) (t .price)) where
+  date-is : a ≡ numberIs (numberIn body columns.settlement) (t .settlement)
+  date-is = date ∙ ap (λ (r : Stated). numberIs (r .settlement) (t .settlement)) is
 
   price-is : b ≡ priceIs (numberIn body columns.price) (t .price)
   price-is = price ∙ ap (λ (r : Stated). priceIs (r .price) (t .price)) is
@@ -85,11 +84,11 @@ side-none Dk = refl
 side-none Cx = refl
 side-none Other = refl
 
-no-date : (body : List ℕ) → length body < 90 → numberIn body columns.settlement ≡ NotDigits
+no-date : (body : List ℕ) → length body < 90 → isNumber (numberIn body columns.settlement) ≡ false
 unfolding readNumber
 no-date body h = go (leb 82 (length body)) refl
   where
-    go : (b : Bool) → leb 82 (length body) ≡ b → numberIn body columns.settlement ≡ NotDigits
+    go : (b : Bool) → leb 82 (length body) ≡ b → isNumber (numberIn body columns.settlement) ≡ false
     go true p = rw (out-short body 82 8 (omega (arith, leb-true 82 (length body) p)))
     go false p = rw (out-past body 82 8 (leb-false 82 (length body) p))
 
@@ -104,5 +103,5 @@ agrees-none body = go (leb 90 (length body)) refl
         let u : same (part body 19 4) [] ≡ false = sym (same-unlike (part body 19 4) [] (λ k. let z : 4 ≡ 0 = sym l ∙ k in omega arith)) in
         rw (side-none (typeOf body), u)
     go false p =
-        let d : numberIn body columns.settlement ≡ NotDigits = no-date body (leb-false 90 (length body) p) in
+        let d : isNumber (numberIn body columns.settlement) ≡ false = no-date body (leb-false 90 (length body) p) in
         rw d (sym (last-fail (same (bytesIn body columns.submitter) (sideOf (typeOf body) noTrade)) (same (bytesIn body columns.contra) []) (same (bytesIn body columns.cusip) []) false (priceIs (numberIn body columns.price) 0) refl))

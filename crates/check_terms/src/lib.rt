@@ -11,7 +11,7 @@ ghost use mathlib.Core.Bool.{_&&_, cond};
 ghost use Prim.Native.Nat.{ℕ};
 ghost use lib.Dec.{leb};
 ghost use Rattle.lists.specs.Lists.{any};
-ghost use Rattle.book.specs.Trades.{tradesOf, sideOf, isNumber, priceIs, agrees, firstTrade, broughtWeight, openPars, isNamedBy, tradeOfOn};
+ghost use Rattle.book.specs.Trades.{tradesOf, sideOf, numberIs, priceIs, agrees, firstTrade, broughtWeight, openPars, isNamedBy, tradeOfOn};
 ghost use Rattle.check_terms.specs.Reading.{statedOf};
 ghost use Rattle.trade_id.specs.declared.TradeId.the-variants.{Whole};
 ghost use Rattle.book.specs.declared.Reason.the-variants as reason;
@@ -28,22 +28,18 @@ struct Stated {
     price: Field,
 }
 
-fn is_number(f: Field, k: u64) -> bool
-    ensures { λ r. ⌜ r ≡ isNumber f k ⌝ }
+fn number_is(f: Field, k: u64) -> bool
+    ensures { λ r. ⌜ r ≡ numberIs f k ⌝ }
 {
-    match f {
-        Field::Number(n) => n == k,
-        Field::NotDigits => false,
-    }
+    let n = fields::value_of(f);
+    fields::is_number(f) & (n == k)
 }
 
 fn price_is(f: Field, k: u64) -> bool
     ensures { λ r. ⌜ r ≡ priceIs f k ⌝ }
 {
-    match f {
-        Field::Number(p) => trade_id::prices_agree(p, k),
-        Field::NotDigits => false,
-    }
+    let p = fields::value_of(f);
+    fields::is_number(f) & trade_id::prices_agree(p, k)
 }
 
 // The side of a trade that submits a message of some type.
@@ -76,7 +72,7 @@ fn agrees_as(body: &[u8], s: Stated, t: Trade) -> bool
 {
     let settlement = s.settlement;
     let price = s.price;
-    if !(is_number(settlement, t.settlement) & price_is(price, t.price)) {
+    if !(number_is(settlement, t.settlement) & price_is(price, t.price)) {
         return false;
     }
     let message = s.message;

@@ -1,5 +1,4 @@
 // Where the target's records stand in the table, where each listed pool stands among them, and what marked records weigh.
-use fields::Field;
 use layout::Detail;
 use message_type::MessageType;
 ghost use mathlib.Core.Path.{_≡_};
@@ -70,19 +69,18 @@ pub fn target_run(numbers: &[[u64; 6]], live: usize, body: &[u8]) -> Run
     ensures { λ r. ⌜ ((ks : List (List ℕ)) → r ≡ runOf (targetOf (now (body .entry))) (take live (tableOf (now (numbers .entry)) ks))) ⌝ }
 {
     let f = layout::number_in(body, layout::TARGET);
-    match f {
-        Field::Number(id) => {
-            let start = first_under(numbers, live, id);
-            let stop = first_other(numbers, start, live, id);
-            Run {
-                start: start,
-                stop: stop,
-            }
-        }
-        Field::NotDigits => Run {
+    if !fields::is_number(f) {
+        return Run {
             start: live,
             stop: live,
-        },
+        };
+    }
+    let id = fields::value_of(f);
+    let start = first_under(numbers, live, id);
+    let stop = first_other(numbers, start, live, id);
+    Run {
+        start: start,
+        stop: stop,
     }
 }
 
