@@ -1,6 +1,6 @@
 -- Every call keeps book and history side by side: a refused one changes neither, an accepted one is a move. What the promise says can be read off them.
 use mathlib.Core.Path.{_≡_, refl, sym, ap, _∙_}
-use mathlib.Core.Bool.{Bool, true, false, not, cond, _||_, false≢true}
+use mathlib.Core.Bool.{Bool, true, false, not, cond, _||_}
 use mathlib.Core.List.{List, [], _∷_, _++_, List·Memᴰ·not-nil, Memᴰ·map, Memᴰ·cast}
 use Prim.Native.Nat.{ℕ, suc, _+_, _-_, _≤_, _<_}
 use native.Mathlib.Nat.{add-zero, zero-add, min-le-left}
@@ -27,11 +27,11 @@ use Rattle.book.specs.Soundness.{liveOf, parsFrom}
 use Rattle.book.specs.Checks.{Call, live, trades, concernedFor, concerned, tradeAt, noTrade, taken, canceledLots, lotFields, answerOf}
 use Rattle.message_type.specs.Questions.{isOther, isCc, isCx, onOrCc, ccOrDk}
 use Rattle.book.specs.Step.{withOpenPar, tradesMoved, liveMoved, tableMoved, bookAfter, tableAfter}
-use Rattle.book.specs.History.{Brought, History, isTarget, touches, stands, tradeShare, standingWeight, millionsByOns, millionsByDks, atOpening, lotsAfter, feed, takesOffFor, takesOff}
+use Rattle.book.specs.History.{Brought, History, isTarget, touches, stands, tradeShare, standingWeight, millionsByOns, millionsByDks, atOpening, lotsAfter, feed, takesOff}
 use Rattle.book.specs.Promise.{State, openedState, Demand3}
 use Rattle.book.proofs.ByRecord.{exactByRecord, oneByRecord}
 use Rattle.book.proofs.Passed.{Fine, fine}
-use Rattle.book.proofs.Pools.{listed-as}
+use Rattle.book.proofs.Pools.{listed-none}
 use Rattle.book.proofs.Reached.{at-par-blind, parsHold, by-record}
 use Rattle.book.proofs.Targets.{has-in}
 use Rattle.book.proofs.Laid.{flat, laidLot, trade-flat, laid-weight, laid-millions}
@@ -234,14 +234,7 @@ module _ (v : Values) (c : Call) (h : History) (w : Beside v (c .book .values .l
 
   pub taken-stands : (g : Brought) → g ∈ h .lots → takesOff (c .body) g ≡ true → g .offs ≡ 0
   unfolding takesOff
-  taken-stands g m q = go (typeOf (c .body)) refl q
-    where
-      go : (k : MessageType) → typeOf (c .body) ≡ k → takesOffFor k (c .body) g ≡ true → g .offs ≡ 0
-      go On e t = absurd (false≢true t)
-      go Cc e t = touched-stands (ap ccOrDk e) g m t
-      go Dk e t = touched-stands (ap ccOrDk e) g m t
-      go Cx e t = absurd (false≢true t)
-      go Other e t = absurd (false≢true t)
+  taken-stands g m q = touched-stands (and-left (ccOrDk (typeOf (c .body))) _ q) g m (and-right (ccOrDk (typeOf (c .body))) _ q)
 
   -- a lot of the history with listed fields
   abbrev pub Source : Fields → Type 0
@@ -249,22 +242,16 @@ module _ (v : Values) (c : Call) (h : History) (w : Beside v (c .book .values .l
 
   pub listed-source : (f : Fields) → f ∈ listed (c .body) → Source f
   unfolding takesOff
-  listed-source f m = go (typeOf (c .body)) refl
+  listed-source f m = go (ccOrDk (typeOf (c .body))) refl
     where
-      from : ccOrDk (typeOf (c .body)) ≡ true → ((g : Brought) → touches (targetOf (c .body)) (listed (c .body)) g ≡ true → takesOffFor (typeOf (c .body)) (c .body) g ≡ true) → Source f
-      from e k =
+      go : (b : Bool) → ccOrDk (typeOf (c .body)) ≡ b → Source f
+      go true e =
           let (g, mg, sg, tg, (d, md, ed)) = listed-lot (targetOf (c .body)) (listed (c .body)) (h .lots) (exact-flat e .live) f m in (
             g,
             mg,
             tg,
             eqb-true (g .offs) 0 sg,
-            k g (both (isTarget (targetOf (c .body)) (g .id)) (any (isListed (listed (c .body))) (poolsOf (g .lot))) tg (any-in (isListed (listed (c .body))) md (rw ed (has-in m)))),
+            both (ccOrDk (typeOf (c .body))) _ e (both (isTarget (targetOf (c .body)) (g .id)) (any (isListed (listed (c .body))) (poolsOf (g .lot))) tg (any-in (isListed (listed (c .body))) md (rw ed (has-in m)))),
             Memᴰ·cast (sym ed) (Memᴰ·map fieldsOf md),
           )
-
-      go : (k : MessageType) → typeOf (c .body) ≡ k → Source f
-      go On e = absurd (List·Memᴰ·not-nil (rw (listed-as (c .body) On e) at m))
-      go Cc e = from (ap ccOrDk e) (λ g t. rw e t)
-      go Dk e = from (ap ccOrDk e) (λ g t. rw e t)
-      go Cx e = absurd (List·Memᴰ·not-nil (rw (listed-as (c .body) Cx e) at m))
-      go Other e = absurd (List·Memᴰ·not-nil (rw (listed-as (c .body) Other e) at m))
+      go false e = absurd (List·Memᴰ·not-nil (rw (listed-none (c .body) e) at m))

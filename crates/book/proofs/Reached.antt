@@ -18,16 +18,14 @@ use Rattle.terminator.specs.Lots.{Lot}
 use Rattle.faces.specs.Faces.{newLots, newPools}
 use Rattle.sequence.specs.Sequence.{outboundMax, soundLine, lineAfter, nextOutbound, outboundSpent}
 use Rattle.sequence.proofs.Soundness.{start-sound, stays-sound}
-use Rattle.message_type.specs.declared.MessageType.{MessageType}
-use Rattle.message_type.specs.declared.MessageType.the-variants.{On, Cc, Dk, Cx, Other}
 use Rattle.book.specs.declared.Trade.{Trade}
 use Rattle.book.specs.declared.Values.{Values}
 use Rattle.book.specs.declared.Book.{Book}
 use Rattle.book.specs.declared.Pool.{Pool}
 use Rattle.book.specs.declared.Answer.{Answer}
 use Rattle.book.specs.Reasons.{isAccepted}
-use Rattle.book.specs.Records.{fieldsOf, distinct, recordsOf, noPool, tradeWeight, weightOfRecords}
-use Rattle.book.specs.Messages.{typeOf, targetOf, listedOf, listed, broughtBy, brought}
+use Rattle.book.specs.Records.{distinct, recordsOf, noPool, tradeWeight, weightOfRecords}
+use Rattle.book.specs.Messages.{typeOf, targetOf, listed, brought}
 use Rattle.book.specs.Trades.{tradesOf, tradeName, broughtWeight}
 use Rattle.book.specs.Opening.{recordsMax, elevenDigitsMax, holidaysOf, tradeFine, valuesFine, openingFine, atPar, opened, cleared}
 use Rattle.book.specs.Soundness.{liveOf, recordFine, inOrder, fieldsOnce, isNone, parsFrom, Sound, isSound}
@@ -39,7 +37,7 @@ use Rattle.book.specs.Promise.{State, Put, callOf, after, afterAll, open
 use Rattle.book.proofs.ByRecord.{allLive, wholeLots, exactByRecord, listedByRecord}
 use Rattle.book.proofs.ListLaws.{or-right, neither-left, all-keep, all-implied, all-both, all-replicate, length-keep}
 use Rattle.book.proofs.Passed.{Fine, fine}
-use Rattle.book.proofs.Pools.{lots-formed-fields, records-new}
+use Rattle.book.proofs.Pools.{lots-formed-fields, records-new, listed-none, brought-new, brought-none}
 use Rattle.book.proofs.LiveLots.{listed-by-record}
 use Rattle.book.proofs.Ordered.{isOld, ordered-after}
 use Rattle.book.proofs.Matched.{once-after, taken-enough}
@@ -121,27 +119,19 @@ module _ (c : Call) (ok : isAccepted (answerOf c) ≡ true) where
 
   -- new lots, or none
   brought-either : ((onOrCc (typeOf (c .body)) ≡ true) × (brought (c .body) ≡ newLots ds)) ⊎ (brought (c .body) ≡ [])
-  unfolding brought
-  brought-either = go (typeOf (c .body))
+  brought-either = go (onOrCc (typeOf (c .body))) refl
     where
-      go : (t : MessageType) → ((onOrCc t ≡ true) × (broughtBy t (details (c .body)) ≡ newLots (details (c .body)))) ⊎ (broughtBy t (details (c .body)) ≡ [])
-      go On = inl (refl, refl)
-      go Cc = inl (refl, refl)
-      go Dk = inr refl
-      go Cx = inr refl
-      go Other = inr refl
+      go : (b : Bool) → onOrCc (typeOf (c .body)) ≡ b → ((onOrCc (typeOf (c .body)) ≡ true) × (brought (c .body) ≡ newLots ds)) ⊎ (brought (c .body) ≡ [])
+      go true e = inl (e, brought-new (c .body) e)
+      go false e = inr (brought-none (c .body) e)
 
   -- fields to take off are found, or none are listed
   listed-either : (ccOrDk (typeOf (c .body)) ≡ true) ⊎ (listed (c .body) ≡ [])
-  unfolding listed
-  listed-either = go (typeOf (c .body))
+  listed-either = go (ccOrDk (typeOf (c .body))) refl
     where
-      go : (t : MessageType) → (ccOrDk t ≡ true) ⊎ (map fieldsOf (listedOf t (details (c .body))) ≡ [])
-      go On = inr refl
-      go Cc = inl refl
-      go Dk = inl refl
-      go Cx = inr refl
-      go Other = inr refl
+      go : (b : Bool) → ccOrDk (typeOf (c .body)) ≡ b → (ccOrDk (typeOf (c .body)) ≡ true) ⊎ (listed (c .body) ≡ [])
+      go true e = inl e
+      go false e = inr (listed-none (c .body) e)
 
   -- at least as many records go as fields are listed
   gone-enough : length (listed (c .body)) ≤ length (taken c)

@@ -13,6 +13,7 @@ use Rattle.terminator.specs.Lots.{Lot, poolsOf, lotMillions, lotWeight}
 use Rattle.terminator.specs.Groups.{Group, groups}
 use Rattle.message_type.specs.declared.MessageType.{MessageType}
 use Rattle.message_type.specs.declared.MessageType.the-variants.{On, Cc, Dk, Cx, Other}
+use Rattle.message_type.specs.Questions.{ccOrDk}
 use Rattle.book.specs.declared.Trade.{Trade}
 use Rattle.book.specs.declared.Values.{Values}
 use Rattle.book.specs.Records.{Fields, fieldsOf, hasFields}
@@ -144,12 +145,5 @@ history v h [] = h
 history v h (f ∷ fs) = history v (feed v h (f .body) (f .isAccepted)) fs
 
 -- whether a message takes a lot off
-abbrev pub takesOffFor : MessageType → List ℕ → Brought → Bool
-takesOffFor On body h = false
-takesOffFor Cc body h = touches (targetOf body) (listed body) h
-takesOffFor Dk body h = touches (targetOf body) (listed body) h
-takesOffFor Cx body h = false
-takesOffFor Other body h = false
-
 unfoldable pub takesOff : List ℕ → Brought → Bool
-takesOff body h = takesOffFor (typeOf body) body h
+takesOff body h = ccOrDk (typeOf body) && touches (targetOf body) (listed body) h

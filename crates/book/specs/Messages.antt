@@ -15,6 +15,7 @@ use Rattle.terminator.specs.Lots.{Lot}
 use Rattle.faces.specs.Faces.{newLots}
 use Rattle.message_type.specs.declared.MessageType.{MessageType}
 use Rattle.message_type.specs.declared.MessageType.the-variants.{On, Cc, Dk, Cx, Other}
+use Rattle.message_type.specs.Questions.{onOrCc, ccOrDk, listsAll}
 use Rattle.trade_id.specs.declared.TradeId.{TradeId}
 use Rattle.trade_id.specs.SpecialInstructions.{tradeIdOf}
 use Rattle.book.specs.declared.Pool.{Pool}
@@ -66,22 +67,14 @@ under tgt r = holds (eqb (r .message)) tgt
 
 -- the pools that a message takes off: all of a DK's, a CC's canceled ones
 abbrev pub listedOf : MessageType → List Detail → List Detail
-listedOf On ds = []
-listedOf Cc ds = keep isCanceled ds
-listedOf Dk ds = ds
-listedOf Cx ds = []
-listedOf Other ds = []
+listedOf t ds = cond (ccOrDk t) (cond (listsAll t) ds (keep isCanceled ds)) []
 
 unfoldable pub listed : List ℕ → List Fields
 listed body = map fieldsOf (listedOf (typeOf body) (details body))
 
 -- the lots that a message brings: all of an ON's, a CC's replacements
 abbrev pub broughtBy : MessageType → List Detail → List Lot
-broughtBy On ds = newLots ds
-broughtBy Cc ds = newLots ds
-broughtBy Dk ds = []
-broughtBy Cx ds = []
-broughtBy Other ds = []
+broughtBy t ds = cond (onOrCc t) (newLots ds) []
 
 unfoldable pub brought : List ℕ → List Lot
 brought body = broughtBy (typeOf body) (details body)

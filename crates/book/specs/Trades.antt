@@ -11,7 +11,7 @@ use Rattle.layout.specs.Columns as columns
 use Rattle.layout.specs.Columns.{bytesIn, numberIn}
 use Rattle.terminator.specs.Lots.{lotWeight}
 use Rattle.message_type.specs.declared.MessageType.{MessageType}
-use Rattle.message_type.specs.declared.MessageType.the-variants.{On, Cc, Dk, Cx, Other}
+use Rattle.message_type.specs.Questions.{buyerSubmits}
 use Rattle.trade_id.specs.declared.TradeId.{TradeId}
 use Rattle.trade_id.specs.declared.TradeId.the-variants.{Whole, Broken, Absent}
 use Rattle.trade_id.specs.Prices.{pricesAgree}
@@ -29,11 +29,7 @@ tradeName t = take (t .length) (t .id)
 
 -- the submitter is the seller for ON and CC, the buyer for DK
 abbrev pub sideOf : MessageType → Trade → List ℕ
-sideOf On t = t .seller
-sideOf Cc t = t .seller
-sideOf Dk t = t .buyer
-sideOf Cx t = t .seller
-sideOf Other t = t .seller
+sideOf m t = cond (buyerSubmits m) (t .buyer) (t .seller)
 
 -- a field is this number, or a price that agrees with it
 abbrev pub numberIs : Field → ℕ → Bool

@@ -1,7 +1,7 @@
 -- What a message takes off, by its type: a CC or DK what is decided, another nothing.
 use Prim.Native.Nat.{ℕ}
 use native.Mathlib.Omega.{arith}
-use mathlib.Core.Path.{_≡_, refl, sym, ap, _∙_}
+use mathlib.Core.Path.{_≡_, sym, ap, _∙_}
 use mathlib.Core.List.{List, []}
 use mathlib.Core.Bool.{Bool, true, false, not, _||_, and-false}
 use lib.ListN.{length, take, length-replicate}
@@ -13,10 +13,10 @@ use Rattle.book.specs.declared.Pool.{Pool}
 use Rattle.book.specs.Messages.{typeOf, listed}
 use Rattle.book.specs.Opening.{recordsMax}
 use Rattle.message_type.specs.Questions.{isCc, isDk, ccOrDk}
+use Rattle.book.proofs.Pools.{listed-none}
 use Rattle.rows.specs.Rows.{tableOf}
 use Rattle.rows.proofs.Rows.{length-table}
 use Rattle.rows_find.proofs.Cells.{getD-zeros}
-use Rattle.rows_find.proofs.Seeking.{lists-nothing}
 use Rattle.check_listed.specs.declared.Listed.{Listed}
 use Rattle.check_listed.specs.Listing.{Findable, Decides, withoutMarks, marksTaken, Takes}
 
@@ -29,7 +29,7 @@ module _ (k : MessageType) (body : List ℕ) (cc dk : Bool) (ek : k ≡ typeOf b
   unfolding withoutMarks marksTaken
   takes-none e rs r er =
       let n : ccOrDk (typeOf body) ≡ false = sym either ∙ not-true (cc || dk) e in
-      let l : listed body ≡ [] = lists-nothing (typeOf body) body refl n in
+      let l : listed body ≡ [] = listed-none body n in
       record {
         size = rw er (length-replicate {A = ℕ} recordsMax 0);
         fine = rw (er, n);

@@ -1,7 +1,7 @@
 -- Terms agree: the two that are numbers are looked at first, and a trade past the end agrees with no message.
 use mathlib.Core.Path.{_≡_, refl, sym, ap, _∙_}
 use mathlib.Core.List.{List, []}
-use mathlib.Core.Bool.{Bool, true, false, not, _&&_, and-false, and-true}
+use mathlib.Core.Bool.{Bool, true, false, cond, not, _&&_, and-false, and-true}
 use Prim.Native.Nat.{ℕ, _<_}
 use native.Mathlib.Omega.{arith}
 use lib.ListN.{length}
@@ -15,7 +15,7 @@ use Rattle.fields.specs.Fields.{readNumber, isNumber, samePart}
 use Rattle.layout.specs.Columns as columns
 use Rattle.layout.specs.Columns.{bytesIn, numberIn}
 use Rattle.message_type.specs.declared.MessageType.{MessageType}
-use Rattle.message_type.specs.declared.MessageType.the-variants.{On, Cc, Dk, Cx, Other}
+use Rattle.message_type.specs.Questions.{buyerSubmits}
 use Rattle.book.specs.declared.Trade.{Trade}
 use Rattle.book.specs.Messages.{typeOf}
 use Rattle.book.specs.Trades.{sideOf, numberIs, priceIs, agrees}
@@ -38,12 +38,9 @@ pub record Lengths (t : Trade) : Type 0 where
   pub contra : length (t .contra) ≡ 4
   pub cusip : length (t .cusip) ≡ 9
 
-side-length : {t : Trade} → Lengths t → (m : MessageType) → length (sideOf m t) ≡ 4
-side-length l On = l .seller
-side-length l Cc = l .seller
-side-length l Dk = l .buyer
-side-length l Cx = l .seller
-side-length l Other = l .seller
+side-length : {t : Trade} → Lengths t → (buyer : Bool) → length (cond buyer (t .buyer) (t .seller)) ≡ 4
+side-length l true = l .buyer
+side-length l false = l .seller
 
 -- what is read is what the message states
 pub stated-is : (body : List ℕ) (m : MessageType) (date price : Field) → m ≡ typeOf body → date ≡ numberIn body columns.settlement → price ≡ numberIn body columns.price
@@ -69,7 +66,7 @@ module _ (body : List ℕ) (s : Stated) (is : s ≡ statedOf body) (t : Trade) (
   unfolding agrees
   numbers-alike n l side e x y z p q r =
       let f : side ≡ sideOf (typeOf body) t = e ∙ ap (λ (u : Stated). sideOf (u .message) t) is in
-      let k : length side ≡ 4 = ap length f ∙ side-length l (typeOf body) in
+      let k : length side ≡ 4 = ap length f ∙ side-length l (buyerSubmits (typeOf body)) in
       let p′ : x ≡ same (bytesIn body columns.submitter) (sideOf (typeOf body) t) =
       p ∙ column-same body 19 4 side k (omega arith) ∙ ap (same (bytesIn body columns.submitter)) f in
       let q′ : y ≡ same (bytesIn body columns.contra) (t .contra) = q ∙ column-same body 23 4 (t .contra) (l .contra) (omega arith) in
@@ -77,12 +74,9 @@ module _ (body : List ℕ) (s : Stated) (is : s ≡ statedOf body) (t : Trade) (
       rw (← date-is, ← price-is, ← p′, ← q′, ← r′) (last-pass x y z a b (not-false (a && b) n))
 
 -- ---- a trade past the end has no bytes: a body that is long enough for a settlement has a submitter
-side-none : (m : MessageType) → sideOf m noTrade ≡ []
-side-none On = refl
-side-none Cc = refl
-side-none Dk = refl
-side-none Cx = refl
-side-none Other = refl
+side-none : (buyer : Bool) → cond buyer (noTrade .buyer) (noTrade .seller) ≡ []
+side-none true = refl
+side-none false = refl
 
 no-date : (body : List ℕ) → length body < 90 → isNumber (numberIn body columns.settlement) ≡ false
 unfolding readNumber
@@ -101,7 +95,7 @@ agrees-none body = go (leb 90 (length body)) refl
         let h = leb-true 90 (length body) p in
         let l : length (part body 19 4) ≡ 4 = length-part body 19 4 (omega arith) in
         let u : same (part body 19 4) [] ≡ false = sym (same-unlike (part body 19 4) [] (λ k. let z : 4 ≡ 0 = sym l ∙ k in omega arith)) in
-        rw (side-none (typeOf body), u)
+        rw (side-none (buyerSubmits (typeOf body)), u)
     go false p =
         let d : isNumber (numberIn body columns.settlement) ≡ false = no-date body (leb-false 90 (length body) p) in
         rw d (sym (last-fail (same (bytesIn body columns.submitter) (sideOf (typeOf body) noTrade)) (same (bytesIn body columns.contra) []) (same (bytesIn body columns.cusip) []) false (priceIs (numberIn body columns.price) 0) refl))

@@ -18,7 +18,6 @@ ghost use Rattle.book.specs.declared.Reason.the-variants as reason;
 ghost use Rattle.book.specs.declared.Verdict.the-variants.{Passes, Fails};
 ghost use Rattle.book.specs.Messages.{idIn};
 ghost use Rattle.book.specs.Checks.{idFails, termsFail};
-ghost use Rattle.message_type.specs.Questions.{isOn};
 ghost use Rattle.check_terms.specs.Absent.{isAbsent};
 
 // What a message states of its terms: its type, and the two terms that are numbers.
@@ -46,13 +45,10 @@ fn price_is(f: Field, k: u64) -> bool
 fn side_of(message: MessageType, t: Trade) -> [u8; 4]
     ensures { λ r. ⌜ r ≡ sideOf message t ⌝ }
 {
-    match message {
-        MessageType::On => t.seller,
-        MessageType::Cc => t.seller,
-        MessageType::Dk => t.buyer,
-        MessageType::Cx => t.seller,
-        MessageType::Other => t.seller,
+    if message_type::buyer_submits(message) {
+        return t.buyer;
     }
+    t.seller
 }
 
 fn read_terms(body: &[u8]) -> Stated
@@ -133,18 +129,15 @@ pub fn some_agrees(body: &[u8], v: Values) -> bool
     false
 }
 
-// What a message's new lots weigh: an ON's and a CC's.
+// What a message's new lots weigh.
 pub fn brought_weight(body: &[u8]) -> u64
     ensures { λ r. ⌜ r ≡ broughtWeight (now (body .entry)) ⌝ }
 {
     let message = header::message_type(body);
-    match message {
-        MessageType::On => new_lots::new_weight(body),
-        MessageType::Cc => new_lots::new_weight(body),
-        MessageType::Dk => 0,
-        MessageType::Cx => 0,
-        MessageType::Other => 0,
+    if !message_type::brings_lots(message) {
+        return 0;
     }
+    new_lots::new_weight(body)
 }
 
 fn is_absent(id: TradeId) -> bool

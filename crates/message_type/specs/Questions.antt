@@ -45,3 +45,11 @@ onOrCc t = isOn t || isCc t
 -- a CC and a DK list live lots under a target
 abbrev pub ccOrDk : MessageType → Bool
 ccOrDk t = isCc t || isDk t
+
+-- of these a DK lists all its pools, a CC the canceled ones
+abbrev pub listsAll : MessageType → Bool
+listsAll t = isDk t
+
+-- the buyer of a trade submits a DK, the seller every other
+abbrev pub buyerSubmits : MessageType → Bool
+buyerSubmits t = isDk t

@@ -89,13 +89,8 @@ fn is_listed(t: MessageType, d: Detail) -> bool
     ensures { λ r. ⌜ r ≡ lists t d ⌝ }
 {
     let bytes = d.terminator;
-    match t {
-        MessageType::On => false,
-        MessageType::Cc => bytes[0] == terminator::CANCELED,
-        MessageType::Dk => true,
-        MessageType::Cx => false,
-        MessageType::Other => false,
-    }
+    let canceled = bytes[0] == terminator::CANCELED;
+    message_type::lists_lots(t) & (message_type::lists_all(t) | canceled)
 }
 
 // Whether two rows hold the same matched fields.
