@@ -16,7 +16,7 @@ use Rattle.terminator.specs.Lots.{Lot, poolsOf, lotsFrom, lots, goesOn, lotsFor
 use Rattle.terminator.specs.Groups.{Group, groupsFrom, groups, lotCanceled}
 use Rattle.faces.specs.Faces.{newLots, newPools, isNewLot}
 use Rattle.message_type.specs.declared.MessageType.{MessageType}
-use Rattle.message_type.specs.Questions.{onOrCc, ccOrDk}
+use Rattle.message_type.specs.Questions.{bringsLots, listsLots}
 use Rattle.book.specs.Records.{fieldsOf, poolOf, recordsOf}
 use Rattle.book.specs.Messages.{typeOf, listedOf, listed, brought}
 use Rattle.book.specs.Checks.{canceledLots}
@@ -124,15 +124,15 @@ pub listed-as : (body : List ℕ) (k : MessageType) → typeOf body ≡ k → li
 unfolding listed
 listed-as body k e = ap (λ (x : MessageType). map fieldsOf (listedOf x (details body))) e
 
-pub listed-none : (body : List ℕ) → ccOrDk (typeOf body) ≡ false → listed body ≡ []
+pub listed-none : (body : List ℕ) → listsLots (typeOf body) ≡ false → listed body ≡ []
 unfolding listed
 listed-none body e = rw e
 
-pub brought-new : (body : List ℕ) → onOrCc (typeOf body) ≡ true → brought body ≡ newLots (details body)
+pub brought-new : (body : List ℕ) → bringsLots (typeOf body) ≡ true → brought body ≡ newLots (details body)
 unfolding brought
 brought-new body e = rw e
 
-pub brought-none : (body : List ℕ) → onOrCc (typeOf body) ≡ false → brought body ≡ []
+pub brought-none : (body : List ℕ) → bringsLots (typeOf body) ≡ false → brought body ≡ []
 unfolding brought
 brought-none body e = rw e
 

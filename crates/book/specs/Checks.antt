@@ -27,7 +27,7 @@ use Rattle.message_type.specs.declared.MessageType.{MessageType}
 use Rattle.message_type.specs.declared.MessageType.the-variants.{On, Cc, Dk, Cx, Other}
 use Rattle.trade_id.specs.declared.TradeId.{TradeId}
 use Rattle.trade_id.specs.declared.TradeId.the-variants.{Whole, Broken, Absent}
-use Rattle.message_type.specs.Questions.{isOn, isCc, isDk, isCx, isOther, onOrCc, ccOrDk}
+use Rattle.message_type.specs.Questions.{isOn, isCc, isDk, isCx, isOther, bringsLots, listsLots}
 use Rattle.book.specs.declared.Trade.{Trade}
 use Rattle.book.specs.declared.Values.{Values}
 use Rattle.book.specs.declared.Book.{Book}
@@ -388,23 +388,23 @@ checks =
     ∷ check 16 reason.Amounts every (ofBoth amountsFail)
     ∷ check 17 reason.Parties every (ofBoth partiesFail)
     ∷ check 18 reason.Cancel isCx always
-    ∷ check 19 reason.LotForm onOrCc (ofBody lotFormFails)
+    ∷ check 19 reason.LotForm bringsLots (ofBody lotFormFails)
     ∷ check 20 reason.Groups isCc (ofBody groupsFail)
     ∷ check 21 reason.Sums isCc (ofBody sumsFail)
     ∷ check 22 reason.Replacements isCc (ofBody replacementsFail)
     ∷ check 23 reason.Settlement isCc (ofBoth settlementFails)
     ∷ check 24 reason.ReasonCode isDk (ofBody reasonFails)
     ∷ check 25 reason.NoTradeId isDk (ofBody tradeIdMissing)
-    ∷ check 30 reason.Target ccOrDk targetGone
+    ∷ check 30 reason.Target listsLots targetGone
     ∷ check 31 reason.TradeId every tradeIdFails
     ∷ check 32 reason.Terms every termsDiffer
     ∷ check 33 reason.Millions isOn (ofBody millionsFail)
-    ∷ check 34 reason.Faces onOrCc (ofBoth newFacesFail)
-    ∷ check 35 reason.Variance onOrCc (ofBoth newLotsFail)
-    ∷ check 36 reason.Repeated onOrCc (ofBody newPoolsRepeat)
-    ∷ check 37 reason.Listed ccOrDk listedFail
-    ∷ check 38 reason.Par onOrCc parShort
-    ∷ check 40 reason.TableFull onOrCc tableFull
+    ∷ check 34 reason.Faces bringsLots (ofBoth newFacesFail)
+    ∷ check 35 reason.Variance bringsLots (ofBoth newLotsFail)
+    ∷ check 36 reason.Repeated bringsLots (ofBody newPoolsRepeat)
+    ∷ check 37 reason.Listed listsLots listedFail
+    ∷ check 38 reason.Par bringsLots parShort
+    ∷ check 40 reason.TableFull bringsLots tableFull
     ∷ []
 
 -- a trader's number, 30 to 38, is DKed, but on a DK rejected; every other is rejected

@@ -13,7 +13,7 @@ use Rattle.terminator.specs.Lots.{Lot, poolsOf, lotMillions, lotWeight}
 use Rattle.terminator.specs.Groups.{Group, groups}
 use Rattle.message_type.specs.declared.MessageType.{MessageType}
 use Rattle.message_type.specs.declared.MessageType.the-variants.{On, Cc, Dk, Cx, Other}
-use Rattle.message_type.specs.Questions.{ccOrDk}
+use Rattle.message_type.specs.Questions.{listsLots}
 use Rattle.book.specs.declared.Trade.{Trade}
 use Rattle.book.specs.declared.Values.{Values}
 use Rattle.book.specs.Records.{Fields, fieldsOf, hasFields}
@@ -146,4 +146,4 @@ history v h (f ∷ fs) = history v (feed v h (f .body) (f .isAccepted)) fs
 
 -- whether a message takes a lot off
 unfoldable pub takesOff : List ℕ → Brought → Bool
-takesOff body h = ccOrDk (typeOf body) && touches (targetOf body) (listed body) h
+takesOff body h = listsLots (typeOf body) && touches (targetOf body) (listed body) h

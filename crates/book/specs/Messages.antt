@@ -15,7 +15,7 @@ use Rattle.terminator.specs.Lots.{Lot}
 use Rattle.faces.specs.Faces.{newLots}
 use Rattle.message_type.specs.declared.MessageType.{MessageType}
 use Rattle.message_type.specs.declared.MessageType.the-variants.{On, Cc, Dk, Cx, Other}
-use Rattle.message_type.specs.Questions.{onOrCc, ccOrDk, listsAll}
+use Rattle.message_type.specs.Questions.{bringsLots, listsLots, listsAll}
 use Rattle.trade_id.specs.declared.TradeId.{TradeId}
 use Rattle.trade_id.specs.SpecialInstructions.{tradeIdOf}
 use Rattle.book.specs.declared.Pool.{Pool}
@@ -67,14 +67,14 @@ under tgt r = holds (eqb (r .message)) tgt
 
 -- the pools that a message takes off: all of a DK's, a CC's canceled ones
 abbrev pub listedOf : MessageType → List Detail → List Detail
-listedOf t ds = cond (ccOrDk t) (cond (listsAll t) ds (keep isCanceled ds)) []
+listedOf t ds = cond (listsLots t) (cond (listsAll t) ds (keep isCanceled ds)) []
 
 unfoldable pub listed : List ℕ → List Fields
 listed body = map fieldsOf (listedOf (typeOf body) (details body))
 
 -- the lots that a message brings: all of an ON's, a CC's replacements
 abbrev pub broughtBy : MessageType → List Detail → List Lot
-broughtBy t ds = cond (onOrCc t) (newLots ds) []
+broughtBy t ds = cond (bringsLots t) (newLots ds) []
 
 unfoldable pub brought : List ℕ → List Lot
 brought body = broughtBy (typeOf body) (details body)

@@ -22,7 +22,7 @@ use Rattle.book.specs.Messages.{typeOf, targetOf, under, listedOf, listed}
 use Rattle.book.specs.Opening.{recordsMax}
 use Rattle.book.specs.Soundness.{inOrder, fieldsOnce}
 use Rattle.book.specs.Checks.{isTaken, canceledLots, listedFine}
-use Rattle.message_type.specs.Questions.{isCc, ccOrDk}
+use Rattle.message_type.specs.Questions.{isCc, listsLots}
 use Rattle.book.proofs.ByRecord.{allLive, wholeLots, oneByRecord, listedByRecord}
 use Rattle.book.proofs.LiveLots.{listed-by-record}
 use Rattle.book.proofs.ListLaws.{implies}
@@ -202,7 +202,7 @@ module _ (body : List ℕ) (ns ks : List (List ℕ)) (live : ℕ) (given : Finda
         lots-alike : alikeLots ≡ all (lotAlike numbers) (lots (details body))
         lots-alike = ap (λ (s : Alike). s .fine) (alike-fold numbers noneAlike (details body)) ∙ alike-pass numbers true (details body) formed
 
-    shown : (t : MessageType) → typeOf body ≡ t → ccOrDk t ≡ true → liveFor t → Shown t
+    shown : (t : MessageType) → typeOf body ≡ t → listsLots t ≡ true → liveFor t → Shown t
     shown On e c l = absurd (false≢true c)
     shown Cc e c l = shown-cc e l
     shown Dk e c l = shown-dk e l

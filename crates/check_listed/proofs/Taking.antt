@@ -12,7 +12,7 @@ use Rattle.message_type.specs.declared.MessageType.{MessageType}
 use Rattle.book.specs.declared.Pool.{Pool}
 use Rattle.book.specs.Messages.{typeOf, listed}
 use Rattle.book.specs.Opening.{recordsMax}
-use Rattle.message_type.specs.Questions.{isCc, isDk, ccOrDk}
+use Rattle.message_type.specs.Questions.{isCc, isDk, listsLots}
 use Rattle.book.proofs.Pools.{listed-none}
 use Rattle.rows.specs.Rows.{tableOf}
 use Rattle.rows.proofs.Rows.{length-table}
@@ -21,14 +21,14 @@ use Rattle.check_listed.specs.declared.Listed.{Listed}
 use Rattle.check_listed.specs.Listing.{Findable, Decides, withoutMarks, marksTaken, Takes}
 
 module _ (k : MessageType) (body : List ℕ) (cc dk : Bool) (ek : k ≡ typeOf body) (ec : cc ≡ isCc k) (ed : dk ≡ isDk k) where
-  either : (cc || dk) ≡ ccOrDk (typeOf body)
+  either : (cc || dk) ≡ listsLots (typeOf body)
   either = rw (ec, ed, ek)
 
   -- a type that takes nothing off
   pub takes-none : not (cc || dk) ≡ true → (rs : List Pool) (r : Listed) → r ≡ withoutMarks true → Takes body rs r
   unfolding withoutMarks marksTaken
   takes-none e rs r er =
-      let n : ccOrDk (typeOf body) ≡ false = sym either ∙ not-true (cc || dk) e in
+      let n : listsLots (typeOf body) ≡ false = sym either ∙ not-true (cc || dk) e in
       let l : listed body ≡ [] = listed-none body n in
       record {
         size = rw er (length-replicate {A = ℕ} recordsMax 0);
@@ -39,7 +39,7 @@ module _ (k : MessageType) (body : List ℕ) (cc dk : Bool) (ek : k ≡ typeOf b
       }
 
   module _ (e : not (cc || dk) ≡ false) (ns ks : List (List ℕ)) (n : ℕ) (given : Findable body ns ks n) (d : Listed) (decides : Decides body ns ks n d) where
-    asked : ccOrDk (typeOf body) ≡ true
+    asked : listsLots (typeOf body) ≡ true
     asked = sym either ∙ not-false (cc || dk) e
 
     -- what it lists does not pass

@@ -7,12 +7,12 @@ use borrow.Author.Tests.{not-true, not-false}
 use Rattle.layout.specs.Details.{details}
 use Rattle.faces.specs.Faces.{newWeight}
 use Rattle.message_type.specs.declared.MessageType.{MessageType}
-use Rattle.message_type.specs.Questions.{onOrCc}
+use Rattle.message_type.specs.Questions.{bringsLots}
 use Rattle.book.specs.Messages.{typeOf}
 use Rattle.book.specs.Trades.{broughtWeight}
 use Rattle.book.proofs.Pools.{brought-new, brought-none}
 
-module _ (body : List ℕ) (m : MessageType) (b : Bool) (is : m ≡ typeOf body) (brings : b ≡ onOrCc m) where
+module _ (body : List ℕ) (m : MessageType) (b : Bool) (is : m ≡ typeOf body) (brings : b ≡ bringsLots m) where
   pub weight-none : not b ≡ true → 0 ≡ broughtWeight body
   unfolding broughtWeight
   weight-none n = rw (brought-none body (rw is at (sym brings ∙ not-true b n)))

@@ -19,7 +19,7 @@ use Rattle.book.specs.declared.Pool.{Pool}
 use Rattle.book.specs.Records.{Fields, fieldsOf, liveFields, sameFields}
 use Rattle.book.specs.Messages.{typeOf, targetOf, under, listedOf, listed}
 use Rattle.book.specs.Soundness.{inOrder}
-use Rattle.message_type.specs.Questions.{ccOrDk, listsAll}
+use Rattle.message_type.specs.Questions.{listsLots, listsAll}
 use Rattle.book.proofs.ByRecord.{allLive}
 use Rattle.book.proofs.ListLaws.{all-of-map}
 use Rattle.rows.specs.Rows.{keyAt, recordAt, tableOf}
@@ -35,7 +35,7 @@ use Rattle.rows_find.proofs.Cells.{Filled, filled-none, filled-skip, fi
 
 -- ---- what a message lists
 lists-keep : (t : MessageType) (ds : List Detail) → listedOf t ds ≡ keep (lists t) ds
-lists-keep t ds = go (ccOrDk t) (listsAll t)
+lists-keep t ds = go (listsLots t) (listsAll t)
   where
     go : (some every : Bool) → cond some (cond every ds (keep isCanceled ds)) [] ≡ keep (λ (d : Detail). some && (every || isCanceled d)) ds
     go false every = sym (keep-none (λ (d : Detail). false) ds (λ (d : Detail) m. refl))

@@ -9,7 +9,7 @@ use Rattle.layout.specs.declared.Detail.{Detail}
 use Rattle.layout.specs.Details.{poolsMax, poolCount, detailAt, placeOf}
 use Rattle.terminator.specs.Terminators.{isCanceled}
 use Rattle.message_type.specs.declared.MessageType.{MessageType}
-use Rattle.message_type.specs.Questions.{ccOrDk, listsAll}
+use Rattle.message_type.specs.Questions.{listsLots, listsAll}
 use Rattle.book.specs.declared.Pool.{Pool}
 use Rattle.book.specs.Records.{Fields, fieldsOf, liveFields, sameFields}
 use Rattle.book.specs.Messages.{typeOf, listed}
@@ -23,7 +23,7 @@ rowFields row = record { lot = part row 0 6; pool = part row 6 7; original = par
 
 -- whether a message of a type lists a pool: a DK each one, a CC the canceled ones
 abbrev pub lists : MessageType → Detail → Bool
-lists t d = ccOrDk t && (listsAll t || isCanceled d)
+lists t d = listsLots t && (listsAll t || isCanceled d)
 
 -- the records of a run
 abbrev pub runRecords : List (List ℕ) → List (List ℕ) → Run → List Pool

@@ -18,7 +18,7 @@ use Rattle.book.specs.Records.{noPool, recordsOf}
 use Rattle.faces.specs.Faces.{newLots}
 use Rattle.book.specs.Messages.{typeOf, targetOf, listed}
 use Rattle.book.specs.Checks.{isTaken}
-use Rattle.message_type.specs.Questions.{onOrCc, ccOrDk}
+use Rattle.message_type.specs.Questions.{bringsLots, listsLots}
 use Rattle.book.proofs.ListLaws.{length-keep}
 use Rattle.book.proofs.Pools.{listed-none, brought-new, brought-none}
 use Rattle.rows.specs.Rows.{tableOf}
@@ -61,18 +61,18 @@ module _ (body : List ℕ) (ns ks : List (List ℕ)) (live : ℕ) (ms : List ℕ
       (er ∙ ap length stays, rw stays at ea ∙ f)
 
   -- left as it is, where nothing is listed
-  pub left-all : (k : MessageType) (b : Bool) → k ≡ typeOf body → b ≡ ccOrDk k → b ≡ false
+  pub left-all : (k : MessageType) (b : Bool) → k ≡ typeOf body → b ≡ listsLots k → b ≡ false
       → (live ≡ length (remaining body (take live (tableOf ns ks)))) × (tableOf ns ks ≡ filled (length ns) (remaining body (take live (tableOf ns ks))))
   left-all k b ek eb e =
-      let n = nothing-taken body (take live (tableOf ns ks)) (listed-none body (ap ccOrDk (sym ek) ∙ sym eb ∙ e)) in
+      let n = nothing-taken body (take live (tableOf ns ks)) (listed-none body (ap listsLots (sym ek) ∙ sym eb ∙ e)) in
       let split : take live (tableOf ns ks) ++ drop live (tableOf ns ks) ≡ tableOf ns ks = take-append-drop live (tableOf ns ks) in
       (rw n (sym size), sym split ∙ rw (n, size, m .zeros))
 
 -- ---- bringing
-module _ (body : List ℕ) (message trade : ℕ) (k : MessageType) (b : Bool) (ek : k ≡ typeOf body) (eb : b ≡ onOrCc k) where
+module _ (body : List ℕ) (message trade : ℕ) (k : MessageType) (b : Bool) (ek : k ≡ typeOf body) (eb : b ≡ bringsLots k) where
   -- what an ON or a CC brings is its new lots
   pub brings : b ≡ true → bringing body message trade ≡ recordsOf message trade 1 (newLots (details body))
-  brings e = ap (recordsOf message trade 1) (brought-new body (ap onOrCc (sym ek) ∙ sym eb ∙ e))
+  brings e = ap (recordsOf message trade 1) (brought-new body (ap bringsLots (sym ek) ∙ sym eb ∙ e))
 
   pub brings-room : (at n : ℕ) → b ≡ true → at + length (bringing body message trade) ≤ n → at + length (recordsOf message trade 1 (newLots (details body))) ≤ n
   brings-room at n e h = rw (sym (brings e)) h
@@ -86,7 +86,7 @@ module _ (body : List ℕ) (message trade : ℕ) (k : MessageType) (b : Bool) (e
   pub brings-none : (n r : ℕ) (rs u : List Pool) → b ≡ false → r ≡ length rs → u ≡ filled n rs
       → (r ≡ length (rs ++ bringing body message trade)) × (u ≡ filled n (rs ++ bringing body message trade))
   brings-none n r rs u e er eu =
-      let q : bringing body message trade ≡ [] = ap (recordsOf message trade 1) (brought-none body (ap onOrCc (sym ek) ∙ sym eb ∙ e)) in
+      let q : bringing body message trade ≡ [] = ap (recordsOf message trade 1) (brought-none body (ap bringsLots (sym ek) ∙ sym eb ∙ e)) in
       rw (q, append-nil) (er, eu)
 
 -- new records in the place of the first zeros
