@@ -1,6 +1,6 @@
 -- Every call keeps book and history side by side: a refused one changes neither, an accepted one is a move. What the promise says can be read off them.
 use mathlib.Core.Path.{_≡_, refl, sym, ap, _∙_}
-use mathlib.Core.Bool.{Bool, true, false, not, cond, _||_, false≢true}
+use mathlib.Core.Bool.{Bool, true, false, not, cond, _||_}
 use mathlib.Core.List.{List, [], _∷_, _++_, List·Memᴰ·not-nil, Memᴰ·map, Memᴰ·cast}
 use Prim.Native.Nat.{ℕ, suc, _+_, _-_, _≤_, _<_}
 use native.Mathlib.Nat.{add-zero, zero-add, min-le-left}
@@ -25,13 +25,13 @@ use Rattle.book.specs.Trades.{tradesOf, broughtWeight}
 use Rattle.book.specs.Opening.{atPar, opened}
 use Rattle.book.specs.Soundness.{liveOf, parsFrom}
 use Rattle.book.specs.Checks.{Call, live, trades, concernedFor, concerned, tradeAt, noTrade, taken, canceledLots, lotFields, answerOf}
-use Rattle.message_type.specs.Questions.{isOther, isCc, isCx, onOrCc, ccOrDk}
+use Rattle.message_type.specs.Questions.{isOther, isCc, isCx, bringsLots, listsLots}
 use Rattle.book.specs.Step.{withOpenPar, tradesMoved, liveMoved, tableMoved, bookAfter, tableAfter}
-use Rattle.book.specs.History.{Brought, History, isTarget, touches, stands, tradeShare, standingWeight, millionsByOns, millionsByDks, atOpening, lotsAfter, feed, takesOffFor, takesOff}
+use Rattle.book.specs.History.{Brought, History, isTarget, touches, stands, tradeShare, standingWeight, millionsByOns, millionsByDks, atOpening, lotsAfter, feed, takesOff}
 use Rattle.book.specs.Promise.{State, openedState, Demand3}
 use Rattle.book.proofs.ByRecord.{exactByRecord, oneByRecord}
 use Rattle.book.proofs.Passed.{Fine, fine}
-use Rattle.book.proofs.Pools.{listed-as}
+use Rattle.book.proofs.Pools.{listed-none}
 use Rattle.book.proofs.Reached.{at-par-blind, parsHold, by-record}
 use Rattle.book.proofs.Targets.{has-in}
 use Rattle.book.proofs.Laid.{flat, laidLot, trade-flat, laid-weight, laid-millions}
@@ -46,7 +46,7 @@ InStep v s h = Beside v (s .book .values .lastMessageId) (tradesOf (s .book .val
 -- ---- an accepted call is a move
 
 -- what 37 says of the listed pools alone
-listed-exact : (c : Call) → ccOrDk (typeOf (c .body)) ≡ true → Fine c → exactByRecord (targetOf (c .body)) (listed (c .body)) (live c) ≡ true
+listed-exact : (c : Call) → listsLots (typeOf (c .body)) ≡ true → Fine c → exactByRecord (targetOf (c .body)) (listed (c .body)) (live c) ≡ true
 listed-exact c e f =
     and-left (exactByRecord (targetOf (c .body)) (listed (c .body)) (live c)) (not (isCc (typeOf (c .body))) || all (oneByRecord (targetOf (c .body)) (live c)) (canceledLots (details (c .body))))
     (by-record c e f)
@@ -56,7 +56,7 @@ canceled-exact : (c : Call) → typeOf (c .body) ≡ Cc → Fine c → all (oneB
 canceled-exact c e f =
     implied (isCc (typeOf (c .body))) (all (oneByRecord (targetOf (c .body)) (live c)) (canceledLots (details (c .body))))
     (and-right (exactByRecord (targetOf (c .body)) (listed (c .body)) (live c)) (not (isCc (typeOf (c .body))) || all (oneByRecord (targetOf (c .body)) (live c)) (canceledLots (details (c .body))))
-    (by-record c (ap ccOrDk e) f))
+    (by-record c (ap listsLots e) f))
     (ap isCc e)
 
 module _ (v : Values) (c : Call) (h : History) (w : Beside v (c .book .values .lastMessageId) (trades c) (live c) h) where
@@ -70,11 +70,11 @@ module _ (v : Values) (c : Call) (h : History) (w : Beside v (c .book .values .l
   unfolding concerned
   concerned-as k e = ap (λ (x : MessageType). concernedFor x (c .body) (trades c) (live c)) e
 
-  range : onOrCc (typeOf (c .body)) ≡ true → Fine c → concerned c < length (trades c)
+  range : bringsLots (typeOf (c .body)) ≡ true → Fine c → concerned c < length (trades c)
   range e f = ltb-true (concerned c) (length (trades c))
       (and-left (ltb (concerned c) (length (trades c))) (leb (broughtWeight (c .body)) (tradeAt (trades c) (concerned c) .openPar + weightOfRecords (taken c))) (f .parEnough e))
 
-  room : onOrCc (typeOf (c .body)) ≡ true → Fine c → broughtWeight (c .body) ≤ tradeAt (trades c) (concerned c) .openPar + weightOfRecords (taken c)
+  room : bringsLots (typeOf (c .body)) ≡ true → Fine c → broughtWeight (c .body) ≤ tradeAt (trades c) (concerned c) .openPar + weightOfRecords (taken c)
   room e f = leb-true (broughtWeight (c .body)) (tradeAt (trades c) (concerned c) .openPar + weightOfRecords (taken c))
       (and-right (ltb (concerned c) (length (trades c))) (leb (broughtWeight (c .body)) (tradeAt (trades c) (concerned c) .openPar + weightOfRecords (taken c))) (f .parEnough e))
 
@@ -82,8 +82,8 @@ module _ (v : Values) (c : Call) (h : History) (w : Beside v (c .book .values .l
   unfolding broughtWeight
   moves-on e f =
       record {
-        moves = on-move v (c .book .values .lastMessageId) (trades c) (live c) h w (c .body) e (isCc (typeOf (c .body))) (f .formed (ap onOrCc e)) (f .repeated (ap onOrCc e))
-            (concerned c) (range (ap onOrCc e) f) (room (ap onOrCc e) f);
+        moves = on-move v (c .book .values .lastMessageId) (trades c) (live c) h w (c .body) e (isCc (typeOf (c .body))) (f .formed (ap bringsLots e)) (f .repeated (ap bringsLots e))
+            (concerned c) (range (ap bringsLots e) f) (room (ap bringsLots e) f);
         makes = rw (concerned-as On e, e) (on-lots v (c .book .values .lastMessageId) (trades c) (live c) h w (c .body) e);
       }
 
@@ -91,9 +91,9 @@ module _ (v : Values) (c : Call) (h : History) (w : Beside v (c .book .values .l
   moves-dk e f =
       record {
         moves = rw (concerned-as Dk e)
-            (dk-move v (c .book .values .lastMessageId) (trades c) (live c) h w (c .body) (f .targetLive (ap ccOrDk e)) (listed-exact c (ap ccOrDk e) f) e);
+            (dk-move v (c .book .values .lastMessageId) (trades c) (live c) h w (c .body) (f .targetLive (ap listsLots e)) (listed-exact c (ap listsLots e) f) e);
         makes = rw (concerned-as Dk e, e)
-            (dk-lots v (c .book .values .lastMessageId) (trades c) (live c) h w (c .body) (f .targetLive (ap ccOrDk e)) (listed-exact c (ap ccOrDk e) f) e);
+            (dk-lots v (c .book .values .lastMessageId) (trades c) (live c) h w (c .body) (f .targetLive (ap listsLots e)) (listed-exact c (ap listsLots e) f) e);
       }
 
   moves-cc : typeOf (c .body) ≡ Cc → Fine c → Moves false false
@@ -101,12 +101,12 @@ module _ (v : Values) (c : Call) (h : History) (w : Beside v (c .book .values .l
   moves-cc e f =
       record {
         moves = rw (concerned-as Cc e)
-            (cc-move v (c .book .values .lastMessageId) (trades c) (live c) h w (c .body) (f .targetLive (ap ccOrDk e)) (listed-exact c (ap ccOrDk e) f) e
-            (isCc (typeOf (c .body))) (f .formed (ap onOrCc e)) (f .repeated (ap onOrCc e)) (f .balanced (ap isCc e)) (canceled-exact c e f)
-            (rw (concerned-as Cc e) at (room (ap onOrCc e) f)));
+            (cc-move v (c .book .values .lastMessageId) (trades c) (live c) h w (c .body) (f .targetLive (ap listsLots e)) (listed-exact c (ap listsLots e) f) e
+            (isCc (typeOf (c .body))) (f .formed (ap bringsLots e)) (f .repeated (ap bringsLots e)) (f .balanced (ap isCc e)) (canceled-exact c e f)
+            (rw (concerned-as Cc e) at (room (ap bringsLots e) f)));
         makes = rw (concerned-as Cc e, e)
-            (cc-lots v (c .book .values .lastMessageId) (trades c) (live c) h w (c .body) (f .targetLive (ap ccOrDk e)) (listed-exact c (ap ccOrDk e) f) e
-            (isCc (typeOf (c .body))) (f .formed (ap onOrCc e)) (f .grouped (ap isCc e)));
+            (cc-lots v (c .book .values .lastMessageId) (trades c) (live c) h w (c .body) (f .targetLive (ap listsLots e)) (listed-exact c (ap listsLots e) f) e
+            (isCc (typeOf (c .body))) (f .formed (ap bringsLots e)) (f .grouped (ap isCc e)));
       }
 
   -- some flags, for one of the three types that are accepted
@@ -225,23 +225,16 @@ in-step-pars v s h w =
     rw zero-add (omega (arith, par, standing-weight v s h w j, w .pars j (omega (arith, same-count v ts (w .terms))))))
 
 module _ (v : Values) (c : Call) (h : History) (w : Beside v (c .book .values .lastMessageId) (trades c) (live c) h) (a : isAccepted (answerOf c) ≡ true) where
-  exact-flat : ccOrDk (typeOf (c .body)) ≡ true → Exact (targetOf (c .body)) (listed (c .body)) (flat stands (h .lots))
+  exact-flat : listsLots (typeOf (c .body)) ≡ true → Exact (targetOf (c .body)) (listed (c .body)) (flat stands (h .lots))
   exact-flat e = rw (w .table) at (exact (targetOf (c .body)) (listed (c .body)) (live c) (listed-exact c e (fine c a)))
 
-  touched-stands : ccOrDk (typeOf (c .body)) ≡ true → (g : Brought) → g ∈ h .lots → touches (targetOf (c .body)) (listed (c .body)) g ≡ true → g .offs ≡ 0
+  touched-stands : listsLots (typeOf (c .body)) ≡ true → (g : Brought) → g ∈ h .lots → touches (targetOf (c .body)) (listed (c .body)) g ≡ true → g .offs ≡ 0
   touched-stands e g m q =
       eqb-true (g .offs) 0 (first-time (targetOf (c .body)) (listed (c .body)) (h .lots) (length (tradesOf v)) (h .lastMessageId) (w .lots) (exact-flat e .live) g m q)
 
   pub taken-stands : (g : Brought) → g ∈ h .lots → takesOff (c .body) g ≡ true → g .offs ≡ 0
   unfolding takesOff
-  taken-stands g m q = go (typeOf (c .body)) refl q
-    where
-      go : (k : MessageType) → typeOf (c .body) ≡ k → takesOffFor k (c .body) g ≡ true → g .offs ≡ 0
-      go On e t = absurd (false≢true t)
-      go Cc e t = touched-stands (ap ccOrDk e) g m t
-      go Dk e t = touched-stands (ap ccOrDk e) g m t
-      go Cx e t = absurd (false≢true t)
-      go Other e t = absurd (false≢true t)
+  taken-stands g m q = touched-stands (and-left (listsLots (typeOf (c .body))) _ q) g m (and-right (listsLots (typeOf (c .body))) _ q)
 
   -- a lot of the history with listed fields
   abbrev pub Source : Fields → Type 0
@@ -249,22 +242,16 @@ module _ (v : Values) (c : Call) (h : History) (w : Beside v (c .book .values .l
 
   pub listed-source : (f : Fields) → f ∈ listed (c .body) → Source f
   unfolding takesOff
-  listed-source f m = go (typeOf (c .body)) refl
+  listed-source f m = go (listsLots (typeOf (c .body))) refl
     where
-      from : ccOrDk (typeOf (c .body)) ≡ true → ((g : Brought) → touches (targetOf (c .body)) (listed (c .body)) g ≡ true → takesOffFor (typeOf (c .body)) (c .body) g ≡ true) → Source f
-      from e k =
+      go : (b : Bool) → listsLots (typeOf (c .body)) ≡ b → Source f
+      go true e =
           let (g, mg, sg, tg, (d, md, ed)) = listed-lot (targetOf (c .body)) (listed (c .body)) (h .lots) (exact-flat e .live) f m in (
             g,
             mg,
             tg,
             eqb-true (g .offs) 0 sg,
-            k g (both (isTarget (targetOf (c .body)) (g .id)) (any (isListed (listed (c .body))) (poolsOf (g .lot))) tg (any-in (isListed (listed (c .body))) md (rw ed (has-in m)))),
+            both (listsLots (typeOf (c .body))) _ e (both (isTarget (targetOf (c .body)) (g .id)) (any (isListed (listed (c .body))) (poolsOf (g .lot))) tg (any-in (isListed (listed (c .body))) md (rw ed (has-in m)))),
             Memᴰ·cast (sym ed) (Memᴰ·map fieldsOf md),
           )
-
-      go : (k : MessageType) → typeOf (c .body) ≡ k → Source f
-      go On e = absurd (List·Memᴰ·not-nil (rw (listed-as (c .body) On e) at m))
-      go Cc e = from (ap ccOrDk e) (λ g t. rw e t)
-      go Dk e = from (ap ccOrDk e) (λ g t. rw e t)
-      go Cx e = absurd (List·Memᴰ·not-nil (rw (listed-as (c .body) Cx e) at m))
-      go Other e = absurd (List·Memᴰ·not-nil (rw (listed-as (c .body) Other e) at m))
+      go false e = absurd (List·Memᴰ·not-nil (rw (listed-none (c .body) e) at m))

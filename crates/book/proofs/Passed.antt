@@ -20,7 +20,7 @@ use Rattle.book.specs.Records.{fieldsOf, distinct}
 use Rattle.book.specs.Messages.{typeOf, targetOf, under}
 use Rattle.book.specs.Soundness.{isSound}
 use Rattle.book.specs.Checks.{Call, live, numbersSpent, sequenceFails, sequenceRepeats, typeUnknown, tradeIdFails, termsDiffer, listedFine, parFine, tableFine, Check, checks, refusal, firstFailing, answerTo, answerOf}
-use Rattle.message_type.specs.Questions.{isCc, isDk, isCx, onOrCc, ccOrDk}
+use Rattle.message_type.specs.Questions.{isCc, isDk, isCx, bringsLots, listsLots}
 
 -- the number that a check shows is the paper's for its reason
 pub numbers-shown : all (λ (k : Check). eqb (k .number) (numberOf (k .reason))) checks ≡ true
@@ -83,18 +83,18 @@ pub record Fine (c : Call) : Type 0 where
   pub notOther : typeUnknown (c .body) ≡ false
   pub notCancel : isCx (typeOf (c .body)) ≡ false
   -- 19, 20, 21
-  pub formed : onOrCc (typeOf (c .body)) ≡ true → formedFor (isCc (typeOf (c .body))) (details (c .body)) ≡ true
+  pub formed : bringsLots (typeOf (c .body)) ≡ true → formedFor (isCc (typeOf (c .body))) (details (c .body)) ≡ true
   pub grouped : isCc (typeOf (c .body)) ≡ true → groupsFormed (details (c .body)) ≡ true
   pub balanced : isCc (typeOf (c .body)) ≡ true → groupsBalanced (details (c .body)) ≡ true
   -- 30, 31, 32
-  pub targetLive : ccOrDk (typeOf (c .body)) ≡ true → any (under (targetOf (c .body))) (live c) ≡ true
+  pub targetLive : listsLots (typeOf (c .body)) ≡ true → any (under (targetOf (c .body))) (live c) ≡ true
   pub idFine : tradeIdFails c ≡ false
   pub termsFine : termsDiffer c ≡ false
   -- 36, 37, 38, 40
-  pub repeated : onOrCc (typeOf (c .body)) ≡ true → distinct (map fieldsOf (newPools (details (c .body)))) ≡ true
-  pub listedExact : ccOrDk (typeOf (c .body)) ≡ true → listedFine (c .body) (live c) ≡ true
-  pub parEnough : onOrCc (typeOf (c .body)) ≡ true → parFine c ≡ true
-  pub tableFits : onOrCc (typeOf (c .body)) ≡ true → tableFine c ≡ true
+  pub repeated : bringsLots (typeOf (c .body)) ≡ true → distinct (map fieldsOf (newPools (details (c .body)))) ≡ true
+  pub listedExact : listsLots (typeOf (c .body)) ≡ true → listedFine (c .body) (live c) ≡ true
+  pub parEnough : bringsLots (typeOf (c .body)) ≡ true → parFine c ≡ true
+  pub tableFits : bringsLots (typeOf (c .body)) ≡ true → tableFine c ≡ true
 
 pub fine : (c : Call) → isAccepted (answerOf c) ≡ true → Fine c
 unfolding checks
@@ -107,14 +107,14 @@ fine c e =
       notDuplicate = passed 12 c e;
       notOther = passed 13 c e;
       notCancel = and-true (isCx (typeOf (c .body))) (passed 18 c e);
-      formed = for-type (onOrCc (typeOf (c .body))) (formedFor (isCc (typeOf (c .body))) (details (c .body))) (passed 19 c e);
+      formed = for-type (bringsLots (typeOf (c .body))) (formedFor (isCc (typeOf (c .body))) (details (c .body))) (passed 19 c e);
       grouped = for-type (isCc (typeOf (c .body))) (groupsFormed (details (c .body))) (passed 20 c e);
       balanced = for-type (isCc (typeOf (c .body))) (groupsBalanced (details (c .body))) (passed 21 c e);
-      targetLive = for-type (ccOrDk (typeOf (c .body))) (any (under (targetOf (c .body))) (live c)) (passed 30 c e);
+      targetLive = for-type (listsLots (typeOf (c .body))) (any (under (targetOf (c .body))) (live c)) (passed 30 c e);
       idFine = passed 31 c e;
       termsFine = passed 32 c e;
-      repeated = for-type (onOrCc (typeOf (c .body))) (distinct (map fieldsOf (newPools (details (c .body))))) (passed 36 c e);
-      listedExact = for-type (ccOrDk (typeOf (c .body))) (listedFine (c .body) (live c)) (passed 37 c e);
-      parEnough = for-type (onOrCc (typeOf (c .body))) (parFine c) (passed 38 c e);
-      tableFits = for-type (onOrCc (typeOf (c .body))) (tableFine c) (passed 40 c e);
+      repeated = for-type (bringsLots (typeOf (c .body))) (distinct (map fieldsOf (newPools (details (c .body))))) (passed 36 c e);
+      listedExact = for-type (listsLots (typeOf (c .body))) (listedFine (c .body) (live c)) (passed 37 c e);
+      parEnough = for-type (bringsLots (typeOf (c .body))) (parFine c) (passed 38 c e);
+      tableFits = for-type (bringsLots (typeOf (c .body))) (tableFine c) (passed 40 c e);
     }

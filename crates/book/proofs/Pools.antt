@@ -16,8 +16,9 @@ use Rattle.terminator.specs.Lots.{Lot, poolsOf, lotsFrom, lots, goesOn, lotsFor
 use Rattle.terminator.specs.Groups.{Group, groupsFrom, groups, lotCanceled}
 use Rattle.faces.specs.Faces.{newLots, newPools, isNewLot}
 use Rattle.message_type.specs.declared.MessageType.{MessageType}
+use Rattle.message_type.specs.Questions.{bringsLots, listsLots}
 use Rattle.book.specs.Records.{fieldsOf, poolOf, recordsOf}
-use Rattle.book.specs.Messages.{typeOf, listedOf, listed}
+use Rattle.book.specs.Messages.{typeOf, listedOf, listed, brought}
 use Rattle.book.specs.Checks.{canceledLots}
 use Rattle.book.specs.History.{fieldsOfLots}
 
@@ -118,10 +119,22 @@ length-records id t o (l ∷ ls) =
 pub records-new : (id t o : ℕ) (cc : Bool) (ds : List Detail) → formedFor cc ds ≡ true → length (recordsOf id t o (newLots ds)) ≡ length (newPools ds)
 records-new id t o cc ds f = length-records id t o (newLots ds) ∙ ap length (flat-new cc ds f)
 
--- ---- the pools that a body of a type lists
+-- ---- the pools that a body lists and the lots that it brings
 pub listed-as : (body : List ℕ) (k : MessageType) → typeOf body ≡ k → listed body ≡ map fieldsOf (listedOf k (details body))
 unfolding listed
 listed-as body k e = ap (λ (x : MessageType). map fieldsOf (listedOf x (details body))) e
+
+pub listed-none : (body : List ℕ) → listsLots (typeOf body) ≡ false → listed body ≡ []
+unfolding listed
+listed-none body e = rw e
+
+pub brought-new : (body : List ℕ) → bringsLots (typeOf body) ≡ true → brought body ≡ newLots (details body)
+unfolding brought
+brought-new body e = rw e
+
+pub brought-none : (body : List ℕ) → bringsLots (typeOf body) ≡ false → brought body ≡ []
+unfolding brought
+brought-none body e = rw e
 
 -- ---- groups
 -- the canceled and the replacement lots of some groups, in order

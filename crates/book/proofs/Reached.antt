@@ -18,28 +18,26 @@ use Rattle.terminator.specs.Lots.{Lot}
 use Rattle.faces.specs.Faces.{newLots, newPools}
 use Rattle.sequence.specs.Sequence.{outboundMax, soundLine, lineAfter, nextOutbound, outboundSpent}
 use Rattle.sequence.proofs.Soundness.{start-sound, stays-sound}
-use Rattle.message_type.specs.declared.MessageType.{MessageType}
-use Rattle.message_type.specs.declared.MessageType.the-variants.{On, Cc, Dk, Cx, Other}
 use Rattle.book.specs.declared.Trade.{Trade}
 use Rattle.book.specs.declared.Values.{Values}
 use Rattle.book.specs.declared.Book.{Book}
 use Rattle.book.specs.declared.Pool.{Pool}
 use Rattle.book.specs.declared.Answer.{Answer}
 use Rattle.book.specs.Reasons.{isAccepted}
-use Rattle.book.specs.Records.{fieldsOf, distinct, recordsOf, noPool, tradeWeight, weightOfRecords}
-use Rattle.book.specs.Messages.{typeOf, targetOf, listedOf, listed, broughtBy, brought}
+use Rattle.book.specs.Records.{distinct, recordsOf, noPool, tradeWeight, weightOfRecords}
+use Rattle.book.specs.Messages.{typeOf, targetOf, listed, brought}
 use Rattle.book.specs.Trades.{tradesOf, tradeName, broughtWeight}
 use Rattle.book.specs.Opening.{recordsMax, elevenDigitsMax, holidaysOf, tradeFine, valuesFine, openingFine, atPar, opened, cleared}
 use Rattle.book.specs.Soundness.{liveOf, recordFine, inOrder, fieldsOnce, isNone, parsFrom, Sound, isSound}
 use Rattle.book.specs.Checks.{Call, live, trades, arrived, concerned, isTaken, taken, tradeAt, answerOf}
-use Rattle.message_type.specs.Questions.{isOn, onOrCc, ccOrDk, isCc}
+use Rattle.message_type.specs.Questions.{isOn, bringsLots, listsLots, isCc}
 use Rattle.book.specs.Step.{isSilent, gapAt, lineOf, beforeAa, outboundOf, tradesMoved, liveMoved, tableMoved, accepted, bookAfter, tableAfter}
 use Rattle.book.specs.History.{fieldsOfLots}
 use Rattle.book.specs.Promise.{State, Put, callOf, after, afterAll, openedState}
 use Rattle.book.proofs.ByRecord.{allLive, wholeLots, exactByRecord, listedByRecord}
 use Rattle.book.proofs.ListLaws.{or-right, neither-left, all-keep, all-implied, all-both, all-replicate, length-keep}
 use Rattle.book.proofs.Passed.{Fine, fine}
-use Rattle.book.proofs.Pools.{lots-formed-fields, records-new}
+use Rattle.book.proofs.Pools.{lots-formed-fields, records-new, listed-none, brought-new, brought-none}
 use Rattle.book.proofs.LiveLots.{listed-by-record}
 use Rattle.book.proofs.Ordered.{isOld, ordered-after}
 use Rattle.book.proofs.Matched.{once-after, taken-enough}
@@ -107,7 +105,7 @@ opened-sound v table e =
 
 -- ---- what an accepted message takes off and brings
 -- 37 record by record
-pub by-record : (c : Call) → ccOrDk (typeOf (c .body)) ≡ true → Fine c → listedByRecord (c .body) (live c) ≡ true
+pub by-record : (c : Call) → listsLots (typeOf (c .body)) ≡ true → Fine c → listedByRecord (c .body) (live c) ≡ true
 by-record c e f =
     let s = is-sound (c .book) (c .table) (f .sound) in
     sym (listed-by-record (c .body) (live c) (s .ordered) (s .once) (λ t. rw t at (f .formed (or-right (isOn (typeOf (c .body))) (isCc (typeOf (c .body))) t)))) ∙ f .listedExact e
@@ -120,34 +118,26 @@ module _ (c : Call) (ok : isAccepted (answerOf c) ≡ true) where
   last = c .book .values .lastMessageId
 
   -- new lots, or none
-  brought-either : ((onOrCc (typeOf (c .body)) ≡ true) × (brought (c .body) ≡ newLots ds)) ⊎ (brought (c .body) ≡ [])
-  unfolding brought
-  brought-either = go (typeOf (c .body))
+  brought-either : ((bringsLots (typeOf (c .body)) ≡ true) × (brought (c .body) ≡ newLots ds)) ⊎ (brought (c .body) ≡ [])
+  brought-either = go (bringsLots (typeOf (c .body))) refl
     where
-      go : (t : MessageType) → ((onOrCc t ≡ true) × (broughtBy t (details (c .body)) ≡ newLots (details (c .body)))) ⊎ (broughtBy t (details (c .body)) ≡ [])
-      go On = inl (refl, refl)
-      go Cc = inl (refl, refl)
-      go Dk = inr refl
-      go Cx = inr refl
-      go Other = inr refl
+      go : (b : Bool) → bringsLots (typeOf (c .body)) ≡ b → ((bringsLots (typeOf (c .body)) ≡ true) × (brought (c .body) ≡ newLots ds)) ⊎ (brought (c .body) ≡ [])
+      go true e = inl (e, brought-new (c .body) e)
+      go false e = inr (brought-none (c .body) e)
 
   -- fields to take off are found, or none are listed
-  listed-either : (ccOrDk (typeOf (c .body)) ≡ true) ⊎ (listed (c .body) ≡ [])
-  unfolding listed
-  listed-either = go (typeOf (c .body))
+  listed-either : (listsLots (typeOf (c .body)) ≡ true) ⊎ (listed (c .body) ≡ [])
+  listed-either = go (listsLots (typeOf (c .body))) refl
     where
-      go : (t : MessageType) → (ccOrDk t ≡ true) ⊎ (map fieldsOf (listedOf t (details (c .body))) ≡ [])
-      go On = inr refl
-      go Cc = inl refl
-      go Dk = inl refl
-      go Cx = inr refl
-      go Other = inr refl
+      go : (b : Bool) → listsLots (typeOf (c .body)) ≡ b → (listsLots (typeOf (c .body)) ≡ true) ⊎ (listed (c .body) ≡ [])
+      go true e = inl e
+      go false e = inr (listed-none (c .body) e)
 
   -- at least as many records go as fields are listed
   gone-enough : length (listed (c .body)) ≤ length (taken c)
   gone-enough = go listed-either
     where
-      go : (ccOrDk (typeOf (c .body)) ≡ true) ⊎ (listed (c .body) ≡ []) → length (listed (c .body)) ≤ length (taken c)
+      go : (listsLots (typeOf (c .body)) ≡ true) ⊎ (listed (c .body) ≡ []) → length (listed (c .body)) ≤ length (taken c)
       go (inr e) =
           let h : length (listed (c .body)) ≡ 0 = ap length e in
           omega arith
@@ -182,7 +172,7 @@ module _ (c : Call) (ok : isAccepted (answerOf c) ≡ true) where
       sum : length (keep stays (live c) ++ new) ≡ length (keep stays (live c)) + length new
       sum = length-append (keep stays (live c)) new
 
-      go : ((onOrCc (typeOf (c .body)) ≡ true) × (brought (c .body) ≡ newLots ds)) ⊎ (brought (c .body) ≡ []) → length (keep stays (live c) ++ new) ≤ length (c .table)
+      go : ((bringsLots (typeOf (c .body)) ≡ true) × (brought (c .body) ≡ newLots ds)) ⊎ (brought (c .body) ≡ []) → length (keep stays (live c) ++ new) ≤ length (c .table)
       go (inl (t, e)) =
           let count : length new ≡ length (newPools ds) =
           ap (λ (ls : List Lot). length (recordsOf (last + 1) (concerned c) 1 ls)) e ∙ records-new (last + 1) (concerned c) 1 (isCc (typeOf (c .body))) ds (fine c ok .formed t) in
@@ -205,7 +195,7 @@ module _ (c : Call) (ok : isAccepted (answerOf c) ≡ true) where
   new-distinct : distinct (fieldsOfLots (brought (c .body))) ≡ true
   new-distinct = go brought-either
     where
-      go : ((onOrCc (typeOf (c .body)) ≡ true) × (brought (c .body) ≡ newLots ds)) ⊎ (brought (c .body) ≡ []) → distinct (fieldsOfLots (brought (c .body))) ≡ true
+      go : ((bringsLots (typeOf (c .body)) ≡ true) × (brought (c .body) ≡ newLots ds)) ⊎ (brought (c .body) ≡ []) → distinct (fieldsOfLots (brought (c .body))) ≡ true
       go (inl (t, e)) =
           ap (λ (ls : List Lot). distinct (fieldsOfLots ls)) e ∙ ap distinct (lots-formed-fields (isCc (typeOf (c .body))) ds (fine c ok .formed t)) ∙ fine c ok .repeated t
       go (inr e) = ap (λ (ls : List Lot). distinct (fieldsOfLots ls)) e
@@ -215,7 +205,7 @@ module _ (c : Call) (ok : isAccepted (answerOf c) ≡ true) where
   moved-once s = once-after last (concerned c) stays (live c) (brought (c .body)) (old s) (s .once) new-distinct
 
   -- each is fine by itself
-  opened-trade : onOrCc (typeOf (c .body)) ≡ true → ltb (concerned c) (c .book .values .tradeCount) ≡ true
+  opened-trade : bringsLots (typeOf (c .body)) ≡ true → ltb (concerned c) (c .book .values .tradeCount) ≡ true
   opened-trade t =
       let h : concerned c < length (trades c) = ltb-true (concerned c) (length (trades c)) (and-left (ltb (concerned c) (length (trades c))) _ (fine c ok .parEnough t)) in
       lt-ltb (concerned c) (c .book .values .tradeCount) (omega (arith, short (c .book .values .tradeCount) (c .book .values .trades)))
@@ -232,7 +222,7 @@ module _ (c : Call) (ok : isAccepted (answerOf c) ≡ true) where
       (all-keep (recordFine w) stays (live c) (all-implied (recordFine (c .book .values)) (recordFine w) (record-stays (c .book .values) w ec (omega arith)) (live c) (s .records)))
       (go brought-either)
     where
-      go : ((onOrCc (typeOf (c .body)) ≡ true) × (brought (c .body) ≡ newLots ds)) ⊎ (brought (c .body) ≡ []) → all (recordFine w) new ≡ true
+      go : ((bringsLots (typeOf (c .body)) ≡ true) × (brought (c .body) ≡ newLots ds)) ⊎ (brought (c .body) ≡ []) → all (recordFine w) new ≡ true
       go (inl (t, e)) =
           let low : leb 1 (last + 1) ≡ true = le-leb 1 (last + 1) (omega arith) in
           let high : leb (last + 1) (w .lastMessageId) ≡ true = le-leb (last + 1) (w .lastMessageId) (omega arith) in

@@ -17,7 +17,7 @@ use Rattle.terminator.specs.Lots.{Lot, poolsOf, lotWeight, lotMillions, formedF
 use Rattle.terminator.specs.Groups.{groups, groupsFormed, groupsBalanced}
 use Rattle.faces.specs.Faces.{newPools}
 use Rattle.message_type.specs.declared.MessageType.{MessageType}
-use Rattle.message_type.specs.declared.MessageType.the-variants.{On, Cc, Dk, Cx, Other}
+use Rattle.message_type.specs.declared.MessageType.the-variants.{On, Cc, Dk}
 use Rattle.trade_id.specs.declared.TradeId.{TradeId}
 use Rattle.trade_id.specs.declared.TradeId.the-variants.{Whole, Broken, Absent}
 use Rattle.book.specs.declared.Trade.{Trade}
@@ -25,7 +25,7 @@ use Rattle.book.specs.declared.Values.{Values}
 use Rattle.book.specs.declared.Pool.{Pool}
 use Rattle.book.specs.Records.{fieldsOf, distinct, weightOfRecords}
 use Rattle.book.specs.Messages.{typeOf, idIn, targetOf, under, listed, broughtBy, brought}
-use Rattle.book.specs.Trades.{tradesOf, sideOf, agrees, firstTrade, mayTake, tradeOfOn, openPars}
+use Rattle.book.specs.Trades.{tradesOf, agrees, firstTrade, mayTake, tradeOfOn, openPars}
 use Rattle.book.specs.Opening.{atPar}
 use Rattle.book.specs.Checks.{targetTrade, tradeAt, isTaken, canceledLots}
 use Rattle.book.specs.History.{Brought, History, isTarget, touches, takeOff, tradeShare, stands, due, fieldsOfLots, dueByGroups, lotsAfter}
@@ -53,16 +53,9 @@ exact-none tgt rs = record { live = refl; distinct = refl; whole = all-in _ rs (
 
 -- ---- the trade that an ON goes to does not depend on the trades' open pars but for those that it is given
 
-side-atPar : (k : MessageType) (t : Trade) → sideOf k (atPar t) ≡ sideOf k t
-side-atPar On t = refl
-side-atPar Cc t = refl
-side-atPar Dk t = refl
-side-atPar Cx t = refl
-side-atPar Other t = refl
-
 agrees-atPar : (body : List ℕ) (t : Trade) → agrees body (atPar t) ≡ agrees body t
 unfolding agrees
-agrees-atPar body t = rw (side-atPar (typeOf body) t)
+agrees-atPar body t = refl
 
 may-atPar : (body : List ℕ) (id : TradeId) (t : Trade) (left : ℕ) → mayTake body id (atPar t) left ≡ mayTake body id t left
 may-atPar body (Whole place n) t left = refl

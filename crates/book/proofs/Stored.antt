@@ -9,13 +9,11 @@ use lib.Dec.{eqb, leb, ltb}
 use borrow.Author.Tests.{leb-true, le-leb, eqb-false}
 use Rattle.lists.specs.Lists.{all, between}
 use Rattle.lists.proofs.Tests.{and-left, and-right, both}
-use Rattle.fields.specs.declared.Field.{Field}
-use Rattle.fields.specs.declared.Field.the-variants.{Number, NotDigits}
-use Rattle.fields.specs.Fields.{readNumber}
+use Rattle.fields.specs.Fields.{readNumber, isNumber, valueOf}
 use Rattle.layout.specs.declared.Detail.{Detail}
 use Rattle.terminator.specs.declared.Terminator.{Terminator}
 use Rattle.terminator.specs.declared.Terminator.the-variants.{Middle, BadMiddle, GoodEnd, OddEnd, BadEnd, Wrong}
-use Rattle.terminator.specs.Terminators.{positions, positionsOf, terminatorOf, isEnd, kindOf, millionsOf, term}
+use Rattle.terminator.specs.Terminators.{positions, terminatorOf, isEnd, kindOf, millionsOf, term}
 use Rattle.terminator.specs.Lots.{Lot, poolsOf, lotsFrom, lots, currentCents}
 use Rattle.terminator.proofs.Found.{cents-small}
 use Rattle.faces.specs.Faces.{isNewLot, newLots}
@@ -59,11 +57,11 @@ positions-give n h = go (eqb n 0) refl (leb n 99) refl h
 
 pub term-gives : (d : Detail) → isEnd (term d) ≡ true → gives (term d) ≡ true
 unfolding terminatorOf
-term-gives d = go (readNumber (d .terminator) 1 3)
+term-gives d = go (isNumber (readNumber (d .terminator) 1 3)) (valueOf (readNumber (d .terminator) 1 3))
   where
-    go : (f : Field) → isEnd (positionsOf f) ≡ true → gives (positionsOf f) ≡ true
-    go (Number n) e = positions-give n e
-    go NotDigits e = absurd (false≢true e)
+    go : (b : Bool) (n : ℕ) → isEnd (cond b (positions n) Wrong) ≡ true → gives (cond b (positions n) Wrong) ≡ true
+    go true n e = positions-give n e
+    go false n e = absurd (false≢true e)
 
 -- ---- every lot ends in an end
 abbrev pub hasEnd : Lot → Bool

@@ -21,7 +21,7 @@ use Rattle.book.specs.Checks.{isTaken, lotFields}
 use Rattle.book.specs.History.{Brought, isTarget, touches, stands, due, tradeOfFirst, fieldsOfLots, dueByGroups}
 use Rattle.book.proofs.ByRecord.{allLive, wholeLots, firstOrdinal, oneByRecord}
 use Rattle.book.proofs.Pools.{canceledOf, replacementOf}
-use Rattle.book.proofs.Targets.{has-in, has-out, last-fields, distinct-right, distinct-cross, fieldsOfLots-append, under-is, target-one}
+use Rattle.book.proofs.Targets.{has-in, has-out, last-fields, distinct-right, distinct-cross, fieldsOfLots-append, target-one}
 use Rattle.book.proofs.Laid.{recordOf, flat, in-flat, sum-flat, laid-millions}
 use Rattle.book.proofs.Taking.{Lots, isListed, touches-target, touches-pool, listed-lot, gone, taken-flat, whole-or-none}
 
@@ -72,7 +72,7 @@ module _ (n last : ℕ) (tgt : Field) (hs : List Brought) (lots : Lots n last hs
           )
 
       at : (r : Pool) → q r ≡ true → isTarget tgt (r .message) ≡ true
-      at r e = sym (under-is tgt r) ∙ and-left (under tgt r) (hasFields (liveFields r) (lotFields l)) e
+      at r e = and-left (under tgt r) (hasFields (liveFields r) (lotFields l)) e
 
       sum-is : sumOf liveMillions (liveLots (keep q F)) ≡ sumOf (gone tgt (lotFields l) lotMillions) hs
       sum-is = rw (taken-flat tgt (lotFields l) hs whole) (sum-flat liveMillions (λ h. lotMillions (h .lot)) laid-millions (λ h. stands h && touches tgt (lotFields l) h) hs (lots .apart))
@@ -114,7 +114,7 @@ module _ (n last : ℕ) (tgt : Field) (hs : List Brought) (lots : Lots n last hs
   some-taken fs li gs f m k =
       let (h, mh, sh, th, (d, md, ed)) = listed-lot tgt fs hs li f m in
       any-in (isTaken tgt gs) (in-flat stands mh sh (Memᴰ·map (recordOf h) md))
-      (both (under tgt (recordOf h d)) (isListed gs d) (under-is tgt (recordOf h d) ∙ th) (rw ed (has-in k)))
+      (both (under tgt (recordOf h d)) (isListed gs d) th (rw ed (has-in k)))
 
   some-touched : (fs : List Fields) → allLive tgt fs (flat stands hs) ≡ true → (gs : List Fields) (f : Fields) → f ∈ fs → f ∈ gs → any (touches tgt gs) hs ≡ true
   some-touched fs li gs f m k =

@@ -21,7 +21,7 @@ use Rattle.book.specs.Checks.{isTaken, firstUnder, lotFields}
 use Rattle.book.specs.History.{Brought, isTarget, touches, once, takeOff, stands, tradeShare}
 use Rattle.book.proofs.ByRecord.{allLive, wholeLots, exactByRecord}
 use Rattle.book.proofs.Matched.{fields-equal}
-use Rattle.book.proofs.Targets.{under-is, target-one}
+use Rattle.book.proofs.Targets.{target-one}
 use Rattle.book.proofs.Laid.{recordOf, laid, flat, flat-same, flat-takeOff, flat-keep, in-flat, flat-in, Apart, sum-flat, laid-weight}
 
 -- ---- what holds of the history's lots: each by itself, and any two under one ID
@@ -83,7 +83,7 @@ module _ (tgt : Field) (fs : List Fields) where
   taken-touches : (h : Brought) (d : Detail) → d ∈ poolsOf (h .lot) → isTaken tgt fs (recordOf h d) ≡ true → touches tgt fs h ≡ true
   taken-touches h d m t =
       both (isTarget tgt (h .id)) (any (isListed fs) (poolsOf (h .lot)))
-      (sym (under-is tgt (recordOf h d)) ∙ and-left (under tgt (recordOf h d)) (isListed fs d) t)
+      (and-left (under tgt (recordOf h d)) (isListed fs d) t)
       (any-in (isListed fs) m (and-right (under tgt (recordOf h d)) (isListed fs d) t))
 
   -- what a lot counts for among those that go
@@ -98,7 +98,7 @@ module _ (tgt : Field) (fs : List Fields) (hs : List Brought) where
       let (d₀, m₀, e₀) = touches-pool tgt fs h e in
       let r₀ : Pool = recordOf h d₀ in
       let in₀ = in-flat stands m s (Memᴰ·map (recordOf h) m₀) in
-      let t₀ = both (under tgt r₀) (isListed fs d₀) (under-is tgt r₀ ∙ touches-target tgt fs h e) e₀ in
+      let t₀ = both (under tgt r₀) (isListed fs d₀) (touches-target tgt fs h e) e₀ in
       let a₀ = implied (isTaken tgt fs r₀) (all (λ (s : Pool). not (sameLot r₀ s) || isTaken tgt fs s) (flat stands hs))
       (all-out (λ (r : Pool). not (isTaken tgt fs r) || all (λ (s : Pool). not (sameLot r s) || isTaken tgt fs s) (flat stands hs)) in₀ w) t₀ in
       let a₁ = all-out (λ (s : Pool). not (sameLot r₀ s) || isTaken tgt fs s) (in-flat stands m s n) a₀ in
@@ -141,7 +141,7 @@ module _ (tgt : Field) (fs : List Fields) (hs : List Brought) where
         h,
         mh,
         sh,
-        ap (isTarget tgt) (ap (λ (x : Pool). x .message) ed) ∙ sym (under-is tgt r) ∙ and-left (under tgt r) (sameFields (liveFields r) f) er,
+        ap (isTarget tgt) (ap (λ (x : Pool). x .message) ed) ∙ and-left (under tgt r) (sameFields (liveFields r) f) er,
         (d, md, ap liveFields ed ∙ fields-equal (liveFields r) f (and-right (under tgt r) (sameFields (liveFields r) f) er)),
       )
 
@@ -225,7 +225,7 @@ module _ (n last : ℕ) (tgt : Field) (hs : List Brought) (lots : Lots n last hs
   under-lot =
       let (r, mr, er, (rs, k)) = keep-first (under tgt) (flat stands hs) some in
       let (h, mh, sh, (d, md, ed)) = from-live hs r mr in
-      (h, mh, ap (isTarget tgt) (ap (λ (x : Pool). x .message) ed) ∙ sym (under-is tgt r) ∙ er, ap firstUnder k ∙ sym (ap (λ (x : Pool). x .trade) ed))
+      (h, mh, ap (isTarget tgt) (ap (λ (x : Pool). x .message) ed) ∙ er, ap firstUnder k ∙ sym (ap (λ (x : Pool). x .trade) ed))
 
   pub target-trade : (g : Brought) → g ∈ hs → isTarget tgt (g .id) ≡ true → g .trade ≡ firstUnder (keep (under tgt) (flat stands hs))
   target-trade g m e =

@@ -1,13 +1,13 @@
 -- Matched fields and targets: the tests decide equality, so a pool that is listed once is one pool, and a target names one message.
 use mathlib.Core.Path.{_≡_, refl, sym, ap, _∙_}
 use mathlib.Core.Logic.{_⊎_, inl, inr}
-use mathlib.Core.Bool.{true, not, false≢true}
+use mathlib.Core.Bool.{true, not}
 use mathlib.Core.List.{List, [], _∷_, _++_, append-assoc, List·Memᴰ·head, List·Memᴰ·tail, List·Memᴰ·not-nil, List·Memᴰ·cases-cons, Memᴰ·append-left, Memᴰ·append-right, Memᴰ·map, Memᴰ·cast}
 use Prim.Native.Nat.{ℕ}
 use borrow.Author.Tests.{eqb-true, not-true}
 use Rattle.lists.proofs.Tests.{_∈_, and-left, and-right, both, clash, any-in, any-out, any-append, same-refl}
 use Rattle.fields.specs.declared.Field.{Field}
-use Rattle.fields.specs.declared.Field.the-variants.{Number, NotDigits}
+use Rattle.fields.specs.Fields.{isNumber, valueOf}
 use Rattle.terminator.specs.Lots.{Lot}
 use Rattle.book.specs.declared.Pool.{Pool}
 use Rattle.book.specs.Records.{Fields, fieldsOf, sameFields, hasFields, distinct}
@@ -71,17 +71,12 @@ fieldsOfLots-append (x ∷ xs) ys = rw (fieldsOfLots-append xs ys) (sym (append-
 
 -- ---- targets
 
-pub under-is : (tgt : Field) (r : Pool) → under tgt r ≡ isTarget tgt (r .message)
-under-is (Number n) r = refl
-under-is NotDigits r = refl
-
 pub target-one : (tgt : Field) (i j : ℕ) → isTarget tgt i ≡ true → isTarget tgt j ≡ true → i ≡ j
-target-one (Number n) i j p q = eqb-true i n p ∙ sym (eqb-true j n q)
-target-one NotDigits i j p q = absurd (false≢true p)
+target-one tgt i j p q = eqb-true i (valueOf tgt) (and-right (isNumber tgt) _ p) ∙ sym (eqb-true j (valueOf tgt) (and-right (isNumber tgt) _ q))
 
 -- the records under a target have one message ID
 pub under-one : (tgt : Field) (q r : Pool) → under tgt q ≡ true → under tgt r ≡ true → q .message ≡ r .message
-under-one tgt q r a b = target-one tgt (q .message) (r .message) (sym (under-is tgt q) ∙ a) (sym (under-is tgt r) ∙ b)
+under-one tgt q r a b = target-one tgt (q .message) (r .message) a b
 
 pub under-message : (tgt : Field) (q r : Pool) → under tgt q ≡ true → q .message ≡ r .message → under tgt r ≡ true
-under-message tgt q r a e = under-is tgt r ∙ rw e at (sym (under-is tgt q) ∙ a)
+under-message tgt q r a e = rw e at a

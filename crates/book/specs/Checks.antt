@@ -6,15 +6,14 @@ use lib.ListN.{length, getD}
 use lib.Dec.{eqb, leb, ltb}
 use Rattle.lists.specs.Lists.{same, keep, any, all, between}
 use Rattle.fields.specs.declared.Field.{Field}
-use Rattle.fields.specs.declared.Field.the-variants.{Number, NotDigits}
-use Rattle.fields.specs.Fields.{allBlank}
+use Rattle.fields.specs.Fields.{isNumber, valueOf, holds, allBlank}
 use Rattle.output.specs.Output.{blanks}
 use Rattle.layout.specs.declared.Column.{Column}
 use Rattle.layout.specs.declared.Detail.{Detail}
 use Rattle.layout.specs.Columns as columns
 use Rattle.layout.specs.Columns.{bytesIn, numberIn}
 use Rattle.layout.specs.Details.{lengthFits, details}
-use Rattle.terminator.specs.Lots.{Lot, poolsOf, lots, lotKind, lotMillions, formedFor, goodMillions, replacementCount, valueOf}
+use Rattle.terminator.specs.Lots.{Lot, poolsOf, lots, lotKind, lotMillions, formedFor, goodMillions, replacementCount}
 use Rattle.terminator.specs.Groups.{lotCanceled, groupsFormed, groupsBalanced}
 use Rattle.faces.specs.Faces.{newPools, facesFail, lotsFail}
 use Rattle.calendar.specs.Calendar.{businessDate}
@@ -28,7 +27,7 @@ use Rattle.message_type.specs.declared.MessageType.{MessageType}
 use Rattle.message_type.specs.declared.MessageType.the-variants.{On, Cc, Dk, Cx, Other}
 use Rattle.trade_id.specs.declared.TradeId.{TradeId}
 use Rattle.trade_id.specs.declared.TradeId.the-variants.{Whole, Broken, Absent}
-use Rattle.message_type.specs.Questions.{isOn, isCc, isDk, isCx, isOther, onOrCc, ccOrDk}
+use Rattle.message_type.specs.Questions.{isOn, isCc, isDk, isCx, isOther, bringsLots, listsLots}
 use Rattle.book.specs.declared.Trade.{Trade}
 use Rattle.book.specs.declared.Values.{Values}
 use Rattle.book.specs.declared.Book.{Book}
@@ -79,8 +78,7 @@ outputShort c = ltb (c .room) roomLeast
 -- ---- 10 to 25: the line and the sender's system
 -- not digits, or a number that fails a test
 abbrev pub notNumber : (ℕ → Bool) → Field → Bool
-notNumber p (Number n) = not (p n)
-notNumber p NotDigits = true
+notNumber p f = not (holds p f)
 
 -- 10: a body that is not a header and 1 to 250 whole details
 abbrev pub lengthWrong : List ℕ → Bool
@@ -88,8 +86,7 @@ lengthWrong body = not (lengthFits body)
 
 -- not digits, or a number that the line refuses
 abbrev pub isNoSequence : Field → Bool
-isNoSequence (Number n) = isRefused n
-isNoSequence NotDigits = true
+isNoSequence f = not (isNumber f) || isRefused (valueOf f)
 
 -- 11: a sequence that is no number, or one that the line never takes
 abbrev pub sequenceFails : List ℕ → Bool
@@ -391,23 +388,23 @@ checks =
     ∷ check 16 reason.Amounts every (ofBoth amountsFail)
     ∷ check 17 reason.Parties every (ofBoth partiesFail)
     ∷ check 18 reason.Cancel isCx always
-    ∷ check 19 reason.LotForm onOrCc (ofBody lotFormFails)
+    ∷ check 19 reason.LotForm bringsLots (ofBody lotFormFails)
     ∷ check 20 reason.Groups isCc (ofBody groupsFail)
     ∷ check 21 reason.Sums isCc (ofBody sumsFail)
     ∷ check 22 reason.Replacements isCc (ofBody replacementsFail)
     ∷ check 23 reason.Settlement isCc (ofBoth settlementFails)
     ∷ check 24 reason.ReasonCode isDk (ofBody reasonFails)
     ∷ check 25 reason.NoTradeId isDk (ofBody tradeIdMissing)
-    ∷ check 30 reason.Target ccOrDk targetGone
+    ∷ check 30 reason.Target listsLots targetGone
     ∷ check 31 reason.TradeId every tradeIdFails
     ∷ check 32 reason.Terms every termsDiffer
     ∷ check 33 reason.Millions isOn (ofBody millionsFail)
-    ∷ check 34 reason.Faces onOrCc (ofBoth newFacesFail)
-    ∷ check 35 reason.Variance onOrCc (ofBoth newLotsFail)
-    ∷ check 36 reason.Repeated onOrCc (ofBody newPoolsRepeat)
-    ∷ check 37 reason.Listed ccOrDk listedFail
-    ∷ check 38 reason.Par onOrCc parShort
-    ∷ check 40 reason.TableFull onOrCc tableFull
+    ∷ check 34 reason.Faces bringsLots (ofBoth newFacesFail)
+    ∷ check 35 reason.Variance bringsLots (ofBoth newLotsFail)
+    ∷ check 36 reason.Repeated bringsLots (ofBody newPoolsRepeat)
+    ∷ check 37 reason.Listed listsLots listedFail
+    ∷ check 38 reason.Par bringsLots parShort
+    ∷ check 40 reason.TableFull bringsLots tableFull
     ∷ []
 
 -- a trader's number, 30 to 38, is DKed, but on a DK rejected; every other is rejected

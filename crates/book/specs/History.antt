@@ -6,13 +6,14 @@ use mathlib.Core.Bool.{Bool, true, false, cond, _&&_}
 use lib.Dec.{eqb}
 use Rattle.lists.specs.Lists.{any, keep, sumOf}
 use Rattle.fields.specs.declared.Field.{Field}
-use Rattle.fields.specs.declared.Field.the-variants.{Number, NotDigits}
+use Rattle.fields.specs.Fields.{holds}
 use Rattle.layout.specs.declared.Detail.{Detail}
 use Rattle.layout.specs.Details.{details}
 use Rattle.terminator.specs.Lots.{Lot, poolsOf, lotMillions, lotWeight}
 use Rattle.terminator.specs.Groups.{Group, groups}
 use Rattle.message_type.specs.declared.MessageType.{MessageType}
 use Rattle.message_type.specs.declared.MessageType.the-variants.{On, Cc, Dk, Cx, Other}
+use Rattle.message_type.specs.Questions.{listsLots}
 use Rattle.book.specs.declared.Trade.{Trade}
 use Rattle.book.specs.declared.Values.{Values}
 use Rattle.book.specs.Records.{Fields, fieldsOf, hasFields}
@@ -41,8 +42,7 @@ atOpening v = record { lastMessageId = v .lastMessageId; lots = [] }
 
 -- ---- taking off
 abbrev pub isTarget : Field → ℕ → Bool
-isTarget (Number n) id = eqb id n
-isTarget NotDigits id = false
+isTarget tgt id = holds (eqb id) tgt
 
 -- a lot under the target with a pool whose matched fields are listed
 abbrev pub touches : Field → List Fields → Brought → Bool
@@ -145,12 +145,5 @@ history v h [] = h
 history v h (f ∷ fs) = history v (feed v h (f .body) (f .isAccepted)) fs
 
 -- whether a message takes a lot off
-abbrev pub takesOffFor : MessageType → List ℕ → Brought → Bool
-takesOffFor On body h = false
-takesOffFor Cc body h = touches (targetOf body) (listed body) h
-takesOffFor Dk body h = touches (targetOf body) (listed body) h
-takesOffFor Cx body h = false
-takesOffFor Other body h = false
-
 unfoldable pub takesOff : List ℕ → Brought → Bool
-takesOff body h = takesOffFor (typeOf body) body h
+takesOff body h = listsLots (typeOf body) && touches (targetOf body) (listed body) h

@@ -1,11 +1,11 @@
 -- What a body says to the book (01, "Columns" and "The book"): its type, sequence, target and trade ID, the pools that it lists and the lots that it brings.
 use Prim.Native.Nat.{ℕ}
 use mathlib.Core.List.{List, [], _∷_, map}
-use mathlib.Core.Bool.{Bool, false, cond}
+use mathlib.Core.Bool.{Bool, cond}
 use lib.Dec.{eqb}
 use Rattle.lists.specs.Lists.{same, keep}
 use Rattle.fields.specs.declared.Field.{Field}
-use Rattle.fields.specs.declared.Field.the-variants.{Number, NotDigits}
+use Rattle.fields.specs.Fields.{holds}
 use Rattle.layout.specs.declared.Detail.{Detail}
 use Rattle.layout.specs.Columns as columns
 use Rattle.layout.specs.Columns.{bytesIn, numberIn}
@@ -15,6 +15,7 @@ use Rattle.terminator.specs.Lots.{Lot}
 use Rattle.faces.specs.Faces.{newLots}
 use Rattle.message_type.specs.declared.MessageType.{MessageType}
 use Rattle.message_type.specs.declared.MessageType.the-variants.{On, Cc, Dk, Cx, Other}
+use Rattle.message_type.specs.Questions.{bringsLots, listsLots, listsAll}
 use Rattle.trade_id.specs.declared.TradeId.{TradeId}
 use Rattle.trade_id.specs.SpecialInstructions.{tradeIdOf}
 use Rattle.book.specs.declared.Pool.{Pool}
@@ -62,27 +63,18 @@ abbrev pub targetOf : List ℕ → Field
 targetOf body = numberIn body columns.target
 
 abbrev pub under : Field → Pool → Bool
-under (Number id) r = eqb (r .message) id
-under NotDigits r = false
+under tgt r = holds (eqb (r .message)) tgt
 
 -- the pools that a message takes off: all of a DK's, a CC's canceled ones
 abbrev pub listedOf : MessageType → List Detail → List Detail
-listedOf On ds = []
-listedOf Cc ds = keep isCanceled ds
-listedOf Dk ds = ds
-listedOf Cx ds = []
-listedOf Other ds = []
+listedOf t ds = cond (listsLots t) (cond (listsAll t) ds (keep isCanceled ds)) []
 
 unfoldable pub listed : List ℕ → List Fields
 listed body = map fieldsOf (listedOf (typeOf body) (details body))
 
 -- the lots that a message brings: all of an ON's, a CC's replacements
 abbrev pub broughtBy : MessageType → List Detail → List Lot
-broughtBy On ds = newLots ds
-broughtBy Cc ds = newLots ds
-broughtBy Dk ds = []
-broughtBy Cx ds = []
-broughtBy Other ds = []
+broughtBy t ds = cond (bringsLots t) (newLots ds) []
 
 unfoldable pub brought : List ℕ → List Lot
 brought body = broughtBy (typeOf body) (details body)

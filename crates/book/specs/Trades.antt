@@ -6,12 +6,12 @@ use lib.ListN.{length, take}
 use lib.Dec.{eqb, leb}
 use Rattle.lists.specs.Lists.{same, part, sumOf}
 use Rattle.fields.specs.declared.Field.{Field}
-use Rattle.fields.specs.declared.Field.the-variants.{Number, NotDigits}
+use Rattle.fields.specs.Fields.{holds}
 use Rattle.layout.specs.Columns as columns
 use Rattle.layout.specs.Columns.{bytesIn, numberIn}
 use Rattle.terminator.specs.Lots.{lotWeight}
 use Rattle.message_type.specs.declared.MessageType.{MessageType}
-use Rattle.message_type.specs.declared.MessageType.the-variants.{On, Cc, Dk, Cx, Other}
+use Rattle.message_type.specs.Questions.{buyerSubmits}
 use Rattle.trade_id.specs.declared.TradeId.{TradeId}
 use Rattle.trade_id.specs.declared.TradeId.the-variants.{Whole, Broken, Absent}
 use Rattle.trade_id.specs.Prices.{pricesAgree}
@@ -29,19 +29,14 @@ tradeName t = take (t .length) (t .id)
 
 -- the submitter is the seller for ON and CC, the buyer for DK
 abbrev pub sideOf : MessageType → Trade → List ℕ
-sideOf On t = t .seller
-sideOf Cc t = t .seller
-sideOf Dk t = t .buyer
-sideOf Cx t = t .seller
-sideOf Other t = t .seller
+sideOf m t = cond (buyerSubmits m) (t .buyer) (t .seller)
 
-abbrev pub isNumber : Field → ℕ → Bool
-isNumber (Number n) k = eqb n k
-isNumber NotDigits k = false
+-- a field is this number, or a price that agrees with it
+abbrev pub numberIs : Field → ℕ → Bool
+numberIs f k = holds (λ (n : ℕ). eqb n k) f
 
 abbrev pub priceIs : Field → ℕ → Bool
-priceIs (Number p) k = pricesAgree p k
-priceIs NotDigits k = false
+priceIs f k = holds (λ (p : ℕ). pricesAgree p k) f
 
 -- terms agree when submitter, contra, CUSIP and settlement are equal and the prices are, but for their last three decimals
 unfoldable pub agrees : List ℕ → Trade → Bool
@@ -49,7 +44,7 @@ agrees body t =
     same (bytesIn body columns.submitter) (sideOf (typeOf body) t)
     && (same (bytesIn body columns.contra) (t .contra)
     && (same (bytesIn body columns.cusip) (t .cusip)
-    && (isNumber (numberIn body columns.settlement) (t .settlement)
+    && (numberIs (numberIn body columns.settlement) (t .settlement)
     && priceIs (numberIn body columns.price) (t .price))))
 
 -- whether a trade ID in special instructions is a trade's

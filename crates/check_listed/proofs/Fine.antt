@@ -2,7 +2,7 @@
 use Prim.Native.Nat.{ℕ, _+_, _-_, _≤_, _<_}
 use mathlib.Core.Path.{_≡_, refl, sym, ap, _∙_}
 use mathlib.Core.List.{List, [], _∷_, map}
-use mathlib.Core.Bool.{Bool, true, false, cond, not, _&&_, _||_, false≢true}
+use mathlib.Core.Bool.{Bool, true, false, cond, not, _&&_, _||_, or-true, false≢true}
 use native.Mathlib.Omega.{arith}
 use lib.Dec.{eqb}
 use lib.ListN.{length, getD, take, replicate}
@@ -22,7 +22,7 @@ use Rattle.book.specs.Messages.{typeOf, targetOf, under, listedOf, listed}
 use Rattle.book.specs.Opening.{recordsMax}
 use Rattle.book.specs.Soundness.{inOrder, fieldsOnce}
 use Rattle.book.specs.Checks.{isTaken, canceledLots, listedFine}
-use Rattle.message_type.specs.Questions.{isCc, ccOrDk}
+use Rattle.message_type.specs.Questions.{isCc, listsLots, listsAll}
 use Rattle.book.proofs.ByRecord.{allLive, wholeLots, oneByRecord, listedByRecord}
 use Rattle.book.proofs.LiveLots.{listed-by-record}
 use Rattle.book.proofs.ListLaws.{implies}
@@ -202,7 +202,7 @@ module _ (body : List ℕ) (ns ks : List (List ℕ)) (live : ℕ) (given : Finda
         lots-alike : alikeLots ≡ all (lotAlike numbers) (lots (details body))
         lots-alike = ap (λ (s : Alike). s .fine) (alike-fold numbers noneAlike (details body)) ∙ alike-pass numbers true (details body) formed
 
-    shown : (t : MessageType) → typeOf body ≡ t → ccOrDk t ≡ true → liveFor t → Shown t
+    shown : (t : MessageType) → typeOf body ≡ t → listsLots t ≡ true → liveFor t → Shown t
     shown On e c l = absurd (false≢true c)
     shown Cc e c l = shown-cc e l
     shown Dk e c l = shown-dk e l
@@ -255,15 +255,8 @@ module _ (body : List ℕ) (ns ks : List (List ℕ)) (live : ℕ) (given : Finda
             cell i h true l = omega (arith, found .rows (not-false (p .found) some) i h l .1, run-fits .1, given .rows, given .few)
             cell i h false l = omega (arith, found .others i h l)
 
-            cc-lists : (u : MessageType) → isCc u ≡ true → (d : Detail) → isCanceled d ≡ true → lists u d ≡ true
-            cc-lists On c d e = absurd (false≢true c)
-            cc-lists Cc c d e = e
-            cc-lists Dk c d e = absurd (false≢true c)
-            cc-lists Cx c d e = absurd (false≢true c)
-            cc-lists Other c d e = absurd (false≢true c)
-
             its-listed : cc ≡ true → (i : ℕ) → isCanceled (poolOf body i) ≡ true → lists (typeOf body) (poolOf body i) ≡ true
-            its-listed c i d = cc-lists (typeOf body) (ap isCc (sym et) ∙ sym ec ∙ c) (poolOf body i) d
+            its-listed c i d = rw (ap isCc (sym et) ∙ sym ec ∙ c, d) (or-true (listsAll (typeOf body)))
 
         pub search-decided : (r : Listed) → ((row : Detail → ℕ) → Rows row body (p .at) → r ≡ judgedBy cc row ns (its .start) (its .stop) (details body)) → Decides body ns ks live r
         search-decided r h =

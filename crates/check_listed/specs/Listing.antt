@@ -15,7 +15,7 @@ use Rattle.book.specs.Messages.{typeOf, targetOf, under, listed}
 use Rattle.book.specs.Opening.{recordsMax}
 use Rattle.book.specs.Soundness.{inOrder, fieldsOnce}
 use Rattle.book.specs.Checks.{isTaken, listedFine}
-use Rattle.message_type.specs.Questions.{isCc, ccOrDk}
+use Rattle.message_type.specs.Questions.{isCc, listsLots}
 use Rattle.rows.specs.Rows.{tableOf}
 use Rattle.rows_find.specs.Runs.{ahead}
 use Rattle.rows_find.specs.Finding.{lists}
@@ -42,10 +42,10 @@ marksIn body rs = markAll unmarked (entriesFrom (isCc (typeOf body)) (rowIn body
 
 -- of a CC or DK: whether it passes 37 and, where it does, its marks: one on each live record that it takes off and on no other
 pub record Decides (body : List ℕ) (ns ks : List (List ℕ)) (live : ℕ) (r : Listed) : Type 0 where
-  pub fine : ccOrDk (typeOf body) ≡ true → r .fine ≡ listedFine body (take live (tableOf ns ks))
-  pub marks : ccOrDk (typeOf body) ≡ true → r .fine ≡ true → (i : ℕ) → i < live
+  pub fine : listsLots (typeOf body) ≡ true → r .fine ≡ listedFine body (take live (tableOf ns ks))
+  pub marks : listsLots (typeOf body) ≡ true → r .fine ≡ true → (i : ℕ) → i < live
       → eqb (getD (r .marks) i 0) 0 ≡ not (isTaken (targetOf body) (listed body) (getD (take live (tableOf ns ks)) i noPool))
-  pub whole : ccOrDk (typeOf body) ≡ true → r .fine ≡ true → r .marks ≡ marksIn body (take live (tableOf ns ks))
+  pub whole : listsLots (typeOf body) ≡ true → r .fine ≡ true → r .marks ≡ marksIn body (take live (tableOf ns ks))
 
 -- what the marks ask: the target's rows stand in the table, the cells of the pools hold rows, and those of a CC's canceled pools rows of the table
 pub record Judgeable (cc : Bool) (body : List ℕ) (ns : List (List ℕ)) (at : List ℕ) (start stop : ℕ) : Type 0 where
@@ -72,12 +72,12 @@ withoutMarks fine = record { fine = fine; marks = replicate recordsMax 0 }
 
 -- the marks of a message of any type: one that is no CC or DK has none
 unfoldable pub marksTaken : List ℕ → List Pool → List ℕ
-marksTaken body rs = cond (ccOrDk (typeOf body)) (marksIn body rs) (replicate recordsMax 0)
+marksTaken body rs = cond (listsLots (typeOf body)) (marksIn body rs) (replicate recordsMax 0)
 
 -- what a message takes off: whether it passes 37, if that is for its type, and the marks of the records; none where it does not pass
 pub record Takes (body : List ℕ) (rs : List Pool) (r : Listed) : Type 0 where
   pub size : length (r .marks) ≡ recordsMax
-  pub fine : r .fine ≡ (not (ccOrDk (typeOf body)) || listedFine body rs)
+  pub fine : r .fine ≡ (not (listsLots (typeOf body)) || listedFine body rs)
   pub marked : r .fine ≡ true → (i : ℕ) → i < length rs → eqb (getD (r .marks) i 0) 0 ≡ not (isTaken (targetOf body) (listed body) (getD rs i noPool))
   pub whole : r .fine ≡ true → r .marks ≡ marksTaken body rs
   pub none : r .fine ≡ false → r ≡ withoutMarks false

@@ -269,7 +269,7 @@ pub fn find_listed(
     ensures { λ r. ⌜ Takes (now (body .entry)) (take live (tableOf (now (numbers .entry)) (now (keys .entry)))) r ⌝ }
 {
     let t = header::message_type(body);
-    if !(message_type::is_cc(t) | message_type::is_dk(t)) {
+    if !message_type::lists_lots(t) {
         return without_marks(true);
     }
     let found = decide_listed(body, numbers, keys, live);

@@ -12,7 +12,7 @@ ghost use Rattle.book.specs.declared.Reason.the-variants.{NoTradeId};
 ghost use Rattle.book.specs.declared.Verdict.the-variants.{Passes, Fails};
 ghost use Rattle.book.specs.Messages.{typeOf};
 ghost use Rattle.book.specs.Checks.{isDuplicate, numbersSpent, repeatsLast, typeUnknown, amountsFail, partiesFail, lotFormFails, groupsFail, sumsFail, replacementsFail, settlementFails, reasonFails, tradeIdMissing, firstFailing};
-ghost use Rattle.message_type.specs.Questions.{isOther, isCc, isCx, isDk, onOrCc};
+ghost use Rattle.message_type.specs.Questions.{isOther, isCc, isCx, isDk, bringsLots};
 ghost use Rattle.check_sender.specs.Order.{senderChecks, numbered, failsIn};
 
 // The checks before the last one, 25, by their numbers, in the order in which they are tried.
@@ -97,7 +97,7 @@ fn is_cancel(body: &[u8]) -> bool
 
 // 19 of an ON and a CC: terminators that make no whole lots.
 fn lots_fail(body: &[u8]) -> bool
-    ensures { λ r. ⌜ r ≡ (onOrCc (typeOf (now (body .entry))) && lotFormFails (now (body .entry))) ⌝ }
+    ensures { λ r. ⌜ r ≡ (bringsLots (typeOf (now (body .entry))) && lotFormFails (now (body .entry))) ⌝ }
 {
     let kind = header::message_type(body);
     if !message_type::brings_lots(kind) {

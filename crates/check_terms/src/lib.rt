@@ -11,14 +11,13 @@ ghost use mathlib.Core.Bool.{_&&_, cond};
 ghost use Prim.Native.Nat.{ℕ};
 ghost use lib.Dec.{leb};
 ghost use Rattle.lists.specs.Lists.{any};
-ghost use Rattle.book.specs.Trades.{tradesOf, sideOf, isNumber, priceIs, agrees, firstTrade, broughtWeight, openPars, isNamedBy, tradeOfOn};
+ghost use Rattle.book.specs.Trades.{tradesOf, sideOf, numberIs, priceIs, agrees, firstTrade, broughtWeight, openPars, isNamedBy, tradeOfOn};
 ghost use Rattle.check_terms.specs.Reading.{statedOf};
 ghost use Rattle.trade_id.specs.declared.TradeId.the-variants.{Whole};
 ghost use Rattle.book.specs.declared.Reason.the-variants as reason;
 ghost use Rattle.book.specs.declared.Verdict.the-variants.{Passes, Fails};
 ghost use Rattle.book.specs.Messages.{idIn};
 ghost use Rattle.book.specs.Checks.{idFails, termsFail};
-ghost use Rattle.message_type.specs.Questions.{isOn};
 ghost use Rattle.check_terms.specs.Absent.{isAbsent};
 
 // What a message states of its terms: its type, and the two terms that are numbers.
@@ -28,35 +27,28 @@ struct Stated {
     price: Field,
 }
 
-fn is_number(f: Field, k: u64) -> bool
-    ensures { λ r. ⌜ r ≡ isNumber f k ⌝ }
+fn number_is(f: Field, k: u64) -> bool
+    ensures { λ r. ⌜ r ≡ numberIs f k ⌝ }
 {
-    match f {
-        Field::Number(n) => n == k,
-        Field::NotDigits => false,
-    }
+    let n = fields::value_of(f);
+    fields::is_number(f) & (n == k)
 }
 
 fn price_is(f: Field, k: u64) -> bool
     ensures { λ r. ⌜ r ≡ priceIs f k ⌝ }
 {
-    match f {
-        Field::Number(p) => trade_id::prices_agree(p, k),
-        Field::NotDigits => false,
-    }
+    let p = fields::value_of(f);
+    fields::is_number(f) & trade_id::prices_agree(p, k)
 }
 
 // The side of a trade that submits a message of some type.
 fn side_of(message: MessageType, t: Trade) -> [u8; 4]
     ensures { λ r. ⌜ r ≡ sideOf message t ⌝ }
 {
-    match message {
-        MessageType::On => t.seller,
-        MessageType::Cc => t.seller,
-        MessageType::Dk => t.buyer,
-        MessageType::Cx => t.seller,
-        MessageType::Other => t.seller,
+    if message_type::buyer_submits(message) {
+        return t.buyer;
     }
+    t.seller
 }
 
 fn read_terms(body: &[u8]) -> Stated
@@ -76,7 +68,7 @@ fn agrees_as(body: &[u8], s: Stated, t: Trade) -> bool
 {
     let settlement = s.settlement;
     let price = s.price;
-    if !(is_number(settlement, t.settlement) & price_is(price, t.price)) {
+    if !(number_is(settlement, t.settlement) & price_is(price, t.price)) {
         return false;
     }
     let message = s.message;
@@ -137,18 +129,15 @@ pub fn some_agrees(body: &[u8], v: Values) -> bool
     false
 }
 
-// What a message's new lots weigh: an ON's and a CC's.
+// What a message's new lots weigh.
 pub fn brought_weight(body: &[u8]) -> u64
     ensures { λ r. ⌜ r ≡ broughtWeight (now (body .entry)) ⌝ }
 {
     let message = header::message_type(body);
-    match message {
-        MessageType::On => new_lots::new_weight(body),
-        MessageType::Cc => new_lots::new_weight(body),
-        MessageType::Dk => 0,
-        MessageType::Cx => 0,
-        MessageType::Other => 0,
+    if !message_type::brings_lots(message) {
+        return 0;
     }
+    new_lots::new_weight(body)
 }
 
 fn is_absent(id: TradeId) -> bool

@@ -27,7 +27,7 @@ use Rattle.book.specs.Trades.{tradesOf, openPars, broughtWeight, tradeOfOn}
 use Rattle.book.specs.Opening.{recordsMax}
 use Rattle.book.specs.Soundness.{recordFine, Sound}
 use Rattle.book.specs.Checks.{Check, live, targetTrade, tradeAt, concerned, concernedFor, isTaken, taken, listedFine, parFine, tableFine, checks, firstFailing}
-use Rattle.message_type.specs.Questions.{isOn, isCc, onOrCc, ccOrDk}
+use Rattle.message_type.specs.Questions.{isOn, isCc, bringsLots, listsLots}
 use Rattle.book.proofs.ListLaws.{all-keep}
 use Rattle.book.proofs.Ordered.{ordered-keep}
 use Rattle.book.proofs.Reached.{is-sound}
@@ -146,13 +146,13 @@ module _ (book : Book) (ns ks : List (List ℕ)) (body : List ℕ) (y : Ready bo
       (et : targetTrade body (take (book .live) (tableOf ns ks)) ≡ target) (t : Listed) (tk : Takes body (take (book .live) (tableOf ns ks)) t) where
     pub listed-fails : not (t .fine) ≡ true → Fails reason.Listed ≡ firstFailing (drop 7 traderChecks) (callOn book ns ks body room)
     unfolding traderChecks checks
-    listed-fails h = rw (takes-not (ccOrDk (typeOf body)) (listedFine body (take (book .live) (tableOf ns ks))) (t .fine) (tk .fine) (not-true (t .fine) h))
+    listed-fails h = rw (takes-not (listsLots (typeOf body)) (listedFine body (take (book .live) (tableOf ns ks))) (t .fine) (tk .fine) (not-true (t .fine) h))
 
     module _ (h37 : not (t .fine) ≡ false) (off brought trade : ℕ)
         (ef : (ks′ : List (List ℕ)) → off ≡ runSum weightShare 0 0 (marked (t .marks) (take (book .live) (tableOf ns ks′)))) (eb : brought ≡ broughtWeight body)
         (er : trade ≡ cond on (tradeOfOn body (tradesOf (book .values)) (openPars (tradesOf (book .values)))) target) where
-      tests : (ccOrDk (typeOf body) && not (listedFine body (take (book .live) (tableOf ns ks)))) ≡ false
-      tests = takes-all (ccOrDk (typeOf body)) (listedFine body (take (book .live) (tableOf ns ks))) (t .fine) (tk .fine) (not-false (t .fine) h37)
+      tests : (listsLots (typeOf body) && not (listedFine body (take (book .live) (tableOf ns ks)))) ≡ false
+      tests = takes-all (listsLots (typeOf body)) (listedFine body (take (book .live) (tableOf ns ks))) (t .fine) (tk .fine) (not-false (t .fine) h37)
 
       pub concerned-is : trade ≡ concerned (callOn book ns ks body room)
       unfolding concerned
@@ -181,7 +181,7 @@ module _ (book : Book) (ns ks : List (List ℕ)) (body : List ℕ) (y : Ready bo
         par-is = rw (sym concerned-is, sym off-is, sym eb) ep
 
         module _ (b : Bool) (ebo : b ≡ (on || cc)) where
-          both-is : b ≡ onOrCc (typeOf body)
+          both-is : b ≡ bringsLots (typeOf body)
           both-is = ebo ∙ rw (eo, ec, ek)
 
           pub par-fails : (b && not p) ≡ true → Fails reason.Par ≡ firstFailing (drop 7 traderChecks) (callOn book ns ks body room)
@@ -190,21 +190,21 @@ module _ (book : Book) (ns ks : List (List ℕ)) (body : List ℕ) (y : Ready bo
 
           module _ (h38 : (b && not p) ≡ false) (q : Bool)
               (eq : formedFor cc (details body) ≡ true → q ≡ leb (book .live + length (newPools (details body))) (length ns + cond cc (length (keep isCanceled (details body))) 0)) where
-            fits-is : onOrCc (typeOf body) ≡ true → q ≡ tableFine (callOn book ns ks body room)
+            fits-is : bringsLots (typeOf body) ≡ true → q ≡ tableFine (callOn book ns ks body room)
             unfolding listed
             fits-is o = eq (rw (ec, ek) (y .formed o)) ∙ rw (size, length-table ns ks, ec, ek) (ap (λ (n : ℕ). leb (book .live + length (newPools (details body))) (length ns + n)) (go (typeOf body) o))
               where
-                go : (j : MessageType) → onOrCc j ≡ true → cond (isCc j) (length (keep isCanceled (details body))) 0 ≡ length (map fieldsOf (listedOf j (details body)))
+                go : (j : MessageType) → bringsLots j ≡ true → cond (isCc j) (length (keep isCanceled (details body))) 0 ≡ length (map fieldsOf (listedOf j (details body)))
                 go On o = refl
                 go Cc o = sym (length-map (keep isCanceled (details body)) fieldsOf)
                 go Dk o = absurd (true≢false (sym o))
                 go Cx o = absurd (true≢false (sym o))
                 go Other o = absurd (true≢false (sym o))
 
-            both-fits : (x : Bool) → (b && not q) ≡ x → (onOrCc (typeOf body) && not (tableFine (callOn book ns ks body room))) ≡ x
-            both-fits x h = go (onOrCc (typeOf body)) refl
+            both-fits : (x : Bool) → (b && not q) ≡ x → (bringsLots (typeOf body) && not (tableFine (callOn book ns ks body room))) ≡ x
+            both-fits x h = go (bringsLots (typeOf body)) refl
               where
-                go : (o : Bool) → onOrCc (typeOf body) ≡ o → (onOrCc (typeOf body) && not (tableFine (callOn book ns ks body room))) ≡ x
+                go : (o : Bool) → bringsLots (typeOf body) ≡ o → (bringsLots (typeOf body) && not (tableFine (callOn book ns ks body room))) ≡ x
                 go true e = rw (sym (fits-is e), sym both-is) h
                 go false e = rw e (rw (both-is, e) at h)
 

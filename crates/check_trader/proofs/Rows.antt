@@ -21,7 +21,7 @@ use Rattle.book.specs.Messages.{typeOf, idIn, targetOf, under}
 use Rattle.book.specs.Trades.{tradesOf}
 use Rattle.book.specs.Soundness.{liveOf}
 use Rattle.book.specs.Checks.{idFails, termsFail, millionsFail, newFacesFail, newLotsFail, newPoolsRepeat, targetTrade, checks, firstFailing}
-use Rattle.message_type.specs.Questions.{isOn, isCc, isDk, onOrCc, ccOrDk}
+use Rattle.message_type.specs.Questions.{isOn, isCc, isDk, bringsLots, listsLots}
 use Rattle.book.proofs.ListLaws.{neither-left}
 use Rattle.check_trader.specs.Decisions.{traderChecks}
 use Rattle.check_trader.proofs.Firsts.{fails-not}
@@ -48,11 +48,11 @@ module _ (v : Values) (body : List ℕ) (there : Bool) (target : ℕ) where
   -- the row for a body, where it is known whether the target has live pools, and of which trade
   abbrev rowFor : Verdict
   rowFor =
-      row (ccOrDk (typeOf body) && not there) (idFails body (tradesOf v) target (idIn body)) (termsFail body (tradesOf v) target (idIn body))
+      row (listsLots (typeOf body) && not there) (idFails body (tradesOf v) target (idIn body)) (termsFail body (tradesOf v) target (idIn body))
       (isOn (typeOf body) && millionsFail body)
-      (onOrCc (typeOf body) && newFacesFail v body)
-      (onOrCc (typeOf body) && newLotsFail v body)
-      (onOrCc (typeOf body) && newPoolsRepeat body)
+      (bringsLots (typeOf body) && newFacesFail v body)
+      (bringsLots (typeOf body) && newLotsFail v body)
+      (bringsLots (typeOf body) && newPoolsRepeat body)
 
   -- what the function promises of a verdict
   abbrev pub First : Verdict → Type 0
@@ -85,12 +85,12 @@ module _ (v : Values) (body : List ℕ) (there : Bool) (target : ℕ) where
           pub no-more : not (on || cc) ≡ true → First Passes
           no-more d =
               let q : (on || cc) ≡ false = not-true (on || cc) d in
-              let n : onOrCc (typeOf body) ≡ false = rw (eo, ec, ek) at q in
+              let n : bringsLots (typeOf body) ≡ false = rw (eo, ec, ek) at q in
               let o : isOn (typeOf body) ≡ false = neither-left (isOn (typeOf body)) (isCc (typeOf body)) n in
               by-row Passes (rw (rw (ec, ed, ek) at a, b, sym et ∙ c, n, o))
 
           module _ (d : not (on || cc) ≡ false) (m : Bool) (em : m ≡ millionsFail body) where
-            more : onOrCc (typeOf body) ≡ true
+            more : bringsLots (typeOf body) ≡ true
             more =
                 let q : (on || cc) ≡ true = not-false (on || cc) d in
                 rw (eo, ec, ek) at q

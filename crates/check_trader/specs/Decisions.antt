@@ -16,7 +16,7 @@ use Rattle.book.specs.Trades.{broughtWeight}
 use Rattle.book.specs.Opening.{recordsMax}
 use Rattle.book.specs.Soundness.{isSound}
 use Rattle.book.specs.Checks.{Call, Check, live, checks, firstFailing, concerned, isTaken, taken}
-use Rattle.message_type.specs.Questions.{isCc, onOrCc}
+use Rattle.message_type.specs.Questions.{isCc, bringsLots}
 use Rattle.rows.specs.Rows.{tableOf}
 use Rattle.check_listed.specs.Listing.{marksTaken}
 use Rattle.check_trader.specs.declared.Decision.{Decision}
@@ -33,7 +33,7 @@ callOn book numbers keys body room = record { book = book; table = tableOf numbe
 pub record Ready (book : Book) (numbers keys : List (List ℕ)) (body : List ℕ) : Type 0 where
   pub paired : length keys ≡ length numbers
   pub sound : isSound book (tableOf numbers keys) ≡ true
-  pub formed : onOrCc (typeOf body) ≡ true → formedFor (isCc (typeOf body)) (details body) ≡ true
+  pub formed : bringsLots (typeOf body) ≡ true → formedFor (isCc (typeOf body)) (details body) ≡ true
 
 -- a refused decision: nothing moves
 unfoldable pub refusedWith : Reason → Decision

@@ -7,7 +7,6 @@ use Rattle.lists.specs.Lists.{pasted}
 use Rattle.exports_numbers.specs.Bit.{bit}
 use Rattle.layout.specs.declared.Column.{Column}
 use Rattle.fields.specs.declared.Field.{Field}
-use Rattle.fields.specs.declared.Field.the-variants.{Number}
 use Rattle.calendar.specs.Calendar.{isDate, businessDate}
 use Rattle.trade_id.specs.declared.TradeId.{TradeId}
 use Rattle.trade_id.specs.declared.TradeId.the-variants.{Whole}

@@ -6,7 +6,7 @@ use Rattle.exports_numbers.specs.Bit.{bit}
 use Rattle.layout.specs.declared.Column.{Column}
 use Rattle.layout.specs.Columns.{column, header}
 use Rattle.fields.specs.declared.Field.{Field}
-use Rattle.fields.specs.declared.Field.the-variants.{Number, NotDigits}
+use Rattle.fields.specs.Fields.{isNumber, valueOf}
 use Rattle.calendar.specs.Calendar.{isDate, businessDate}
 use Rattle.trade_id.specs.declared.TradeId.{TradeId}
 use Rattle.trade_id.specs.declared.TradeId.the-variants.{Whole, Broken, Absent}
@@ -20,8 +20,7 @@ columnNumbers c = c .at ∷ c .width ∷ []
 
 -- ---- a field of digits: whether it is one, and its number
 abbrev pub fieldNumbers : Field → List ℕ
-fieldNumbers (Number n) = 1 ∷ n ∷ []
-fieldNumbers NotDigits = 0 ∷ 0 ∷ []
+fieldNumbers f = bit (isNumber f) ∷ valueOf f ∷ []
 
 -- ---- whether a number is a date, and whether a business date
 unfoldable pub dateNumbers : ℕ → List ℕ → List ℕ

@@ -35,10 +35,8 @@ pub extern "C" fn rhoikandra_column(i: usize, out: &mut [u64])
 fn field_numbers(f: Field) -> [u64; 2]
     ensures { λ r. ⌜ r ≡ fieldNumbers f ⌝ }
 {
-    match f {
-        Field::Number(n) => [1, n],
-        Field::NotDigits => [0, 0],
-    }
+    let number = fields::is_number(f);
+    [exports_numbers::bit_of(number), fields::value_of(f)]
 }
 
 // Writes whether the width bytes from at are digits, and their number.

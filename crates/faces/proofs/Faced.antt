@@ -1,22 +1,22 @@
 -- 34: the two tests of a pool's faces, and some new pool found by a pass over all.
 use mathlib.Core.Path.{_≡_, refl, _∙_}
 use mathlib.Core.List.{List, [], _∷_}
-use mathlib.Core.Bool.{Bool, false, _&&_, _||_}
+use mathlib.Core.Bool.{Bool, false, not, _&&_, _||_}
 use Prim.Native.Nat.{ℕ}
-use Rattle.lists.specs.Lists.{fold}
+use Rattle.lists.specs.Lists.{fold, between}
 use Rattle.fields.specs.declared.Field.{Field}
-use Rattle.fields.specs.Fields.{readNumber}
+use Rattle.fields.specs.Fields.{readNumber, isNumber, valueOf}
 use Rattle.layout.specs.declared.Detail.{Detail}
 use Rattle.layout.specs.Columns.{originalFace, currentFace}
 use Rattle.faces.specs.declared.FaceCheck.{FaceCheck}
-use Rattle.faces.specs.Faces.{isNew, currentFails, originalFails, faceFails, facesFail}
+use Rattle.faces.specs.Faces.{isNew, originalMost, faceFails, facesFail}
 use Rattle.faces.specs.Passes.{checkFace}
 use Rattle.faces.proofs.Kept.{orKept, fold-any}
 
-pub face-is : (d : Detail) (least : ℕ) (c o : Field) (n f : Bool) → c ≡ readNumber (d .current) 0 (currentFace .width) → o ≡ readNumber (d .original) 0 (originalFace .width)
-    → n ≡ currentFails c → f ≡ originalFails least o → (n || f) ≡ faceFails least d
+pub face-is : (d : Detail) (least : ℕ) (c o : Field) (n : ℕ) (a b : Bool) → c ≡ readNumber (d .current) 0 (currentFace .width) → o ≡ readNumber (d .original) 0 (originalFace .width)
+    → n ≡ valueOf o → a ≡ isNumber c → b ≡ isNumber o → not (a && (b && between least originalMost n)) ≡ faceFails least d
 unfolding faceFails
-face-is d least c o n f ec eo en ef = rw (en, ef, ec, eo)
+face-is d least c o n a b ec eo en ea eb = rw (en, ea, eb, ec, eo)
 
 abbrev orNewFails : ℕ → Bool → Detail → Bool
 orNewFails least = orKept isNew (faceFails least)

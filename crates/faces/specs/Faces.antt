@@ -1,13 +1,11 @@
 -- The faces of a message's pools: checks 34 and 35, and the weight of its new lots (01, "The trader").
 use Prim.Native.Nat.{ℕ, _+_, _-_, _*_}
 use mathlib.Core.List.{List}
-use mathlib.Core.Bool.{Bool, true, false, not, _&&_, _||_}
+use mathlib.Core.Bool.{Bool, not, _&&_, _||_}
 use lib.ListN.{length}
 use lib.Dec.{ltb}
-use Rattle.lists.specs.Lists.{keep, any, sumOf}
-use Rattle.fields.specs.declared.Field.{Field}
-use Rattle.fields.specs.declared.Field.the-variants.{Number, NotDigits}
-use Rattle.fields.specs.Fields.{readNumber}
+use Rattle.lists.specs.Lists.{keep, any, sumOf, between}
+use Rattle.fields.specs.Fields.{readNumber, isNumber, holds}
 use Rattle.layout.specs.declared.Detail.{Detail}
 use Rattle.layout.specs.Columns.{originalFace, currentFace}
 use Rattle.terminator.specs.Terminators.{isCanceled, isGood}
@@ -31,19 +29,10 @@ newLots ds = keep isNewLot (lots ds)
 abbrev pub originalMost : ℕ
 originalMost = 50000000
 
--- an original face that is not digits, under the least or over the highest
-abbrev pub originalFails : ℕ → Field → Bool
-originalFails least (Number n) = ltb n least || ltb originalMost n
-originalFails least NotDigits = true
-
--- a current face that is not digits
-abbrev pub currentFails : Field → Bool
-currentFails (Number n) = false
-currentFails NotDigits = true
-
--- 34 of one pool: both faces must be digits, and the original face within its bounds
+-- 34 of one pool: both faces must be digits, and the original face from the least to the highest
 unfoldable pub faceFails : ℕ → Detail → Bool
-faceFails least d = currentFails (readNumber (d .current) 0 (currentFace .width)) || originalFails least (readNumber (d .original) 0 (originalFace .width))
+faceFails least d =
+    not (isNumber (readNumber (d .current) 0 (currentFace .width)) && holds (between least originalMost) (readNumber (d .original) 0 (originalFace .width)))
 
 -- 34 of a message: some new pool fails it
 unfoldable pub facesFail : ℕ → List Detail → Bool

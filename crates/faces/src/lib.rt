@@ -1,5 +1,4 @@
 // Whether the faces of a message's new pools are within their limits (check 34), and the arithmetic of those of a lot (35).
-use fields::Field;
 use layout::Detail;
 ghost use mathlib.Core.Path.{_≡_};
 ghost use lib.Dec.{ltb};
@@ -7,7 +6,7 @@ ghost use Prim.Native.Nat.{_-_, _*_};
 ghost use Rattle.lists.specs.Lists.{fold};
 ghost use Rattle.layout.specs.Details.{details};
 ghost use Rattle.terminator.specs.Lots.{millionCents};
-ghost use Rattle.faces.specs.Faces.{isNew, currentFails, originalFails, faceFails, facesFail, goodLotFails};
+ghost use Rattle.faces.specs.Faces.{isNew, faceFails, facesFail, goodLotFails};
 ghost use Rattle.faces.specs.Passes.{checkFace};
 
 // The highest original face, in whole dollars.
@@ -20,24 +19,6 @@ fn is_new(d: Detail) -> bool
     bytes[0] != terminator::CANCELED
 }
 
-fn current_fails(f: Field) -> bool
-    ensures { λ r. ⌜ r ≡ currentFails f ⌝ }
-{
-    match f {
-        Field::Number(_) => false,
-        Field::NotDigits => true,
-    }
-}
-
-fn original_fails(f: Field, least: u64) -> bool
-    ensures { λ r. ⌜ r ≡ originalFails least f ⌝ }
-{
-    match f {
-        Field::Number(n) => (n < least) | (ORIGINAL_MOST < n),
-        Field::NotDigits => true,
-    }
-}
-
 // 34 of one pool.
 pub fn face_fails(d: Detail, least: u64) -> bool
     ensures { λ r. ⌜ r ≡ faceFails least d ⌝ }
@@ -46,7 +27,9 @@ pub fn face_fails(d: Detail, least: u64) -> bool
     let original = d.original;
     let c = fields::read_number(&current, 0, layout::CURRENT_FACE.width);
     let o = fields::read_number(&original, 0, layout::ORIGINAL_FACE.width);
-    current_fails(c) | original_fails(o, least)
+    let n = fields::value_of(o);
+    let within = (least <= n) & (n <= ORIGINAL_MOST);
+    !(fields::is_number(c) & (fields::is_number(o) & within))
 }
 
 // What check 34 carries from pool to pool: the least original face, and whether some new pool failed.

@@ -1,3 +1,4 @@
 pub mod Read
 pub mod Compared
+pub mod Cases
 pub mod Bounds

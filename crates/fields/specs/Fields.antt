@@ -1,7 +1,7 @@
 -- Fixed columns of bytes (01, "Text is ASCII, blank is hex 20, numbers are decimal digits"): read and compared, at any place and width.
 use Prim.Native.Nat.{ℕ, _+_, _-_, _*_}
 use mathlib.Core.List.{List, [], _∷_}
-use mathlib.Core.Bool.{Bool, cond, _&&_}
+use mathlib.Core.Bool.{Bool, true, false, cond, _&&_}
 use lib.Dec.{leb}
 use Rattle.lists.specs.Lists.{within, part, between, all, same}
 use Rattle.fields.specs.declared.Field.{Field}
@@ -41,6 +41,22 @@ numberFrom n (b ∷ bs) = cond (isDigit b) (numberFrom (n * 10 + (b - digitZero)
 unfoldable pub readNumber : List ℕ → ℕ → ℕ → Field
 readNumber s at width = cond (leb width digitsMax && within s at width) (numberFrom 0 (part s at width)) NotDigits
 
+-- ---- what the rules ask of a field: all else goes by these two and by holds
+-- whether it is a number
+abbrev pub isNumber : Field → Bool
+isNumber (Number n) = true
+isNumber NotDigits = false
+
+-- its value, 0 where it is no number
+abbrev pub valueOf : Field → ℕ
+valueOf (Number n) = n
+valueOf NotDigits = 0
+
+-- whether it is a number that passes a test
+abbrev pub holds : (ℕ → Bool) → Field → Bool
+holds p f = isNumber f && p (valueOf f)
+
+-- ---- codes, and parts compared
 -- whether the n bytes from at stand in the list and have codes from low to high
 unfoldable pub allBetween : ℕ → ℕ → List ℕ → ℕ → ℕ → Bool
 allBetween low high s at n = within s at n && all (between low high) (part s at n)

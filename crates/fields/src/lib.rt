@@ -1,6 +1,6 @@
 // Fixed columns of bytes: digits, blanks and codes read, and parts compared.
 ghost use mathlib.Core.Path.{_≡_};
-ghost use Rattle.fields.specs.Fields.{readNumber, allBetween, allBlank, allVisible, samePart};
+ghost use Rattle.fields.specs.Fields.{readNumber, isNumber, valueOf, allBetween, allBlank, allVisible, samePart};
 
 // What a field of digits holds.
 pub enum Field {
@@ -54,6 +54,26 @@ pub fn read_number(s: &[u8], at: usize, width: usize) -> Field
         i += 1;
     }
     Field::Number(n)
+}
+
+// Whether a field is a number.
+pub fn is_number(f: Field) -> bool
+    ensures { λ r. ⌜ r ≡ isNumber f ⌝ }
+{
+    match f {
+        Field::Number(_) => true,
+        Field::NotDigits => false,
+    }
+}
+
+// The value of a field, 0 where it is no number.
+pub fn value_of(f: Field) -> u64
+    ensures { λ r. ⌜ r ≡ valueOf f ⌝ }
+{
+    match f {
+        Field::Number(n) => n,
+        Field::NotDigits => 0,
+    }
 }
 
 // Whether the n bytes from at have codes from low to high.

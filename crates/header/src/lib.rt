@@ -15,7 +15,6 @@ ghost use lib.ListN.{length, take};
 ghost use Rattle.lists.specs.Lists.{same, any};
 ghost use Rattle.layout.specs.Columns.{bytesIn};
 ghost use Rattle.layout.specs.Details.{lengthFits};
-ghost use Rattle.terminator.specs.Lots.{valueOf};
 ghost use Rattle.book.specs.Messages.{typeOf, idIn, isStipulated};
 ghost use Rattle.book.specs.Opening.{tradesMax};
 ghost use Rattle.book.specs.Checks.{notNumber, atMost, isNoSequence, sequenceFails, arrived, versionWrong, blankIn, fillersFine, isSide, partiesFine, amountsWrong, replacementsFail, isBusinessDate, settlementFails, reasonFails, tradeIdMissing, millionsFail};
@@ -81,29 +80,16 @@ pub fn length_fits(body: &[u8]) -> bool
 pub fn over(most: u64, f: Field) -> bool
     ensures { λ r. ⌜ r ≡ notNumber (atMost most) f ⌝ }
 {
-    match f {
-        Field::Number(n) => !(n <= most),
-        Field::NotDigits => true,
-    }
-}
-
-fn value_of(f: Field) -> u64
-    ensures { λ r. ⌜ r ≡ valueOf f ⌝ }
-{
-    match f {
-        Field::Number(n) => n,
-        Field::NotDigits => 0,
-    }
+    let n = fields::value_of(f);
+    !(fields::is_number(f) & (n <= most))
 }
 
 // 11 of a field: not digits, or a number that the line refuses.
 fn is_no_sequence(f: Field) -> bool
     ensures { λ r. ⌜ r ≡ isNoSequence f ⌝ }
 {
-    match f {
-        Field::Number(n) => (sequence::INBOUND_MAX as u64) < n,
-        Field::NotDigits => true,
-    }
+    let n = fields::value_of(f);
+    !fields::is_number(f) | ((sequence::INBOUND_MAX as u64) < n)
 }
 
 // 11: the sequence number is not digits, or 999999.
@@ -117,7 +103,7 @@ pub fn sequence_fails(body: &[u8]) -> bool
 pub fn arrived(body: &[u8]) -> Inbound
     ensures { λ r. ⌜ r ≡ arrived (now (body .entry)) ⌝ }
 {
-    let n = value_of(layout::number_in(body, layout::SEQUENCE));
+    let n = fields::value_of(layout::number_in(body, layout::SEQUENCE));
     Inbound(n as u32)
 }
 
@@ -199,30 +185,24 @@ fn wide(x: usize) -> u64
 fn is_nothing(f: Field) -> bool
     ensures { λ r. ⌜ r ≡ notNumber (leb 1) f ⌝ }
 {
-    match f {
-        Field::Number(n) => !(1 <= n),
-        Field::NotDigits => true,
-    }
+    let n = fields::value_of(f);
+    !(fields::is_number(f) & (1 <= n))
 }
 
 // Whether a field is not digits, or another number.
 fn is_unlike(k: u64, f: Field) -> bool
     ensures { λ r. ⌜ r ≡ notNumber (eqb k) f ⌝ }
 {
-    match f {
-        Field::Number(n) => !(k == n),
-        Field::NotDigits => true,
-    }
+    let n = fields::value_of(f);
+    !(fields::is_number(f) & (k == n))
 }
 
 // Whether a field is not digits, or no business date.
 fn is_no_business_date(f: Field, holidays: &[u32]) -> bool
     ensures { λ r. ⌜ r ≡ notNumber (isBusinessDate (now (holidays .entry))) f ⌝ }
 {
-    match f {
-        Field::Number(n) => !calendar::business_date(n, holidays),
-        Field::NotDigits => true,
-    }
+    let n = fields::value_of(f);
+    !(fields::is_number(f) & calendar::business_date(n, holidays))
 }
 
 // 16: par or price 0, or GDMM over the ceiling.

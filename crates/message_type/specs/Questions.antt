@@ -39,9 +39,17 @@ isOther Cx = false
 isOther Other = true
 
 -- an ON and a CC bring new lots
-abbrev pub onOrCc : MessageType → Bool
-onOrCc t = isOn t || isCc t
+abbrev pub bringsLots : MessageType → Bool
+bringsLots t = isOn t || isCc t
 
 -- a CC and a DK list live lots under a target
-abbrev pub ccOrDk : MessageType → Bool
-ccOrDk t = isCc t || isDk t
+abbrev pub listsLots : MessageType → Bool
+listsLots t = isCc t || isDk t
+
+-- of these a DK lists all its pools, a CC the canceled ones
+abbrev pub listsAll : MessageType → Bool
+listsAll t = isDk t
+
+-- the buyer of a trade submits a DK, the seller every other
+abbrev pub buyerSubmits : MessageType → Bool
+buyerSubmits t = isDk t

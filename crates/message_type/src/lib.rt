@@ -1,6 +1,6 @@
 // The types of a message, and the questions that the rules ask of them.
 ghost use mathlib.Core.Path.{_≡_};
-ghost use Rattle.message_type.specs.Questions.{isOn, isCc, isDk, isCx, isOther, onOrCc, ccOrDk};
+ghost use Rattle.message_type.specs.Questions.{isOn, isCc, isDk, isCx, isOther, bringsLots, listsLots, listsAll, buyerSubmits};
 
 // The four types of the tally, and every other.
 pub enum MessageType {
@@ -78,7 +78,7 @@ pub fn is_other(t: MessageType) -> bool
 
 // An ON and a CC bring new lots.
 pub fn brings_lots(t: MessageType) -> bool
-    ensures { λ r. ⌜ r ≡ onOrCc t ⌝ }
+    ensures { λ r. ⌜ r ≡ bringsLots t ⌝ }
 {
     match t {
         MessageType::On => true,
@@ -91,7 +91,7 @@ pub fn brings_lots(t: MessageType) -> bool
 
 // A CC and a DK list live lots under a target.
 pub fn lists_lots(t: MessageType) -> bool
-    ensures { λ r. ⌜ r ≡ ccOrDk t ⌝ }
+    ensures { λ r. ⌜ r ≡ listsLots t ⌝ }
 {
     match t {
         MessageType::On => false,
@@ -100,4 +100,18 @@ pub fn lists_lots(t: MessageType) -> bool
         MessageType::Cx => false,
         MessageType::Other => false,
     }
+}
+
+// Of these a DK lists all its pools, a CC the canceled ones.
+pub fn lists_all(t: MessageType) -> bool
+    ensures { λ r. ⌜ r ≡ listsAll t ⌝ }
+{
+    is_dk(t)
+}
+
+// The buyer of a trade submits a DK, the seller every other.
+pub fn buyer_submits(t: MessageType) -> bool
+    ensures { λ r. ⌜ r ≡ buyerSubmits t ⌝ }
+{
+    is_dk(t)
 }

@@ -1,22 +1,21 @@
 -- The lot that begins at a pool, by the staged terminators: the lots from there on are this lot and those after its last pool, and its pools are those from the first to the last.
 use mathlib.Core.Path.{_≡_, refl, sym, ap, _∙_}
 use mathlib.Core.List.{List, [], _∷_, _++_, append-assoc, append-nil}
-use mathlib.Core.Bool.{true, false}
-use Prim.Native.Nat.{ℕ, zero, suc, _+_, _-_, _*_, _%_, _^_, _≤_, _<_}
+use mathlib.Core.Bool.{Bool, true, false, cond}
+use Prim.Native.Nat.{ℕ, zero, suc, _+_, _-_, _*_, _%_, _≤_, _<_}
 use native.Mathlib.Decide.{ℕ-discrete}
 use native.Mathlib.Omega.{arith}
 use lib.ListN.{drop, getD}
 use Rattle.lists.specs.Lists.{tab}
 use Rattle.lists.proofs.Tables.{tab-turn, tab-end}
-use Rattle.fields.specs.declared.Field.{Field}
-use Rattle.fields.specs.declared.Field.the-variants.{Number, NotDigits}
-use Rattle.fields.specs.Fields.{readNumber}
-use Rattle.fields.proofs.Bounds.{Below, read-below}
+use Rattle.fields.specs.Fields.{readNumber, isNumber, valueOf}
+use Rattle.fields.proofs.Bounds.{read-below}
 use Rattle.layout.specs.declared.Detail.{Detail}
 use Rattle.layout.specs.Details.{details, poolCount}
 use Rattle.layout.proofs.Passes.{poolOf}
 use Rattle.layout.proofs.Reader.{details-left}
-use Rattle.terminator.specs.Terminators.{positions, positionsOf, terminatorOf, isEnd, one, term}
+use Rattle.terminator.specs.declared.Terminator.the-variants.{Wrong}
+use Rattle.terminator.specs.Terminators.{positions, terminatorOf, isEnd, one, term}
 use Rattle.terminator.specs.Lots.{Lot, poolsOf, lotsFrom, lots}
 use Rattle.rows_bring.specs.Staged.{threeDigits, terminatorNumber, numberOne, numberTerm, AreStaged}
 use Rattle.rows_bring.specs.Stored.{Ends}
@@ -24,11 +23,11 @@ use Rattle.rows_bring.specs.Stored.{Ends}
 -- ---- a staged terminator says what the pool's own does
 module _ (d : Detail) where
   pub three-small : threeDigits (readNumber (d .terminator) 1 3) ≤ 1000
-  three-small = go (readNumber (d .terminator) 1 3) (read-below (d .terminator) 1 3)
+  three-small = go (isNumber (readNumber (d .terminator) 1 3)) (read-below (d .terminator) 1 3)
     where
-      go : (f : Field) → Below (10 ^ 3) f → threeDigits f ≤ 1000
-      go (Number n) b = omega arith
-      go NotDigits b = omega arith
+      go : {n : ℕ} (b : Bool) → n < 1000 → cond b n 1000 ≤ 1000
+      go true h = omega arith
+      go false h = omega arith
 
   pub number-one : numberOne (terminatorNumber d) ≡ one d
   unfolding terminatorNumber
@@ -38,11 +37,11 @@ module _ (d : Detail) where
   unfolding terminatorNumber terminatorOf positions
   number-term =
       let e : (one d * 10000 + threeDigits (readNumber (d .terminator) 1 3)) % 10000 ≡ threeDigits (readNumber (d .terminator) 1 3) = omega (arith, three-small) in
-      ap positions e ∙ go (readNumber (d .terminator) 1 3)
+      ap positions e ∙ go (isNumber (readNumber (d .terminator) 1 3)) (valueOf (readNumber (d .terminator) 1 3))
     where
-      go : (f : Field) → positions (threeDigits f) ≡ positionsOf f
-      go (Number n) = refl
-      go NotDigits = refl
+      go : (b : Bool) (n : ℕ) → positions (cond b n 1000) ≡ cond b (positions n) Wrong
+      go true n = refl
+      go false n = refl
 
 -- ---- the search for the end of a lot
 module _ (ts : List ℕ) (first : ℕ) where

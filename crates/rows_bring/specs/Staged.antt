@@ -2,10 +2,10 @@
 use Prim.Native.Nat.{ℕ, _+_, _-_, _*_, _/_, _%_, _<_}
 use mathlib.Core.Path.{_≡_}
 use mathlib.Core.List.{List, _++_, map}
+use mathlib.Core.Bool.{cond}
 use lib.ListN.{length, getD, replicate}
 use Rattle.fields.specs.declared.Field.{Field}
-use Rattle.fields.specs.declared.Field.the-variants.{Number, NotDigits}
-use Rattle.fields.specs.Fields.{readNumber}
+use Rattle.fields.specs.Fields.{readNumber, isNumber, valueOf}
 use Rattle.layout.specs.declared.Detail.{Detail}
 use Rattle.layout.specs.Details.{poolsMax, poolCount, detailAt, placeOf}
 use Rattle.terminator.specs.declared.Terminator.{Terminator}
@@ -15,8 +15,7 @@ use Rattle.rows_bring.specs.declared.Staged.{Staged}
 
 -- positions two to four as a number; what is not digits is one that no three digits make, and wrong as they are
 abbrev pub threeDigits : Field → ℕ
-threeDigits (Number n) = n
-threeDigits NotDigits = 1000
+threeDigits f = cond (isNumber f) (valueOf f) 1000
 
 -- a terminator as one number: the code of position one, and after it the number of positions two to four
 unfoldable pub terminatorNumber : Detail → ℕ

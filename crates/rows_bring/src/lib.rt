@@ -31,10 +31,10 @@ const NO_DIGITS: u64 = 1000;
 fn three_digits(f: Field) -> u64
     ensures { λ r. ⌜ r ≡ threeDigits f ⌝ }
 {
-    match f {
-        Field::Number(n) => n,
-        Field::NotDigits => NO_DIGITS,
+    if fields::is_number(f) {
+        return fields::value_of(f);
     }
+    NO_DIGITS
 }
 
 // The number of a terminator by its position one and the number of the others.

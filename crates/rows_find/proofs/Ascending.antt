@@ -1,18 +1,20 @@
 -- The target's run says what the checks ask of the target: whether some record is under it, its trade and, in an ordered table, all its records.
 use mathlib.Core.Path.{_≡_, refl, sym, ap, _∙_}
 use mathlib.Core.List.{List, [], _∷_}
-use mathlib.Core.Bool.{Bool, true, false, not, cond, _&&_, _||_, false≢true, Bool·not-not}
+use mathlib.Core.Bool.{Bool, true, false, not, cond, _||_, Bool·not-not}
 use Prim.Native.Nat.{ℕ, zero, suc, _+_, _-_, _≤_, _<_}
 use native.Mathlib.Omega.{arith}
 use native.Mathlib.Decide.{decLt}
 use lib.ListN.{length, getD, take, drop, length-drop}
 use lib.Seq.{getD-drop}
 use lib.Dec.{eqb, leb, ltb}
-use borrow.Author.Tests.{ltb-true, leb-true, eqb-true, eqb-false, eq-eqb, ne-eqb, lt-ltb, le-ltb, le-leb}
+use borrow.Author.Tests.{leb-true, eqb-true, eqb-false, eq-eqb, ne-eqb, lt-ltb, le-ltb, le-leb}
 use Rattle.lists.specs.Lists.{part, keep, any, all}
-use Rattle.lists.proofs.Tests.{and-left, and-right, both, clash, un-true, all-out, keep-none}
+use Rattle.lists.proofs.Tests.{and-left, and-right, both, clash, all-out, keep-none}
 use Rattle.fields.specs.declared.Field.{Field}
-use Rattle.fields.specs.declared.Field.the-variants.{Number, NotDigits}
+use Rattle.fields.specs.declared.Field.the-variants.{Number}
+use Rattle.fields.specs.Fields.{isNumber, valueOf}
+use Rattle.fields.proofs.Cases.{number-is}
 use Rattle.book.specs.declared.Pool.{Pool}
 use Rattle.book.specs.Records.{noPool}
 use Rattle.book.specs.Messages.{targetOf, under}
@@ -195,23 +197,22 @@ not-before id rs i u = go (decLt i (ahead (under (Number id)) rs))
     go (yes h) = clash u (ahead-fail (under (Number id)) noPool rs i h)
     go (no k) = omega (arith, k)
 
-none-leads : (rs : List Pool) → keep (under NotDigits) rs ≡ take (leading (under NotDigits) rs) rs
-none-leads [] = refl
-none-leads (r ∷ rs) = keep-none (under NotDigits) rs (λ (s : Pool) m. refl)
+none-leads : (tgt : Field) → isNumber tgt ≡ false → (rs : List Pool) → keep (under tgt) rs ≡ take (leading (under tgt) rs) rs
+none-leads tgt e [] = refl
+none-leads tgt e (r ∷ rs) = rw e (keep-none (under tgt) rs (λ (s : Pool) m. rw e))
 
 run-leads : (tgt : Field) (rs : List Pool) → inOrder rs ≡ true
     → keep (under tgt) (drop (ahead (under tgt) rs) rs) ≡ take (leading (under tgt) (drop (ahead (under tgt) rs) rs)) (drop (ahead (under tgt) rs) rs)
-run-leads NotDigits rs o = none-leads (drop (ahead (under NotDigits) rs) rs)
-run-leads (Number id) rs o =
-    let w = order-from id rs o in
-    order-leads id (drop (ahead (under (Number id)) rs) rs) (w .0) (w .1)
+run-leads tgt rs o = go (isNumber tgt) refl
+  where
+    go : (b : Bool) → isNumber tgt ≡ b → keep (under tgt) (drop (ahead (under tgt) rs) rs) ≡ take (leading (under tgt) (drop (ahead (under tgt) rs) rs)) (drop (ahead (under tgt) rs) rs)
+    go true e = rw (number-is tgt e) (let w = order-from (valueOf tgt) rs o in order-leads (valueOf tgt) (drop (ahead (under (Number (valueOf tgt))) rs) rs) (w .0) (w .1))
+    go false e = none-leads tgt e (drop (ahead (under tgt) rs) rs)
 
--- every record under the target stands in the run, in an ordered list
-pub run-only : (tgt : Field) (rs : List Pool) → inOrder rs ≡ true → (i : ℕ) → i < length rs → under tgt (getD rs i noPool) ≡ true
-    → (runOf tgt rs .start ≤ i) × (i < runOf tgt rs .stop)
+number-only : (id : ℕ) (rs : List Pool) → inOrder rs ≡ true → (i : ℕ) → i < length rs → under (Number id) (getD rs i noPool) ≡ true
+    → (runOf (Number id) rs .start ≤ i) × (i < runOf (Number id) rs .stop)
 unfolding runOf
-run-only NotDigits rs o i h u = absurd (false≢true u)
-run-only (Number id) rs o i h u =
+number-only id rs o i h u =
     let n : ℕ = ahead (under (Number id)) rs in
     let w = order-from id rs o in
     let a : n ≤ i = not-before id rs i u in
@@ -222,6 +223,12 @@ run-only (Number id) rs o i h u =
     (a, omega (arith, l, a))
 
 module _ (tgt : Field) (rs : List Pool) (o : inOrder rs ≡ true) where
+  -- every record under the target stands in the run, in an ordered list
+  pub run-only : (i : ℕ) → i < length rs → under tgt (getD rs i noPool) ≡ true → (runOf tgt rs .start ≤ i) × (i < runOf tgt rs .stop)
+  run-only i h u =
+      let e : tgt ≡ Number (valueOf tgt) = number-is tgt (and-left (isNumber tgt) _ u) in
+      rw e (number-only (valueOf tgt) rs o i h (rw e at u))
+
   -- so the records under the target are those of the run
   pub run-keep : keep (under tgt) rs ≡ part rs (runOf tgt rs .start) (runOf tgt rs .stop - runOf tgt rs .start)
   unfolding runOf part

@@ -3,25 +3,17 @@ use mathlib.Core.Path.{_≡_, sym}
 use mathlib.Core.List.{List, [], _∷_}
 use Prim.Native.Nat.{ℕ, _+_, _<_}
 use native.Mathlib.Omega.{arith}
-use lib.Dec.{eqb}
-use lib.ListN.{length, getD}
+use lib.ListN.{length}
 use Rattle.lists.specs.Lists.{same}
 use Rattle.lists.proofs.Parts.{length-part}
 use Rattle.layout.specs.declared.Detail.{Detail}
 use Rattle.layout.specs.Details.{detailAt, placeOf, poolCount}
 use Rattle.layout.proofs.Lengths.{counted}
-use Rattle.terminator.specs.Terminators.{digitCanceled}
-use Rattle.message_type.specs.declared.MessageType.{MessageType}
-use Rattle.message_type.specs.declared.MessageType.the-variants.{Cc}
 use Rattle.book.specs.Records.{fieldsOf, sameFields}
 use Rattle.rows.proofs.Rows.{key-lot, key-pool, key-original}
 use Rattle.rows_keys.specs.Keys.{keyOf}
 use Rattle.rows_keys.proofs.Rows.{records-same}
-use Rattle.rows_find.specs.Finding.{rowFields, lists}
-
--- what a CC lists
-pub lists-cc : (t : MessageType) (d : Detail) → t ≡ Cc → eqb (getD (d .terminator) 0 0) digitCanceled ≡ lists t d
-lists-cc t d e = rw e
+use Rattle.rows_find.specs.Finding.{rowFields}
 
 pub rows-same : (a b : List ℕ) → length a ≡ 22 → length b ≡ 22 → same a b ≡ sameFields (rowFields a) (rowFields b)
 rows-same a b h k = sym (records-same [] (a ∷ b ∷ []) 0 1 h k)

@@ -1,15 +1,18 @@
 -- A loop that passes over the rows of a table up to the first that passes a test.
 use mathlib.Core.Path.{_≡_, refl, sym, ap, _∙_}
 use mathlib.Core.List.{List, [], _∷_}
-use mathlib.Core.Bool.{Bool, true, false, cond}
+use mathlib.Core.Bool.{Bool, true, false, not, cond}
 use Prim.Native.Nat.{ℕ, zero, suc, _+_, _-_, _≤_, _<_}
 use native.Mathlib.Nat.{add-zero}
 use native.Mathlib.Omega.{arith}
 use lib.ListN.{length, take, drop}
+use borrow.Author.Tests.{not-true, not-false}
 use Rattle.lists.specs.Lists.{tab}
 use Rattle.lists.proofs.Tables.{drop-tab, length-tab, tab-turn, tab-end}
 use Rattle.fields.specs.declared.Field.{Field}
-use Rattle.fields.specs.declared.Field.the-variants.{Number, NotDigits}
+use Rattle.fields.specs.declared.Field.the-variants.{Number}
+use Rattle.fields.specs.Fields.{isNumber, valueOf}
+use Rattle.fields.proofs.Cases.{number-is}
 use Rattle.book.specs.declared.Pool.{Pool}
 use Rattle.book.specs.Messages.{under}
 use Rattle.rows.specs.Rows.{recordAt, tableOf}
@@ -53,23 +56,25 @@ live-from ns ks n i =
     let e : 0 + i ≡ i = omega arith in
     drop-tab (recordAt ns ks) i n 0 ∙ ap (λ (k : ℕ). tab (recordAt ns ks) (n - i) k) e
 
-module _ (ns ks : List (List ℕ)) (live : ℕ) (l : live ≤ length ns) where
-  pub run-found : (f : Field) (id start stop : ℕ) → f ≡ Number id → start ≡ ahead (under (Number id)) (tab (recordAt ns ks) live 0)
+-- under no number is nothing
+none-under : (f : Field) → isNumber f ≡ false → (n i : ℕ) (g : ℕ → Pool) → ahead (under f) (tab g n i) ≡ n
+none-under f e zero i g = refl
+none-under f e (suc n) i g = rw e (ap suc (none-under f e n (i + 1) g))
+
+module _ (ns ks : List (List ℕ)) (live : ℕ) (l : live ≤ length ns) (f g : Field) (is : f ≡ g) (b : Bool) (number : b ≡ isNumber f) where
+  pub run-found : not b ≡ false → (id start stop : ℕ) → id ≡ valueOf f → start ≡ ahead (under (Number id)) (tab (recordAt ns ks) live 0)
       → stop ≡ start + leading (under (Number id)) (tab (recordAt ns ks) (live - start) start)
-      → _≡_ {A = Run} (record { start = start; stop = stop }) (runOf f (take live (tableOf ns ks)))
+      → _≡_ {A = Run} (record { start = start; stop = stop }) (runOf g (take live (tableOf ns ks)))
   unfolding runOf
-  run-found f id start stop is a b =
-      ap {B = Run} (λ (s : ℕ). record { start = start; stop = s }) (b ∙ ap (λ (xs : List Pool). start + leading (under (Number id)) xs) (sym (live-from ns ks live start)))
-      ∙ ap {B = Run} (λ (s : ℕ). record { start = s; stop = s + leading (under (Number id)) (drop s (tab (recordAt ns ks) live 0)) }) a
-      ∙ rw (is, take-table ns ks live l)
+  run-found n id start stop v p q =
+      let e : g ≡ Number id = sym is ∙ number-is f (sym number ∙ not-false b n) ∙ ap Number (sym v) in
+      ap {B = Run} (λ (s : ℕ). record { start = start; stop = s }) (q ∙ ap (λ (xs : List Pool). start + leading (under (Number id)) xs) (sym (live-from ns ks live start)))
+      ∙ ap {B = Run} (λ (s : ℕ). record { start = s; stop = s + leading (under (Number id)) (drop s (tab (recordAt ns ks) live 0)) }) p
+      ∙ rw (e, take-table ns ks live l)
 
-  ahead-none : (f : ℕ → Pool) (n i : ℕ) → ahead (under NotDigits) (tab f n i) ≡ n
-  ahead-none f zero i = refl
-  ahead-none f (suc n) i = ap suc (ahead-none f n (i + 1))
-
-  pub run-none : (f : Field) → f ≡ NotDigits → _≡_ {A = Run} (record { start = live; stop = live }) (runOf f (take live (tableOf ns ks)))
+  pub run-none : not b ≡ true → _≡_ {A = Run} (record { start = live; stop = live }) (runOf g (take live (tableOf ns ks)))
   unfolding runOf
-  run-none f is =
-      let a : ahead (under NotDigits) (tab (recordAt ns ks) live 0) ≡ live = ahead-none (recordAt ns ks) live 0 in
-      let b : leading (under NotDigits) (drop live (tab (recordAt ns ks) live 0)) ≡ 0 = ap (leading (under NotDigits)) (live-from ns ks live live ∙ tab-end (recordAt ns ks) live live (omega arith)) in
-      rw (is, take-table ns ks live l, a, b, add-zero live)
+  run-none n =
+      let a : ahead (under g) (tab (recordAt ns ks) live 0) ≡ live = none-under g (ap isNumber (sym is) ∙ sym number ∙ not-true b n) live 0 (recordAt ns ks) in
+      let z : leading (under g) (drop live (tab (recordAt ns ks) live 0)) ≡ 0 = ap (leading (under g)) (live-from ns ks live live ∙ tab-end (recordAt ns ks) live live (omega arith)) in
+      rw (take-table ns ks live l, a, z, add-zero live)

@@ -1,6 +1,6 @@
 -- The search for the rows of the listed pools: what is filled when it has passed over all pools, and what a pool without a row says.
 use mathlib.Core.Path.{_≡_, refl, sym, ap, _∙_}
-use mathlib.Core.List.{List, [], _∷_, map}
+use mathlib.Core.List.{List, [], _∷_}
 use mathlib.Core.Bool.{Bool, true, false, cond, not, _&&_, _||_, false≢true, true≢false}
 use Prim.Native.Nat.{ℕ, _+_, _-_, _≤_, _<_}
 use native.Mathlib.Decide.{decLt, ℕ-discrete}
@@ -13,13 +13,13 @@ use Rattle.lists.proofs.Tests.{clash, keep-all, keep-none}
 use Rattle.layout.specs.declared.Detail.{Detail}
 use Rattle.layout.specs.Details.{poolsMax, poolCount, details}
 use Rattle.layout.proofs.Passes.{poolOf}
+use Rattle.terminator.specs.Terminators.{isCanceled}
 use Rattle.message_type.specs.declared.MessageType.{MessageType}
-use Rattle.message_type.specs.declared.MessageType.the-variants.{On, Cc, Dk, Cx, Other}
 use Rattle.book.specs.declared.Pool.{Pool}
 use Rattle.book.specs.Records.{Fields, fieldsOf, liveFields, sameFields}
 use Rattle.book.specs.Messages.{typeOf, targetOf, under, listedOf, listed}
 use Rattle.book.specs.Soundness.{inOrder}
-use Rattle.message_type.specs.Questions.{ccOrDk}
+use Rattle.message_type.specs.Questions.{listsLots, listsAll}
 use Rattle.book.proofs.ByRecord.{allLive}
 use Rattle.book.proofs.ListLaws.{all-of-map}
 use Rattle.rows.specs.Rows.{keyAt, recordAt, tableOf}
@@ -35,11 +35,12 @@ use Rattle.rows_find.proofs.Cells.{Filled, filled-none, filled-skip, fi
 
 -- ---- what a message lists
 lists-keep : (t : MessageType) (ds : List Detail) → listedOf t ds ≡ keep (lists t) ds
-lists-keep On ds = sym (keep-none (lists On) ds (λ (d : Detail) m. refl))
-lists-keep Cc ds = refl
-lists-keep Dk ds = sym (keep-all (lists Dk) ds (λ (d : Detail) m. refl))
-lists-keep Cx ds = sym (keep-none (lists Cx) ds (λ (d : Detail) m. refl))
-lists-keep Other ds = sym (keep-none (lists Other) ds (λ (d : Detail) m. refl))
+lists-keep t ds = go (listsLots t) (listsAll t)
+  where
+    go : (some every : Bool) → cond some (cond every ds (keep isCanceled ds)) [] ≡ keep (λ (d : Detail). some && (every || isCanceled d)) ds
+    go false every = sym (keep-none (λ (d : Detail). false) ds (λ (d : Detail) m. refl))
+    go true false = refl
+    go true true = sym (keep-all (λ (d : Detail). true) ds (λ (d : Detail) m. refl))
 
 -- a test of all that a message lists, over the pools by their index
 pub all-listed : (p : Fields → Bool) (body : List ℕ)
@@ -48,18 +49,6 @@ unfolding listed details
 all-listed p body =
     all-of-map p fieldsOf (listedOf (typeOf body) (tab (poolOf body) (poolCount body) 0))
     ∙ ap (all (λ (d : Detail). p (fieldsOf d))) (lists-keep (typeOf body) (tab (poolOf body) (poolCount body) 0))
-
--- a type that is no CC or DK lists nothing
-pub lists-nothing : (k : MessageType) (body : List ℕ) → k ≡ typeOf body → ccOrDk k ≡ false → listed body ≡ []
-unfolding listed
-lists-nothing k body e f = rw (sym e) (go k f)
-  where
-    go : (t : MessageType) → ccOrDk t ≡ false → map fieldsOf (listedOf t (details body)) ≡ []
-    go On g = refl
-    go Cc g = absurd (true≢false g)
-    go Dk g = absurd (true≢false g)
-    go Cx g = refl
-    go Other g = refl
 
 -- ---- rows that do not hold some fields
 -- whether the k-th row holds them

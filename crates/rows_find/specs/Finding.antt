@@ -2,7 +2,7 @@
 use Prim.Native.Nat.{ℕ, _-_, _≤_, _<_}
 use mathlib.Core.Path.{_≡_}
 use mathlib.Core.List.{List}
-use mathlib.Core.Bool.{Bool, true, false}
+use mathlib.Core.Bool.{Bool, true, false, _&&_, _||_}
 use lib.ListN.{getD, replicate}
 use Rattle.lists.specs.Lists.{part, tab, any, all}
 use Rattle.layout.specs.declared.Detail.{Detail}
@@ -10,7 +10,7 @@ use Rattle.layout.specs.Columns.{lotId, poolNumber, originalFace}
 use Rattle.layout.specs.Details.{poolsMax, poolCount, detailAt, placeOf}
 use Rattle.terminator.specs.Terminators.{isCanceled}
 use Rattle.message_type.specs.declared.MessageType.{MessageType}
-use Rattle.message_type.specs.declared.MessageType.the-variants.{On, Cc, Dk, Cx, Other}
+use Rattle.message_type.specs.Questions.{listsLots, listsAll}
 use Rattle.book.specs.declared.Pool.{Pool}
 use Rattle.book.specs.Records.{Fields, fieldsOf, liveFields, sameFields}
 use Rattle.book.specs.Messages.{typeOf, listed}
@@ -24,11 +24,7 @@ rowFields row = record { lot = part row 0 (lotId .width); pool = part row poolFr
 
 -- whether a message of a type lists a pool: a DK each one, a CC the canceled ones
 abbrev pub lists : MessageType → Detail → Bool
-lists On d = false
-lists Cc d = isCanceled d
-lists Dk d = true
-lists Cx d = false
-lists Other d = false
+lists t d = listsLots t && (listsAll t || isCanceled d)
 
 -- the records of a run
 abbrev pub runRecords : List (List ℕ) → List (List ℕ) → Run → List Pool

@@ -1,5 +1,4 @@
 // Where the target's records stand in the table, where each listed pool stands among them, and what marked records weigh.
-use fields::Field;
 use layout::Detail;
 use message_type::MessageType;
 ghost use mathlib.Core.Path.{_≡_};
@@ -70,19 +69,18 @@ pub fn target_run(numbers: &[[u64; rows::NUMBERS]], live: usize, body: &[u8]) ->
     ensures { λ r. ⌜ ((ks : List (List ℕ)) → r ≡ runOf (targetOf (now (body .entry))) (take live (tableOf (now (numbers .entry)) ks))) ⌝ }
 {
     let f = layout::number_in(body, layout::TARGET);
-    match f {
-        Field::Number(id) => {
-            let start = first_under(numbers, live, id);
-            let stop = first_other(numbers, start, live, id);
-            Run {
-                start: start,
-                stop: stop,
-            }
-        }
-        Field::NotDigits => Run {
+    if !fields::is_number(f) {
+        return Run {
             start: live,
             stop: live,
-        },
+        };
+    }
+    let id = fields::value_of(f);
+    let start = first_under(numbers, live, id);
+    let stop = first_other(numbers, start, live, id);
+    Run {
+        start: start,
+        stop: stop,
     }
 }
 
@@ -91,13 +89,8 @@ fn is_listed(t: MessageType, d: Detail) -> bool
     ensures { λ r. ⌜ r ≡ lists t d ⌝ }
 {
     let bytes = d.terminator;
-    match t {
-        MessageType::On => false,
-        MessageType::Cc => bytes[0] == terminator::CANCELED,
-        MessageType::Dk => true,
-        MessageType::Cx => false,
-        MessageType::Other => false,
-    }
+    let canceled = bytes[0] == terminator::CANCELED;
+    message_type::lists_lots(t) & (message_type::lists_all(t) | canceled)
 }
 
 // Whether two rows hold the same matched fields.

@@ -2,9 +2,9 @@
 use Prim.Native.Nat.{ℕ, zero, suc, _+_, _-_, _≤_}
 use native.Mathlib.Omega.{arith}
 use native.Mathlib.Nat.{sub-zero, suc-sub-suc}
-use mathlib.Core.Path.{_≡_, refl, sym, ap, _∙_}
+use mathlib.Core.Path.{_≡_, sym, ap, _∙_}
 use mathlib.Core.List.{List, [], _++_, append-assoc, append-nil}
-use mathlib.Core.Bool.{Bool, true, false, not, true≢false, and-false}
+use mathlib.Core.Bool.{Bool, true, false, not, and-false}
 use lib.ListN.{length, take, drop, replicate, length-append, length-replicate, replicate-append-replicate, take-append-drop}
 use lib.Seq.{length-take-le, take-append-seam, drop-append-add}
 use Rattle.lists.specs.Lists.{keep, pasted, within}
@@ -13,18 +13,17 @@ use Rattle.lists.proofs.Pasting.{paste-in}
 use Rattle.lists.proofs.Tests.{keep-all}
 use Rattle.layout.specs.Details.{details}
 use Rattle.message_type.specs.declared.MessageType.{MessageType}
-use Rattle.message_type.specs.declared.MessageType.the-variants.{On, Cc, Dk, Cx, Other}
 use Rattle.book.specs.declared.Pool.{Pool}
 use Rattle.book.specs.Records.{noPool, recordsOf}
 use Rattle.faces.specs.Faces.{newLots}
-use Rattle.book.specs.Messages.{typeOf, targetOf, listed, brought, broughtBy}
+use Rattle.book.specs.Messages.{typeOf, targetOf, listed}
 use Rattle.book.specs.Checks.{isTaken}
-use Rattle.message_type.specs.Questions.{onOrCc, ccOrDk}
+use Rattle.message_type.specs.Questions.{bringsLots, listsLots}
 use Rattle.book.proofs.ListLaws.{length-keep}
+use Rattle.book.proofs.Pools.{listed-none, brought-new, brought-none}
 use Rattle.rows.specs.Rows.{tableOf}
 use Rattle.rows.specs.Closed.{unmarked}
 use Rattle.rows.proofs.Rows.{length-table}
-use Rattle.rows_find.proofs.Seeking.{lists-nothing}
 use Rattle.rows_find.proofs.Weighing.{unmarked-keep}
 use Rattle.rows_move.specs.Moves.{remaining, bringing, filled, Movable}
 
@@ -62,40 +61,18 @@ module _ (body : List ℕ) (ns ks : List (List ℕ)) (live : ℕ) (ms : List ℕ
       (er ∙ ap length stays, rw stays at ea ∙ f)
 
   -- left as it is, where nothing is listed
-  pub left-all : (k : MessageType) (b : Bool) → k ≡ typeOf body → b ≡ ccOrDk k → b ≡ false
+  pub left-all : (k : MessageType) (b : Bool) → k ≡ typeOf body → b ≡ listsLots k → b ≡ false
       → (live ≡ length (remaining body (take live (tableOf ns ks)))) × (tableOf ns ks ≡ filled (length ns) (remaining body (take live (tableOf ns ks))))
   left-all k b ek eb e =
-      let n = nothing-taken body (take live (tableOf ns ks)) (lists-nothing k body ek (sym eb ∙ e)) in
+      let n = nothing-taken body (take live (tableOf ns ks)) (listed-none body (ap listsLots (sym ek) ∙ sym eb ∙ e)) in
       let split : take live (tableOf ns ks) ++ drop live (tableOf ns ks) ≡ tableOf ns ks = take-append-drop live (tableOf ns ks) in
       (rw n (sym size), sym split ∙ rw (n, size, m .zeros))
 
 -- ---- bringing
-lots-brought : (k : MessageType) (body : List ℕ) → k ≡ typeOf body → onOrCc k ≡ true → brought body ≡ newLots (details body)
-unfolding brought
-lots-brought k body e f = rw (sym e) (go k f)
-  where
-    go : (t : MessageType) → onOrCc t ≡ true → broughtBy t (details body) ≡ newLots (details body)
-    go On g = refl
-    go Cc g = refl
-    go Dk g = absurd (true≢false (sym g))
-    go Cx g = absurd (true≢false (sym g))
-    go Other g = absurd (true≢false (sym g))
-
-none-brought : (k : MessageType) (body : List ℕ) → k ≡ typeOf body → onOrCc k ≡ false → brought body ≡ []
-unfolding brought
-none-brought k body e f = rw (sym e) (go k f)
-  where
-    go : (t : MessageType) → onOrCc t ≡ false → broughtBy t (details body) ≡ []
-    go On g = absurd (true≢false g)
-    go Cc g = absurd (true≢false g)
-    go Dk g = refl
-    go Cx g = refl
-    go Other g = refl
-
-module _ (body : List ℕ) (message trade : ℕ) (k : MessageType) (b : Bool) (ek : k ≡ typeOf body) (eb : b ≡ onOrCc k) where
+module _ (body : List ℕ) (message trade : ℕ) (k : MessageType) (b : Bool) (ek : k ≡ typeOf body) (eb : b ≡ bringsLots k) where
   -- what an ON or a CC brings is its new lots
   pub brings : b ≡ true → bringing body message trade ≡ recordsOf message trade 1 (newLots (details body))
-  brings e = ap (recordsOf message trade 1) (lots-brought k body ek (sym eb ∙ e))
+  brings e = ap (recordsOf message trade 1) (brought-new body (ap bringsLots (sym ek) ∙ sym eb ∙ e))
 
   pub brings-room : (at n : ℕ) → b ≡ true → at + length (bringing body message trade) ≤ n → at + length (recordsOf message trade 1 (newLots (details body))) ≤ n
   brings-room at n e h = rw (sym (brings e)) h
@@ -109,7 +86,7 @@ module _ (body : List ℕ) (message trade : ℕ) (k : MessageType) (b : Bool) (e
   pub brings-none : (n r : ℕ) (rs u : List Pool) → b ≡ false → r ≡ length rs → u ≡ filled n rs
       → (r ≡ length (rs ++ bringing body message trade)) × (u ≡ filled n (rs ++ bringing body message trade))
   brings-none n r rs u e er eu =
-      let q : bringing body message trade ≡ [] = ap (recordsOf message trade 1) (none-brought k body ek (sym eb ∙ e)) in
+      let q : bringing body message trade ≡ [] = ap (recordsOf message trade 1) (brought-none body (ap bringsLots (sym ek) ∙ sym eb ∙ e)) in
       rw (q, append-nil) (er, eu)
 
 -- new records in the place of the first zeros

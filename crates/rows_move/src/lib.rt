@@ -3,7 +3,7 @@ ghost use mathlib.Core.Path.{_≡_};
 ghost use mathlib.Core.List.{_++_};
 ghost use Prim.Native.Nat.{_≤_};
 ghost use lib.ListN.{length, take};
-ghost use Rattle.message_type.specs.Questions.{onOrCc, ccOrDk};
+ghost use Rattle.message_type.specs.Questions.{bringsLots, listsLots};
 ghost use Rattle.rows.specs.Rows.{tableOf};
 ghost use Rattle.rows_move.specs.Moves.{remaining, bringing, filled, Movable};
 

@@ -32,7 +32,7 @@ use Rattle.calendar.specs.Calendar.{isDate}
 use Rattle.book.specs.declared.Values.{Values}
 use Rattle.book.specs.Soundness.{recordFine, isNone, Sound}
 use Rattle.book.specs.Checks.{arrived, noTrade, tradeAt, targetTrade, firstUnder, concerned, concernedFor, isTaken, taken, firstFailing, answerOf}
-use Rattle.message_type.specs.Questions.{onOrCc, ccOrDk, isCx, isOther}
+use Rattle.message_type.specs.Questions.{bringsLots, listsLots, isCx, isOther}
 use Rattle.book.specs.Step.{isSilent, withOpenPar, outputFor, tradesMoved, liveMoved, tableMoved, bookAfter, tableAfter, outputAfter}
 use Rattle.book.proofs.ListLaws.{all-keep}
 use Rattle.book.proofs.Ordered.{ordered-keep}
@@ -125,15 +125,15 @@ module _ (b : Book) (ns ks : List (List ℕ)) (body : List ℕ) (room : ℕ) (d 
   pub trade-known : concerned (callOn b ns ks body room) < b .values .tradeCount
   trade-known = go (typeOf body) refl
     where
-      by-par : onOrCc (typeOf body) ≡ true → concerned (callOn b ns ks body room) < b .values .tradeCount
+      by-par : bringsLots (typeOf body) ≡ true → concerned (callOn b ns ks body room) < b .values .tradeCount
       by-par o =
           let h = ltb-true (concerned (callOn b ns ks body room)) (length (tradesOf (b .values))) (and-left (ltb (concerned (callOn b ns ks body room)) (length (tradesOf (b .values)))) _ (facts .parEnough o)) in
           omega (arith, h, short)
 
       go : (k : MessageType) → typeOf body ≡ k → concerned (callOn b ns ks body room) < b .values .tradeCount
-      go On e = by-par (ap onOrCc e)
-      go Cc e = by-par (ap onOrCc e)
-      go Dk e = rw (at-type Dk e) (target-trade (facts .targetLive (ap ccOrDk e)))
+      go On e = by-par (ap bringsLots e)
+      go Cc e = by-par (ap bringsLots e)
+      go Dk e = rw (at-type Dk e) (target-trade (facts .targetLive (ap listsLots e)))
       go Cx e = clash (ap isCx e) (facts .notCancel)
       go Other e = clash (ap isOther e) (facts .notOther)
 
@@ -147,15 +147,15 @@ module _ (b : Book) (ns ks : List (List ℕ)) (body : List ℕ) (room : ℕ) (d 
   covers : broughtWeight body ≤ tradeAt (tradesOf (b .values)) (concerned (callOn b ns ks body room)) .openPar + weightOfRecords (taken (callOn b ns ks body room))
   covers = go (typeOf body) refl
     where
-      by-par : onOrCc (typeOf body) ≡ true
+      by-par : bringsLots (typeOf body) ≡ true
           → broughtWeight body ≤ tradeAt (tradesOf (b .values)) (concerned (callOn b ns ks body room)) .openPar + weightOfRecords (taken (callOn b ns ks body room))
       by-par o = leb-true (broughtWeight body) (tradeAt (tradesOf (b .values)) (concerned (callOn b ns ks body room)) .openPar + weightOfRecords (taken (callOn b ns ks body room)))
           (and-right (ltb (concerned (callOn b ns ks body room)) (length (tradesOf (b .values)))) _ (facts .parEnough o))
 
       go : (k : MessageType) → typeOf body ≡ k
           → broughtWeight body ≤ tradeAt (tradesOf (b .values)) (concerned (callOn b ns ks body room)) .openPar + weightOfRecords (taken (callOn b ns ks body room))
-      go On e = by-par (ap onOrCc e)
-      go Cc e = by-par (ap onOrCc e)
+      go On e = by-par (ap bringsLots e)
+      go Cc e = by-par (ap bringsLots e)
       go Dk e = omega (arith, nothing-brought body e)
       go Cx e = clash (ap isCx e) (facts .notCancel)
       go Other e = clash (ap isOther e) (facts .notOther)

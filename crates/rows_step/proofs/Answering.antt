@@ -21,7 +21,7 @@ use Rattle.book.specs.Messages.{typeOf}
 use Rattle.lists.specs.Lists.{between}
 use Rattle.book.specs.Soundness.{isSound}
 use Rattle.book.specs.Checks.{Call, numbersSpent, outputShort, checks, refusal, firstFailing, answerTo, answerOf}
-use Rattle.message_type.specs.Questions.{isCc, isDk, onOrCc}
+use Rattle.message_type.specs.Questions.{isCc, isDk, bringsLots}
 use Rattle.book.specs.Step.{isSilentFor, isSilent}
 use Rattle.book.proofs.Passed.{passes, for-type}
 use Rattle.check_sender.specs.Order.{senderChecks}
@@ -81,9 +81,9 @@ module _ (c : Call) where
       unfolding senderChecks checks
       sender-length = not-false (lengthFits (c .body)) (passes 10 senderChecks c p)
 
-      pub sender-formed : onOrCc (typeOf (c .body)) ≡ true → formedFor (isCc (typeOf (c .body))) (details (c .body)) ≡ true
+      pub sender-formed : bringsLots (typeOf (c .body)) ≡ true → formedFor (isCc (typeOf (c .body))) (details (c .body)) ≡ true
       unfolding senderChecks checks
-      sender-formed = for-type (onOrCc (typeOf (c .body))) (formedFor (isCc (typeOf (c .body))) (details (c .body))) (passes 19 senderChecks c p)
+      sender-formed = for-type (bringsLots (typeOf (c .body))) (formedFor (isCc (typeOf (c .body))) (details (c .body))) (passes 19 senderChecks c p)
 
   -- a number that goes out comes after 10
   pub loud-length : (r : Reason) → firstFailing senderChecks c ≡ Fails r → isSilentFor r ≡ false → lengthFits (c .body) ≡ true

@@ -1,17 +1,15 @@
 -- A pool's face in cents, and the lot that ends with a pool.
 use mathlib.Core.Path.{_≡_, ap}
-use Prim.Native.Nat.{ℕ, _^_, _<_}
-use native.Mathlib.Omega.{arith}
+use Prim.Native.Nat.{ℕ, _<_}
 use Rattle.fields.specs.declared.Field.{Field}
-use Rattle.fields.specs.declared.Field.the-variants.{Number, NotDigits}
-use Rattle.fields.specs.Fields.{readNumber}
-use Rattle.fields.proofs.Bounds.{Below, read-below}
+use Rattle.fields.specs.Fields.{readNumber, valueOf}
+use Rattle.fields.proofs.Bounds.{read-below}
 use Rattle.layout.specs.declared.Detail.{Detail}
 use Rattle.terminator.specs.declared.Kind.{Kind}
 use Rattle.terminator.specs.declared.Terminator.{Terminator}
 use Rattle.terminator.specs.declared.LotHead.{LotHead}
 use Rattle.terminator.specs.Terminators.{kindOf, millionsOf, one, term}
-use Rattle.terminator.specs.Lots.{valueOf, currentCents, weightOf}
+use Rattle.terminator.specs.Lots.{currentCents, weightOf}
 use Rattle.terminator.specs.Reading.{lotEnded}
 
 pub cents-of : (d : Detail) (f : Field) → f ≡ readNumber (d .current) 0 11 → valueOf f ≡ currentCents d
@@ -21,11 +19,7 @@ cents-of d f e = ap valueOf e
 -- a face has eleven digits
 pub cents-small : (d : Detail) → currentCents d < 100000000000
 unfolding currentCents
-cents-small d = go (readNumber (d .current) 0 11) (read-below (d .current) 0 11)
-  where
-    go : (f : Field) → Below (10 ^ 11) f → valueOf f < 100000000000
-    go (Number n) b = b
-    go NotDigits b = omega arith
+cents-small d = read-below (d .current) 0 11
 
 pub ended-is : (d : Detail) (first last faces : ℕ) (t : Terminator) (k : Kind) (m w : ℕ) → t ≡ term d → k ≡ kindOf t → m ≡ millionsOf t → w ≡ weightOf k m faces
     → _≡_ {A = LotHead} (record { one = one d; kind = k; millions = m; first = first; last = last; weight = w }) (lotEnded d first last faces)

@@ -1,20 +1,19 @@
 -- What a pool's terminator says, taken apart, and the laws of the positions.
 use mathlib.Core.Path.{_≡_, refl, ap}
 use mathlib.Core.List.{List}
-use mathlib.Core.Bool.{Bool, true, false, cond, true≢false}
+use mathlib.Core.Bool.{Bool, true, false, cond, not, true≢false}
 use Prim.Native.Nat.{ℕ, _≤_, _<_}
 use native.Mathlib.Omega.{arith}
 use lib.Dec.{eqb, leb}
-use borrow.Author.Tests.{le-leb, lt-leb, ne-eqb, leb-true}
+use borrow.Author.Tests.{le-leb, lt-leb, ne-eqb, leb-true, not-true, not-false}
 use Rattle.fields.specs.declared.Field.{Field}
-use Rattle.fields.specs.declared.Field.the-variants.{Number, NotDigits}
-use Rattle.fields.specs.Fields.{readNumber}
+use Rattle.fields.specs.Fields.{readNumber, isNumber, valueOf}
 use Rattle.layout.specs.declared.Detail.{Detail}
 use Rattle.terminator.specs.declared.Terminator.{Terminator}
 use Rattle.terminator.specs.declared.Terminator.the-variants.{Middle, BadMiddle, GoodEnd, OddEnd, BadEnd, Wrong}
 use Rattle.terminator.specs.declared.Mark.{Mark}
 use Rattle.terminator.specs.declared.Kind.{Kind}
-use Rattle.terminator.specs.Terminators.{positions, positionsOf, terminatorOf, isEnd, isWrong, isBad, kindOf, millionsOf, one, term, isGood, isOdd}
+use Rattle.terminator.specs.Terminators.{positions, terminatorOf, isEnd, isWrong, isBad, kindOf, millionsOf, one, term, isGood, isOdd}
 use Rattle.terminator.specs.Reading.{markOf}
 
 pub good-end : (n : ℕ) → (n ≡ 0 → ⊥) → n ≤ 99 → GoodEnd n ≡ positions n
@@ -25,9 +24,14 @@ pub wrong : (n : ℕ) → (n ≡ 0 → ⊥) → 99 < n → (n ≡ 888 → ⊥) �
 unfolding positions
 wrong n z h a b o = simp (ne-eqb n 0 z, lt-leb n 99 h, ne-eqb n 888 a, ne-eqb n 889 b, ne-eqb n 999 o)
 
-pub read-of : (t : List ℕ) (f : Field) → f ≡ readNumber t 1 3 → positionsOf f ≡ terminatorOf t
-unfolding terminatorOf
-read-of t f e = ap positionsOf e
+module _ (t : List ℕ) (f : Field) (is : f ≡ readNumber t 1 3) (b : Bool) (number : b ≡ isNumber f) where
+  pub no-digits : not b ≡ true → Wrong ≡ terminatorOf t
+  unfolding terminatorOf
+  no-digits n = rw (← is, ← number, not-true b n)
+
+  pub digits : not b ≡ false → (n : ℕ) (u : Terminator) → n ≡ valueOf f → u ≡ positions n → u ≡ terminatorOf t
+  unfolding terminatorOf
+  digits h n u e p = rw (← is, ← number, not-false b h, ← e) p
 
 pub mark-is : (d : Detail) (t : Terminator) (k : Kind) (w e b g o : Bool) (m : ℕ) → t ≡ term d → k ≡ kindOf t → w ≡ isWrong t → e ≡ isEnd t → b ≡ isBad t
     → g ≡ isGood k → o ≡ isOdd k → m ≡ millionsOf t
@@ -51,11 +55,11 @@ positions-small n = go (eqb n 0) (leb n 99) refl (eqb n 888) (eqb n 889) (eqb n 
 
 pub millions-small : (d : Detail) → millionsOf (term d) ≤ 99
 unfolding terminatorOf
-millions-small d = go (readNumber (d .terminator) 1 3)
+millions-small d = go (isNumber (readNumber (d .terminator) 1 3)) (valueOf (readNumber (d .terminator) 1 3))
   where
-    go : (f : Field) → millionsOf (positionsOf f) ≤ 99
-    go (Number n) = positions-small n
-    go NotDigits = omega arith
+    go : (b : Bool) (n : ℕ) → millionsOf (cond b (positions n) Wrong) ≤ 99
+    go true n = positions-small n
+    go false n = omega arith
 
 -- only an end has millions
 pub middle-none : (t : Terminator) → isEnd t ≡ false → millionsOf t ≡ 0

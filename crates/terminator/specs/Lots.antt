@@ -5,9 +5,7 @@ use mathlib.Core.Bool.{Bool, true, cond, not, _&&_, _||_, Bool·beq}
 use lib.ListN.{length}
 use lib.Dec.{eqb}
 use Rattle.lists.specs.Lists.{sumOf, keep}
-use Rattle.fields.specs.declared.Field.{Field}
-use Rattle.fields.specs.declared.Field.the-variants.{Number, NotDigits}
-use Rattle.fields.specs.Fields.{readNumber}
+use Rattle.fields.specs.Fields.{readNumber, valueOf}
 use Rattle.layout.specs.declared.Detail.{Detail}
 use Rattle.layout.specs.Columns.{currentFace}
 use Rattle.terminator.specs.declared.Kind.{Kind}
@@ -38,10 +36,6 @@ unfoldable pub lots : List Detail → List Lot
 lots ds = lotsFrom [] ds
 
 -- ---- weight
-abbrev pub valueOf : Field → ℕ
-valueOf (Number n) = n
-valueOf NotDigits = 0
-
 -- a pool's current face in cents, 0 where it is not digits (34 refuses that)
 unfoldable pub currentCents : Detail → ℕ
 currentCents d = valueOf (readNumber (d .current) 0 (currentFace .width))

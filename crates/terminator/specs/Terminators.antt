@@ -5,8 +5,7 @@ use mathlib.Core.Bool.{Bool, true, false, cond}
 use lib.ListN.{getD}
 use lib.Dec.{eqb, leb}
 use Rattle.fields.specs.declared.Field.{Field}
-use Rattle.fields.specs.declared.Field.the-variants.{Number, NotDigits}
-use Rattle.fields.specs.Fields.{readNumber}
+use Rattle.fields.specs.Fields.{readNumber, isNumber, valueOf}
 use Rattle.layout.specs.declared.Detail.{Detail}
 use Rattle.terminator.specs.declared.Terminator.{Terminator}
 use Rattle.terminator.specs.declared.Terminator.the-variants.{Middle, BadMiddle, GoodEnd, OddEnd, BadEnd, Wrong}
@@ -39,8 +38,7 @@ positions n =
 
 -- what is not digits is wrong too
 abbrev pub positionsOf : Field → Terminator
-positionsOf (Number n) = positions n
-positionsOf NotDigits = Wrong
+positionsOf f = cond (isNumber f) (positions (valueOf f)) Wrong
 
 -- the four bytes of a terminator: position one, and what the others say
 abbrev pub positionOne : List ℕ → ℕ

@@ -1,5 +1,4 @@
 // What the terminator of one pool says, and the lot that ends with it: its kind, millions and weight.
-use fields::Field;
 use layout::Detail;
 ghost use mathlib.Core.Path.{_≡_};
 ghost use Prim.Native.Nat.{_≤_};
@@ -84,10 +83,10 @@ pub fn terminator_of(terminator: [u8; 4]) -> Terminator
     ensures { λ r. ⌜ r ≡ terminatorOf terminator ⌝ }
 {
     let f = fields::read_number(&terminator, 1, 3);
-    match f {
-        Field::Number(n) => positions_two_to_four(n),
-        Field::NotDigits => Terminator::Wrong,
+    if !fields::is_number(f) {
+        return Terminator::Wrong;
     }
+    positions_two_to_four(fields::value_of(f))
 }
 
 // Whether a terminator ends its lot.
@@ -201,10 +200,7 @@ pub fn current_cents(d: Detail) -> u64
 {
     let current = d.current;
     let f = fields::read_number(&current, 0, layout::CURRENT_FACE.width);
-    match f {
-        Field::Number(n) => n,
-        Field::NotDigits => 0,
-    }
+    fields::value_of(f)
 }
 
 // The weight in cents of a lot of a kind, its millions and the sum of its current faces.

@@ -4,7 +4,7 @@ use Rattle.layout.specs.Details.{details}
 use Rattle.terminator.specs.Lots.{formedFor}
 use mathlib.Core.Path.{ap, _∙_}
 use Rattle.book.specs.Messages.{typeOf}
-use Rattle.message_type.specs.Questions.{onOrCc, isCc}
+use Rattle.message_type.specs.Questions.{bringsLots, isCc}
 use Rattle.check_sender.proofs.Guards.{skipped, tried}
 use borrow.Author.Needs.{needs}
 use Rattle.check_sender.proofs.lots_fail.Statement.{statement}
@@ -17,7 +17,7 @@ brings-lots-requires : tie.Need-brings-lots-requires
 brings-lots-requires c κs = search needs
 
 returns : tie.Need-returns
-returns c = skipped _ (onOrCc (typeOf (c .before .before .before .before .args .body .now))) _ (c .before .brings-lots .ensures ∙ ap onOrCc (c .before .before .message-type .ensures)) (c .if1 .taken)
+returns c = skipped _ (bringsLots (typeOf (c .before .before .before .before .args .body .now))) _ (c .before .brings-lots .ensures ∙ ap bringsLots (c .before .before .message-type .ensures)) (c .if1 .taken)
 
 is-cc-requires : tie.Need-is-cc-requires
 is-cc-requires c κs = search needs
@@ -26,7 +26,7 @@ lots-formed-requires : tie.Need-lots-formed-requires
 lots-formed-requires c κs = search needs
 
 returns-2 : tie.Need-returns-2
-returns-2 c = tried _ (onOrCc (typeOf (c .before .before .before .before .before .before .args .body .now))) _ _ (c .before .before .before .brings-lots .ensures ∙ ap onOrCc (c .before .before .before .before .message-type .ensures)) (c .before .before .if1 .left) (ap not (c .lots-formed .ensures ∙ ap (λ (b : Bool). formedFor b (details (c .before .before .before .before .before .before .args .body .now))) (c .before .is-cc .ensures ∙ ap isCc (c .before .before .before .before .message-type .ensures))))
+returns-2 c = tried _ (bringsLots (typeOf (c .before .before .before .before .before .before .args .body .now))) _ _ (c .before .before .before .brings-lots .ensures ∙ ap bringsLots (c .before .before .before .before .message-type .ensures)) (c .before .before .if1 .left) (ap not (c .lots-formed .ensures ∙ ap (λ (b : Bool). formedFor b (details (c .before .before .before .before .before .before .args .body .now))) (c .before .is-cc .ensures ∙ ap isCc (c .before .before .before .before .message-type .ensures))))
 
 pub lots-fail-spec : {M : Type 1} → statement M
 lots-fail-spec =

@@ -16,8 +16,8 @@ lengths c =
       cusip = sym (length-map (t .cusip) _) ∙ c .good .1 .1 .0 .1 .1 .1 .1 .1 .1 .1 .0 .1 .0 .1;
     }
 
-is-number-requires : tie.Need-is-number-requires
-is-number-requires c κs = search needs
+number-is-requires : tie.Need-number-is-requires
+number-is-requires c κs = search needs
 
 price-is-requires : tie.Need-price-is-requires
 price-is-requires c κs = search needs
@@ -25,7 +25,7 @@ price-is-requires c κs = search needs
 returns : tie.Need-returns
 returns c =
     let s = c .before .before .before .before in
-    numbers-unlike (s .args .body .now) (s .args .s) (s .pre) (s .args .t) _ _ (c .before .before .is-number .ensures) (c .before .price-is .ensures) (c .if1 .taken)
+    numbers-unlike (s .args .body .now) (s .args .s) (s .pre) (s .args .t) _ _ (c .before .before .number-is .ensures) (c .before .price-is .ensures) (c .if1 .taken)
 
 side-of-requires : tie.Need-side-of-requires
 side-of-requires c κs = search needs
@@ -51,14 +51,14 @@ same-part-requires-3 c κs = search needs
 returns-2 : tie.Need-returns-2
 returns-2 c =
     let s = c .before .before .before .before .before .before .before .before .before .before .before .before .before in
-    numbers-alike (s .args .body .now) (s .args .s) (s .pre) (s .args .t) _ _ (c .before .before .before .before .before .before .before .before .before .before .before .is-number .ensures) (c .before .before .before .before .before .before .before .before .before .before .price-is .ensures) (c .before .before .before .before .before .before .before .before .before .if1 .left) (lengths s) _ (c .before .before .before .before .before .before .before .before .side-of .ensures) _ _ _
+    numbers-alike (s .args .body .now) (s .args .s) (s .pre) (s .args .t) _ _ (c .before .before .before .before .before .before .before .before .before .before .before .number-is .ensures) (c .before .before .before .before .before .before .before .before .before .before .price-is .ensures) (c .before .before .before .before .before .before .before .before .before .if1 .left) (lengths s) _ (c .before .before .before .before .before .before .before .before .side-of .ensures) _ _ _
     (c .before .before .before .before .same-part .ensures) (c .before .before .same-part2 .ensures) (c .same-part3 .ensures)
 
 pub agrees-as-spec : {M : Type 1} → statement M
 agrees-as-spec =
     tie.close
     (tie.spec
-    is-number-requires
+    number-is-requires
     price-is-requires
     returns
     side-of-requires

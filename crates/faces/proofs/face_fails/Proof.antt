@@ -16,14 +16,17 @@ slice-aggregate-read-number-2 c = search needs
 read-number-requires-2 : tie.Need-read-number-requires-2
 read-number-requires-2 c κs = search needs
 
-current-fails-requires : tie.Need-current-fails-requires
-current-fails-requires c κs = search needs
+value-of-requires : tie.Need-value-of-requires
+value-of-requires c κs = search needs
 
-original-fails-requires : tie.Need-original-fails-requires
-original-fails-requires c κs = search needs
+is-number-requires : tie.Need-is-number-requires
+is-number-requires c κs = search needs
+
+is-number-requires-2 : tie.Need-is-number-requires-2
+is-number-requires-2 c κs = search needs
 
 returns : tie.Need-returns
-returns c = face-is (c .before .before .before .before .before .before .before .before .args .d) _ _ _ _ _ (c .before .before .before .before .read-number .ensures) (c .before .before .read-number2 .ensures) (c .before .current-fails .ensures) (c .original-fails .ensures)
+returns c = face-is (c .before .before .before .before .before .before .before .before .before .args .d) _ _ _ _ _ _ (c .before .before .before .before .before .read-number .ensures) (c .before .before .before .read-number2 .ensures) (c .before .before .value-of .ensures) (c .before .is-number .ensures) (c .is-number2 .ensures)
 
 pub face-fails-spec : {M : Type 1} → statement M
 face-fails-spec =
@@ -33,6 +36,7 @@ face-fails-spec =
     read-number-requires
     slice-aggregate-read-number-2
     read-number-requires-2
-    current-fails-requires
-    original-fails-requires
+    value-of-requires
+    is-number-requires
+    is-number-requires-2
     returns)

@@ -1,9 +1,9 @@
 -- Six digits fit 32 bits.
 use mathlib.Core.Path.{ap, _∙_}
 use native.Mathlib.Omega.{arith}
-use Rattle.terminator.specs.Lots.{valueOf}
+use Rattle.fields.specs.Fields.{valueOf}
 use Rattle.sequence.specs.Sequence.{inbound}
-use Rattle.header.proofs.Numbers.{six-digits}
+use Rattle.fields.proofs.Bounds.{read-below}
 use borrow.Author.Needs.{needs}
 use Rattle.header.proofs.arrived.Statement.{statement}
 use Rattle.header.proofs.arrived.Tie as tie
@@ -15,7 +15,7 @@ value-of-requires : tie.Need-value-of-requires
 value-of-requires c κs = search needs
 
 cast-t5 : tie.Need-cast-t5
-cast-t5 c = omega (arith, c .value-of .ensures ∙ ap valueOf (c .before .number-in .ensures), six-digits (c .before .before .before .args .body .now) 2)
+cast-t5 c = omega (arith, c .value-of .ensures ∙ ap valueOf (c .before .number-in .ensures), read-below (c .before .before .before .args .body .now) 2 6)
 
 returns : tie.Need-returns
 returns c = ap inbound (c .value-of .ensures ∙ ap valueOf (c .before .number-in .ensures))

@@ -4,7 +4,6 @@ use native.Mathlib.Omega.{arith}
 use lib.ListN.{length, length-map}
 use lib.Seq.{length-take-le}
 use Rattle.header.proofs.Joined.{take-lesser}
-use Rattle.header.proofs.Amounts.{date-is}
 use borrow.Author.Needs.{needs}
 use Rattle.header.proofs.settlement_fails.Statement.{statement}
 use Rattle.header.proofs.settlement_fails.Tie as tie
@@ -28,8 +27,7 @@ is-no-business-date-requires : tie.Need-is-no-business-date-requires
 is-no-business-date-requires c κs = search needs
 
 returns : tie.Need-returns
-returns c =
-    c .is-no-business-date .ensures ∙ date-is _ _ _ _ (take-lesser (c .before .before .before .before .before .before .args .v .holidays) (c .before .before .before .before .before .before .args .v .holidayCount) 32 (thirty-two (c .before .before .before .before .before .before)) _ (c .before .before .before .before .lesser .ensures)) (c .before .before .number-in .ensures)
+returns c = cc (take-lesser (c .before .before .before .before .before .before .args .v .holidays) (c .before .before .before .before .before .before .args .v .holidayCount) 32 (thirty-two (c .before .before .before .before .before .before)) _ (c .before .before .before .before .lesser .ensures))
 
 pub settlement-fails-spec : {M : Type 1} → statement M
 settlement-fails-spec =

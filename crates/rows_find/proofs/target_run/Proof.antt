@@ -1,7 +1,5 @@
--- The two ends of the run, or the number of live rows twice where the target is not digits.
-use Prim.{tt}
+-- The two ends of the run, or the number of live rows twice where the target is no number.
 use native.Mathlib.Omega.{arith}
-use mathlib.Core.Path.{sym, _∙_}
 use mathlib.Core.List.{[]}
 use Rattle.fields.specs.declared.Field.the-variants.{Number}
 use Rattle.book.specs.Messages.{under}
@@ -12,10 +10,18 @@ use Rattle.rows_find.proofs.target_run.Statement.{statement}
 use Rattle.rows_find.proofs.target_run.Tie as tie
 
 number-in-requires : tie.Need-number-in-requires
-number-in-requires c κs = tt
+number-in-requires c κs = search needs
 
-enum-known-f : tie.Need-enum-known-f
-enum-known-f c = search needs
+is-number-requires : tie.Need-is-number-requires
+is-number-requires c κs = search needs
+
+returns : tie.Need-returns
+returns c =
+    let a = c .before .before .before .before .args in
+    λ ks. run-none (a .numbers .now) ks (a .live) (omega arith) _ _ (c .before .before .number-in .ensures) _ (c .before .is-number .ensures) (c .if1 .taken)
+
+value-of-requires : tie.Need-value-of-requires
+value-of-requires c κs = search needs
 
 first-under-requires : tie.Need-first-under-requires
 first-under-requires c κs = search needs
@@ -23,29 +29,21 @@ first-under-requires c κs = search needs
 first-other-requires : tie.Need-first-other-requires
 first-other-requires c κs =
     let a = c .before .before .before .before .before .before .args in
-    (omega (arith, c .first-under .ensures [], ahead-tab (under (Number (c .before .before .f .given .0 .0))) (recordAt (a .numbers .now) []) (a .live) 0), omega arith)
-
-enum-told : tie.Need-enum-told
-enum-told c = search needs
-
-returns : tie.Need-returns
-returns c =
-    let a = c .before .before .before .before .before .before .before .args in
-    λ ks. run-found (a .numbers .now) ks (a .live) (omega arith) _ _ _ _ (sym (c .before .before .before .before .before .number-in .ensures) ∙ c .before .before .before .f .given .1) (c .before .first-under .ensures ks) (c .first-other .ensures ks)
+    (omega (arith, c .first-under .ensures [], ahead-tab (under (Number (c .before .value-of .result))) (recordAt (a .numbers .now) []) (a .live) 0), omega arith)
 
 returns-2 : tie.Need-returns-2
 returns-2 c =
-    let a = c .before .before .before .before .args in
-    λ ks. run-none (a .numbers .now) ks (a .live) (omega arith) _ (sym (c .before .before .number-in .ensures) ∙ c .enum-told .given .1)
+    let a = c .before .before .before .before .before .before .before .args in
+    λ ks. run-found (a .numbers .now) ks (a .live) (omega arith) _ _ (c .before .before .before .before .before .number-in .ensures) _ (c .before .before .before .before .is-number .ensures) (c .before .before .before .if1 .left) _ _ _ (c .before .before .value-of .ensures) (c .before .first-under .ensures ks) (c .first-other .ensures ks)
 
 pub target-run-spec : {M : Type 1} → statement M
 target-run-spec =
     tie.close
     (tie.spec
     number-in-requires
-    enum-known-f
+    is-number-requires
+    returns
+    value-of-requires
     first-under-requires
     first-other-requires
-    enum-told
-    returns
     returns-2)

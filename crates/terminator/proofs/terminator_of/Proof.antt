@@ -1,7 +1,5 @@
 -- The three digits after position one decide, and what is not digits is wrong.
-use mathlib.Core.Path.{sym, ap, _∙_}
-use Rattle.terminator.specs.Terminators.{positionsOf}
-use Rattle.terminator.proofs.Marks.{read-of}
+use Rattle.terminator.proofs.Marks.{no-digits, digits}
 use borrow.Author.Needs.{needs}
 use Rattle.terminator.proofs.terminator_of.Statement.{statement}
 use Rattle.terminator.proofs.terminator_of.Tie as tie
@@ -12,20 +10,20 @@ slice-aggregate-read-number c = search needs
 read-number-requires : tie.Need-read-number-requires
 read-number-requires c κs = search needs
 
-enum-known-f : tie.Need-enum-known-f
-enum-known-f c = search needs
+is-number-requires : tie.Need-is-number-requires
+is-number-requires c κs = search needs
+
+returns : tie.Need-returns
+returns c = no-digits _ _ (c .before .before .read-number .ensures) _ (c .before .is-number .ensures) (c .if1 .taken)
+
+value-of-requires : tie.Need-value-of-requires
+value-of-requires c κs = search needs
 
 positions-two-to-four-requires : tie.Need-positions-two-to-four-requires
 positions-two-to-four-requires c κs = search needs
 
-enum-told : tie.Need-enum-told
-enum-told c = search needs
-
-returns : tie.Need-returns
-returns c = c .positions-two-to-four .ensures ∙ ap positionsOf (sym (c .before .before .f .given .1)) ∙ read-of _ _ (c .before .before .before .before .read-number .ensures)
-
 returns-2 : tie.Need-returns-2
-returns-2 c = ap positionsOf (sym (c .enum-told .given .1)) ∙ read-of _ _ (c .before .before .read-number .ensures)
+returns-2 c = digits _ _ (c .before .before .before .before .read-number .ensures) _ (c .before .before .before .is-number .ensures) (c .before .before .if1 .left) _ _ (c .before .value-of .ensures) (c .positions-two-to-four .ensures)
 
 pub terminator-of-spec : {M : Type 1} → statement M
 terminator-of-spec =
@@ -33,8 +31,8 @@ terminator-of-spec =
     (tie.spec
     slice-aggregate-read-number
     read-number-requires
-    enum-known-f
-    positions-two-to-four-requires
-    enum-told
+    is-number-requires
     returns
+    value-of-requires
+    positions-two-to-four-requires
     returns-2)
