@@ -6,12 +6,15 @@ ghost use Rattle.lists.specs.Lists.{pasted};
 ghost use Rattle.sequence.specs.Sequence.{nextOutbound};
 ghost use Rattle.acknowledgment.specs.Frames.{opening, messageId, aaBytes, text, txBytes};
 
+// The bytes of a time.
+pub const TIME_WIDTH: usize = 6;
+
 // What an AA says of a message: its internal ID, its message ID, its code (0 is accepted), the time bytes lent, and its own sequence number as it came.
 pub struct Acknowledged {
     pub internal: [u8; 16],
     pub message: u64,
     pub code: u64,
-    pub time: [u8; 6],
+    pub time: [u8; TIME_WIDTH],
     pub original: [u8; 6],
 }
 

@@ -4,56 +4,42 @@ use book::Reason;
 use message_type::MessageType;
 use tally::Outcome;
 ghost use mathlib.Core.Path.{_≡_};
-ghost use Rattle.book.specs.Reasons.{numberOf, codeOf, idOf, isAccepted};
-ghost use Rattle.book.specs.Checks.{refusal};
-ghost use Rattle.message_type.specs.Questions.{isDk};
-ghost use Rattle.book.specs.Step.{isSilentFor, isSilent, outcomeOf};
-
-// The numbers of the trader, 30 to 38.
-const TRADER_FIRST: u64 = 30;
-
-const TRADER_LAST: u64 = 38;
-
-// Up to 11 and from 41 on a number moves nothing and writes nothing.
-const SILENT_LINE_LAST: u64 = 11;
-
-const SILENT_OPERATOR_FIRST: u64 = 41;
+ghost use Rattle.book.specs.Reasons.{numberOf, isSilentFor, isTraders, refusal, codeOf, idOf, isAccepted, isSilent};
+ghost use Rattle.book.specs.Step.{outcomeOf};
 
 // The paper's number of a reason.
 pub fn number_of(reason: Reason) -> u64
     ensures { λ r. ⌜ r ≡ numberOf reason ⌝ }
 {
     match reason {
-        Reason::Opening => 41,
-        Reason::Unsound => 42,
-        Reason::Spent => 43,
-        Reason::ShortOutput => 44,
-        Reason::Length => 10,
-        Reason::Sequence => 11,
-        Reason::Duplicate => 12,
-        Reason::MessageType => 13,
-        Reason::Version => 14,
-        Reason::Filler => 15,
-        Reason::Amounts => 16,
-        Reason::Parties => 17,
-        Reason::Cancel => 18,
-        Reason::LotForm => 19,
-        Reason::Groups => 20,
-        Reason::Sums => 21,
-        Reason::Replacements => 22,
-        Reason::Settlement => 23,
-        Reason::ReasonCode => 24,
-        Reason::NoTradeId => 25,
-        Reason::Target => 30,
-        Reason::TradeId => 31,
-        Reason::Terms => 32,
-        Reason::Millions => 33,
-        Reason::Faces => 34,
-        Reason::Variance => 35,
-        Reason::Repeated => 36,
-        Reason::Listed => 37,
-        Reason::Par => 38,
-        Reason::TableFull => 40,
+        Reason::Operator(number, _) => number,
+        Reason::Line(number, _) => number,
+        Reason::Sender(number, _) => number,
+        Reason::Trader(number, _) => number,
+    }
+}
+
+// Whether it moves nothing and writes nothing.
+fn is_silent_for(reason: Reason) -> bool
+    ensures { λ r. ⌜ r ≡ isSilentFor reason ⌝ }
+{
+    match reason {
+        Reason::Operator(_, silent) => silent,
+        Reason::Line(_, silent) => silent,
+        Reason::Sender(_, silent) => silent,
+        Reason::Trader(_, silent) => silent,
+    }
+}
+
+// Whether the trader causes it.
+fn is_traders(reason: Reason) -> bool
+    ensures { λ r. ⌜ r ≡ isTraders reason ⌝ }
+{
+    match reason {
+        Reason::Operator(_, _) => false,
+        Reason::Line(_, _) => false,
+        Reason::Sender(_, _) => false,
+        Reason::Trader(_, _) => true,
     }
 }
 
@@ -83,22 +69,13 @@ pub fn id_of(answer: Answer) -> u64
 pub fn refusal(kind: MessageType, reason: Reason) -> Answer
     ensures { λ r. ⌜ r ≡ refusal kind reason ⌝ }
 {
-    let number = number_of(reason);
-    let dk = message_type::is_dk(kind);
-    if ((TRADER_FIRST <= number) & (number <= TRADER_LAST)) & !dk {
+    if is_traders(reason) & !message_type::answers_as_dk(kind) {
         return Answer::Dked(reason);
     }
     Answer::Rejected(reason)
 }
 
-fn is_silent_for(reason: Reason) -> bool
-    ensures { λ r. ⌜ r ≡ isSilentFor reason ⌝ }
-{
-    let number = number_of(reason);
-    (number <= SILENT_LINE_LAST) | (SILENT_OPERATOR_FIRST <= number)
-}
-
-// Whether an answer moves nothing and writes nothing: 10, 11 and 42 to 44.
+// Whether an answer moves nothing and writes nothing.
 pub fn is_silent(answer: Answer) -> bool
     ensures { λ r. ⌜ r ≡ isSilent answer ⌝ }
 {

@@ -24,7 +24,7 @@ use Rattle.book.specs.Messages.{typeOf, targetOf, listed, brought}
 use Rattle.book.specs.Trades.{tradesOf, broughtWeight}
 use Rattle.book.specs.Opening.{atPar, opened}
 use Rattle.book.specs.Soundness.{liveOf, parsFrom}
-use Rattle.book.specs.Checks.{Call, live, trades, concernedFor, concerned, tradeAt, noTrade, taken, canceledLots, lotFields, answerOf}
+use Rattle.book.specs.Checks.{Call, live, trades, concernedFor, concernedBy, concerned, tradeAt, noTrade, taken, canceledLots, lotFields, answerOf}
 use Rattle.message_type.specs.Questions.{isOther, isCc, isCx, bringsLots, listsLots}
 use Rattle.book.specs.Step.{withOpenPar, tradesMoved, liveMoved, tableMoved, bookAfter, tableAfter}
 use Rattle.book.specs.History.{Brought, History, isTarget, touches, stands, tradeShare, standingWeight, millionsByOns, millionsByDks, atOpening, lotsAfter, feed, takesOff}
@@ -67,7 +67,7 @@ module _ (v : Values) (c : Call) (h : History) (w : Beside v (c .book .values .l
         ≡ lotsAfter (typeOf (c .body)) v (h .lastMessageId + 1) (c .body) (h .lots)
 
   concerned-as : (k : MessageType) → typeOf (c .body) ≡ k → concerned c ≡ concernedFor k (c .body) (trades c) (live c)
-  unfolding concerned
+  unfolding concernedBy
   concerned-as k e = ap (λ (x : MessageType). concernedFor x (c .body) (trades c) (live c)) e
 
   range : bringsLots (typeOf (c .body)) ≡ true → Fine c → concerned c < length (trades c)

@@ -20,15 +20,17 @@ use Rattle.trade_id.specs.SpecialInstructions.{mark, beginsWithMark, markIn, id
 use Rattle.book.specs.declared.Trade.{Trade}
 use Rattle.book.specs.declared.Values.{Values}
 use Rattle.book.specs.declared.Pool.{Pool}
+use Rattle.book.specs.declared.Caller.{Caller}
 use Rattle.book.specs.declared.Answer.{Answer}
 use Rattle.book.specs.declared.Answer.the-variants.{Accepted, Rejected, Dked}
-use Rattle.book.specs.declared.Reason.the-variants as reason
+use Rattle.book.specs.declared.Reason.the-variants as by
+use Rattle.book.specs.Reasons.{silent, told}
 use Rattle.book.specs.Records.{weightOfRecords, tradeWeight, standingMillions, noPool}
 use Rattle.book.specs.Messages.{typeOf, ftba, fsti, listed, brought}
 use Rattle.book.specs.Trades.{tradesOf, openPars, agrees, broughtWeight, tradeOfOn}
 use Rattle.book.specs.Opening.{valuesFine, openingFine, opened, cleared}
 use Rattle.book.specs.Soundness.{liveOf, isSound}
-use Rattle.book.specs.Checks.{targetTrade, concerned, checks, answerOf}
+use Rattle.book.specs.Checks.{askedBy, targetTrade, concernedBy, soundnessChecks, senderChecks, termsChecks, movesChecks, answerOf}
 use Rattle.book.specs.Step.{tradesMoved, liveMoved, tableMoved, bookAfter, tableAfter}
 use Rattle.book.specs.History.{Brought, History, atOpening, standingWeight, feed, history}
 use Rattle.book.specs.Promise.{State, Put, callOf, after, fed, openedState}
@@ -145,8 +147,11 @@ values last =
 unfoldable pub table : List Pool
 table = replicate 4 noPool
 
+abbrev midnight : Caller
+midnight = record { time = 48 ∷ 48 ∷ 48 ∷ 48 ∷ 48 ∷ 48 ∷ [] }
+
 unfoldable pub put : List ℕ → Put
-put body = record { body = body; room = 217 }
+put body = record { body = body; asked = askedBy midnight 217 }
 
 unfoldable pub start : State
 start = openedState (values 0) table
@@ -161,21 +166,21 @@ pub record Told : Type 0 where
   pub pars : List ℕ
   pub millions : List ℕ
 
-unfoldable pub told : State → List Put → List Told
-told s [] = []
-told s (p ∷ ps) =
+unfoldable pub reported : State → List Put → List Told
+reported s [] = []
+reported s (p ∷ ps) =
     record {
       answer = answerOf (callOf s p);
       pars = openPars (tradesOf (after s p .book .values));
       millions = map (λ (t : ℕ). standingMillions t (liveOf (after s p .book) (after s p .table))) (0 ∷ 1 ∷ []);
-    } ∷ told (after s p) ps
+    } ∷ reported (after s p) ps
 
 unfoldable pub tells : Answer → ℕ → ℕ → Told
 tells a left millions = record { answer = a; pars = 200000000 ∷ left ∷ []; millions = 0 ∷ millions ∷ [] }
 
-pub day : told start (put onBody ∷ put ccBody ∷ put dkBody ∷ put (altered columns.sequence (digitsOf 6 6) dkBody) ∷ [])
-    ≡ tells (Accepted 1) 237654400 2 ∷ tells (Accepted 2) 230000000 2 ∷ tells (Accepted 3) 330000000 1 ∷ tells (Rejected reason.Listed) 330000000 1 ∷ []
-unfolding answerOf checks isSound valuesFine opened cleared values table trade put onBody header detail allBetween within part readNumber businessDate isDate weekdayOf dayNumber soundLine lengthFits poolCount detailAt details arrivalOf typeOf markIn beginsWithMark idAt tradeIdOf terminatorOf positions lots formedFor currentCents lotWeight goodMillions faceFails facesFail goodLotFails lotFails lotsFail listed brought agrees broughtWeight tradeOfOn concerned targetTrade weightOfRecords tradeWeight told tells start ccBody dkBody pasted after bookAfter tableAfter tradesMoved liveMoved tableMoved lineAfter nextOutbound standingMillions groups groupsFormed groupsBalanced replacementCount
+pub day : reported start (put onBody ∷ put ccBody ∷ put dkBody ∷ put (altered columns.sequence (digitsOf 6 6) dkBody) ∷ [])
+    ≡ tells (Accepted 1) 237654400 2 ∷ tells (Accepted 2) 230000000 2 ∷ tells (Accepted 3) 330000000 1 ∷ tells (Rejected (by.Trader 37 told)) 330000000 1 ∷ []
+unfolding answerOf soundnessChecks senderChecks termsChecks movesChecks isSound valuesFine opened cleared values table trade put onBody header detail allBetween within part readNumber businessDate isDate weekdayOf dayNumber soundLine lengthFits poolCount detailAt details arrivalOf typeOf markIn beginsWithMark idAt tradeIdOf terminatorOf positions lots formedFor currentCents lotWeight goodMillions faceFails facesFail goodLotFails lotFails lotsFail listed brought agrees broughtWeight tradeOfOn concernedBy targetTrade weightOfRecords tradeWeight reported tells start ccBody dkBody pasted after bookAfter tableAfter tradesMoved liveMoved tableMoved lineAfter nextOutbound standingMillions groups groupsFormed groupsBalanced replacementCount
 day = refl
 
 -- what the history remembers of it: how often each lot was taken off, how often by a DK, and its trade
@@ -184,7 +189,7 @@ dayHistory = history (values 0) (atOpening (values 0)) (fed start (put onBody �
 
 pub remembered : map (λ (h : Brought). h .offs ∷ h .dks ∷ h .trade ∷ []) (dayHistory .lots)
     ≡ (1 ∷ 0 ∷ 1 ∷ []) ∷ (1 ∷ 0 ∷ 1 ∷ []) ∷ (0 ∷ 0 ∷ 1 ∷ []) ∷ (0 ∷ 0 ∷ 1 ∷ []) ∷ (1 ∷ 1 ∷ 1 ∷ []) ∷ (0 ∷ 0 ∷ 1 ∷ []) ∷ []
-unfolding answerOf checks isSound valuesFine opened cleared values table trade put onBody header detail allBetween within part readNumber businessDate isDate weekdayOf dayNumber soundLine lengthFits poolCount detailAt details arrivalOf typeOf markIn beginsWithMark idAt tradeIdOf terminatorOf positions lots formedFor currentCents lotWeight goodMillions faceFails facesFail goodLotFails lotFails lotsFail listed brought agrees broughtWeight tradeOfOn concerned targetTrade weightOfRecords tradeWeight told tells start ccBody dkBody pasted after bookAfter tableAfter tradesMoved liveMoved tableMoved lineAfter nextOutbound standingMillions groups groupsFormed groupsBalanced replacementCount dayHistory history fed feed standingWeight
+unfolding answerOf soundnessChecks senderChecks termsChecks movesChecks isSound valuesFine opened cleared values table trade put onBody header detail allBetween within part readNumber businessDate isDate weekdayOf dayNumber soundLine lengthFits poolCount detailAt details arrivalOf typeOf markIn beginsWithMark idAt tradeIdOf terminatorOf positions lots formedFor currentCents lotWeight goodMillions faceFails facesFail goodLotFails lotFails lotsFail listed brought agrees broughtWeight tradeOfOn concernedBy targetTrade weightOfRecords tradeWeight reported tells start ccBody dkBody pasted after bookAfter tableAfter tradesMoved liveMoved tableMoved lineAfter nextOutbound standingMillions groups groupsFormed groupsBalanced replacementCount dayHistory history fed feed standingWeight
 remembered = refl
 
 -- ---- refusals: a call for each number of a frame, 42 to 44 and 10 to 40; every other check before it passes
@@ -202,11 +207,11 @@ answered s body = answerOf (callOf s (put body))
 -- by the operator
 pub by-operator : answerOf (callOf (record { book = record { values = start .book .values; line = start .book .line; live = 9 }; table = table }) (put onBody))
     ∷ answered (openedState (values 99999999999) table) onBody
-    ∷ answerOf (callOf start (record { body = onBody; room = 216 }))
+    ∷ answerOf (callOf start (record { body = onBody; asked = askedBy midnight 216 }))
     ∷ answered (openedState (values 0) (replicate 3 noPool)) onBody
     ∷ []
-    ≡ Rejected reason.Unsound ∷ Rejected reason.Spent ∷ Rejected reason.ShortOutput ∷ Rejected reason.TableFull ∷ []
-unfolding answerOf checks isSound valuesFine opened cleared values table trade put onBody header detail allBetween within part readNumber businessDate isDate weekdayOf dayNumber soundLine lengthFits poolCount detailAt details arrivalOf typeOf markIn beginsWithMark idAt tradeIdOf terminatorOf positions lots formedFor currentCents lotWeight goodMillions faceFails facesFail goodLotFails lotFails lotsFail listed brought agrees broughtWeight tradeOfOn concerned targetTrade weightOfRecords tradeWeight told tells start ccBody dkBody pasted after bookAfter tableAfter tradesMoved liveMoved tableMoved lineAfter nextOutbound standingMillions groups groupsFormed groupsBalanced replacementCount second dkOdd
+    ≡ Rejected (by.Operator 42 silent) ∷ Rejected (by.Operator 43 silent) ∷ Rejected (by.Operator 44 silent) ∷ Rejected (by.Operator 40 told) ∷ []
+unfolding answerOf soundnessChecks senderChecks termsChecks movesChecks isSound valuesFine opened cleared values table trade put onBody header detail allBetween within part readNumber businessDate isDate weekdayOf dayNumber soundLine lengthFits poolCount detailAt details arrivalOf typeOf markIn beginsWithMark idAt tradeIdOf terminatorOf positions lots formedFor currentCents lotWeight goodMillions faceFails facesFail goodLotFails lotFails lotsFail listed brought agrees broughtWeight tradeOfOn concernedBy targetTrade weightOfRecords tradeWeight reported tells start ccBody dkBody pasted after bookAfter tableAfter tradesMoved liveMoved tableMoved lineAfter nextOutbound standingMillions groups groupsFormed groupsBalanced replacementCount second dkOdd
 by-operator = refl
 
 -- by the line, and by the sender's system
@@ -227,10 +232,10 @@ pub by-sender : answered start []
     ∷ answered second (altered columns.reason (digitsOf 4 0) dkOdd)
     ∷ answered second (altered columns.contra fsti dkOdd)
     ∷ []
-    ≡ Rejected reason.Length ∷ Rejected reason.Sequence ∷ Rejected reason.Duplicate ∷ Rejected reason.MessageType ∷ Rejected reason.Version ∷ Rejected reason.Filler
-    ∷ Rejected reason.Amounts ∷ Rejected reason.Parties ∷ Rejected reason.Cancel ∷ Rejected reason.LotForm ∷ Rejected reason.Groups ∷ Rejected reason.Sums
-    ∷ Rejected reason.Replacements ∷ Rejected reason.Settlement ∷ Rejected reason.ReasonCode ∷ Rejected reason.NoTradeId ∷ []
-unfolding answerOf checks isSound valuesFine opened cleared values table trade put onBody header detail allBetween within part readNumber businessDate isDate weekdayOf dayNumber soundLine lengthFits poolCount detailAt details arrivalOf typeOf markIn beginsWithMark idAt tradeIdOf terminatorOf positions lots formedFor currentCents lotWeight goodMillions faceFails facesFail goodLotFails lotFails lotsFail listed brought agrees broughtWeight tradeOfOn concerned targetTrade weightOfRecords tradeWeight told tells start ccBody dkBody pasted after bookAfter tableAfter tradesMoved liveMoved tableMoved lineAfter nextOutbound standingMillions groups groupsFormed groupsBalanced replacementCount second dkOdd
+    ≡ Rejected (by.Line 10 silent) ∷ Rejected (by.Line 11 silent) ∷ Rejected (by.Line 12 told) ∷ Rejected (by.Sender 13 told) ∷ Rejected (by.Sender 14 told) ∷ Rejected (by.Sender 15 told)
+    ∷ Rejected (by.Sender 16 told) ∷ Rejected (by.Sender 17 told) ∷ Rejected (by.Sender 18 told) ∷ Rejected (by.Sender 19 told) ∷ Rejected (by.Sender 20 told) ∷ Rejected (by.Sender 21 told)
+    ∷ Rejected (by.Sender 22 told) ∷ Rejected (by.Sender 23 told) ∷ Rejected (by.Sender 24 told) ∷ Rejected (by.Sender 25 told) ∷ []
+unfolding answerOf soundnessChecks senderChecks termsChecks movesChecks isSound valuesFine opened cleared values table trade put onBody header detail allBetween within part readNumber businessDate isDate weekdayOf dayNumber soundLine lengthFits poolCount detailAt details arrivalOf typeOf markIn beginsWithMark idAt tradeIdOf terminatorOf positions lots formedFor currentCents lotWeight goodMillions faceFails facesFail goodLotFails lotFails lotsFail listed brought agrees broughtWeight tradeOfOn concernedBy targetTrade weightOfRecords tradeWeight reported tells start ccBody dkBody pasted after bookAfter tableAfter tradesMoved liveMoved tableMoved lineAfter nextOutbound standingMillions groups groupsFormed groupsBalanced replacementCount second dkOdd
 by-sender = refl
 
 -- by the trader; the DK of the odd lot itself is accepted
@@ -246,17 +251,17 @@ pub by-trader : answered second (altered columns.target (digitsOf 11 9) ccBody)
     ∷ answered second (altered columns.target (digitsOf 11 9) dkOdd)
     ∷ answered second dkOdd
     ∷ []
-    ≡ Dked reason.Target ∷ Dked reason.TradeId ∷ Dked reason.Terms ∷ Dked reason.Millions ∷ Dked reason.Faces ∷ Dked reason.Variance ∷ Dked reason.Repeated
-    ∷ Dked reason.Listed ∷ Dked reason.Par ∷ Rejected reason.Target ∷ Accepted 2 ∷ []
-unfolding answerOf checks isSound valuesFine opened cleared values table trade put onBody header detail allBetween within part readNumber businessDate isDate weekdayOf dayNumber soundLine lengthFits poolCount detailAt details arrivalOf typeOf markIn beginsWithMark idAt tradeIdOf terminatorOf positions lots formedFor currentCents lotWeight goodMillions faceFails facesFail goodLotFails lotFails lotsFail listed brought agrees broughtWeight tradeOfOn concerned targetTrade weightOfRecords tradeWeight told tells start ccBody dkBody pasted after bookAfter tableAfter tradesMoved liveMoved tableMoved lineAfter nextOutbound standingMillions groups groupsFormed groupsBalanced replacementCount second dkOdd
+    ≡ Dked (by.Trader 30 told) ∷ Dked (by.Trader 31 told) ∷ Dked (by.Trader 32 told) ∷ Dked (by.Trader 33 told) ∷ Dked (by.Trader 34 told) ∷ Dked (by.Trader 35 told) ∷ Dked (by.Trader 36 told)
+    ∷ Dked (by.Trader 37 told) ∷ Dked (by.Trader 38 told) ∷ Rejected (by.Trader 30 told) ∷ Accepted 2 ∷ []
+unfolding answerOf soundnessChecks senderChecks termsChecks movesChecks isSound valuesFine opened cleared values table trade put onBody header detail allBetween within part readNumber businessDate isDate weekdayOf dayNumber soundLine lengthFits poolCount detailAt details arrivalOf typeOf markIn beginsWithMark idAt tradeIdOf terminatorOf positions lots formedFor currentCents lotWeight goodMillions faceFails facesFail goodLotFails lotFails lotsFail listed brought agrees broughtWeight tradeOfOn concernedBy targetTrade weightOfRecords tradeWeight reported tells start ccBody dkBody pasted after bookAfter tableAfter tradesMoved liveMoved tableMoved lineAfter nextOutbound standingMillions groups groupsFormed groupsBalanced replacementCount second dkOdd
 by-trader = refl
 
 -- 37 on a DK: a pool listed twice, and a part of a lot
 pub dk-listed : answered second (dkOdd ++ detail 3 200000 0 0)
     ∷ answered second (alteredPool 0 columns.poolNumber (digitsOf 7 1) (alteredPool 0 columns.originalFace (digitsOf 9 1000000) dkOdd))
     ∷ []
-    ≡ Rejected reason.Listed ∷ Rejected reason.Listed ∷ []
-unfolding answerOf checks isSound valuesFine opened cleared values table trade put onBody header detail allBetween within part readNumber businessDate isDate weekdayOf dayNumber soundLine lengthFits poolCount detailAt details arrivalOf typeOf markIn beginsWithMark idAt tradeIdOf terminatorOf positions lots formedFor currentCents lotWeight goodMillions faceFails facesFail goodLotFails lotFails lotsFail listed brought agrees broughtWeight tradeOfOn concerned targetTrade weightOfRecords tradeWeight told tells start ccBody dkBody pasted after bookAfter tableAfter tradesMoved liveMoved tableMoved lineAfter nextOutbound standingMillions groups groupsFormed groupsBalanced replacementCount second dkOdd
+    ≡ Rejected (by.Trader 37 told) ∷ Rejected (by.Trader 37 told) ∷ []
+unfolding answerOf soundnessChecks senderChecks termsChecks movesChecks isSound valuesFine opened cleared values table trade put onBody header detail allBetween within part readNumber businessDate isDate weekdayOf dayNumber soundLine lengthFits poolCount detailAt details arrivalOf typeOf markIn beginsWithMark idAt tradeIdOf terminatorOf positions lots formedFor currentCents lotWeight goodMillions faceFails facesFail goodLotFails lotFails lotsFail listed brought agrees broughtWeight tradeOfOn concernedBy targetTrade weightOfRecords tradeWeight reported tells start ccBody dkBody pasted after bookAfter tableAfter tradesMoved liveMoved tableMoved lineAfter nextOutbound standingMillions groups groupsFormed groupsBalanced replacementCount second dkOdd
 dk-listed = refl
 
 -- 37 on a CC: a 6 lot of other millions than the live lot, and two 6 lots that are each a part of one
@@ -268,8 +273,8 @@ ccParts =
     alteredPool 0 columns.terminator (digitsOf 4 6002)
     (alteredPool 3 columns.terminator (digitsOf 4 7003) (alteredPool 3 columns.currentFace (digitsOf 11 300000000) ccBody))
 
-pub cc-listed : answered second ccOther ∷ answered second ccParts ∷ [] ≡ Dked reason.Listed ∷ Dked reason.Listed ∷ []
-unfolding answerOf checks isSound valuesFine opened cleared values table trade put onBody header detail allBetween within part readNumber businessDate isDate weekdayOf dayNumber soundLine lengthFits poolCount detailAt details arrivalOf typeOf markIn beginsWithMark idAt tradeIdOf terminatorOf positions lots formedFor currentCents lotWeight goodMillions faceFails facesFail goodLotFails lotFails lotsFail listed brought agrees broughtWeight tradeOfOn concerned targetTrade weightOfRecords tradeWeight told tells start ccBody dkBody pasted after bookAfter tableAfter tradesMoved liveMoved tableMoved lineAfter nextOutbound standingMillions groups groupsFormed groupsBalanced replacementCount second dkOdd ccOther ccParts
+pub cc-listed : answered second ccOther ∷ answered second ccParts ∷ [] ≡ Dked (by.Trader 37 told) ∷ Dked (by.Trader 37 told) ∷ []
+unfolding answerOf soundnessChecks senderChecks termsChecks movesChecks isSound valuesFine opened cleared values table trade put onBody header detail allBetween within part readNumber businessDate isDate weekdayOf dayNumber soundLine lengthFits poolCount detailAt details arrivalOf typeOf markIn beginsWithMark idAt tradeIdOf terminatorOf positions lots formedFor currentCents lotWeight goodMillions faceFails facesFail goodLotFails lotFails lotsFail listed brought agrees broughtWeight tradeOfOn concernedBy targetTrade weightOfRecords tradeWeight reported tells start ccBody dkBody pasted after bookAfter tableAfter tradesMoved liveMoved tableMoved lineAfter nextOutbound standingMillions groups groupsFormed groupsBalanced replacementCount second dkOdd ccOther ccParts
 cc-listed = refl
 
 -- 38 beside live pools: an ON to the second trade by its ID, of a cent more than its open par, and of just as much, which 40 then refuses
@@ -278,6 +283,6 @@ onNamed odd =
     altered columns.sequence (digitsOf 6 2)
     (altered columns.special (mark ++ (84 ∷ 50 ∷ 61 ∷ [])) (alteredPool 2 columns.currentFace (digitsOf 11 odd) (alteredPool 3 columns.currentFace (digitsOf 11 0) onBody)))
 
-pub open-par : answered second (onNamed 37654401) ∷ answered second (onNamed 37654400) ∷ [] ≡ Dked reason.Par ∷ Rejected reason.TableFull ∷ []
-unfolding answerOf checks isSound valuesFine opened cleared values table trade put onBody header detail allBetween within part readNumber businessDate isDate weekdayOf dayNumber soundLine lengthFits poolCount detailAt details arrivalOf typeOf markIn beginsWithMark idAt tradeIdOf terminatorOf positions lots formedFor currentCents lotWeight goodMillions faceFails facesFail goodLotFails lotFails lotsFail listed brought agrees broughtWeight tradeOfOn concerned targetTrade weightOfRecords tradeWeight told tells start ccBody dkBody pasted after bookAfter tableAfter tradesMoved liveMoved tableMoved lineAfter nextOutbound standingMillions groups groupsFormed groupsBalanced replacementCount second dkOdd onNamed
+pub open-par : answered second (onNamed 37654401) ∷ answered second (onNamed 37654400) ∷ [] ≡ Dked (by.Trader 38 told) ∷ Rejected (by.Operator 40 told) ∷ []
+unfolding answerOf soundnessChecks senderChecks termsChecks movesChecks isSound valuesFine opened cleared values table trade put onBody header detail allBetween within part readNumber businessDate isDate weekdayOf dayNumber soundLine lengthFits poolCount detailAt details arrivalOf typeOf markIn beginsWithMark idAt tradeIdOf terminatorOf positions lots formedFor currentCents lotWeight goodMillions faceFails facesFail goodLotFails lotFails lotsFail listed brought agrees broughtWeight tradeOfOn concernedBy targetTrade weightOfRecords tradeWeight reported tells start ccBody dkBody pasted after bookAfter tableAfter tradesMoved liveMoved tableMoved lineAfter nextOutbound standingMillions groups groupsFormed groupsBalanced replacementCount second dkOdd onNamed
 open-par = refl

@@ -1,5 +1,7 @@
 pub mod ListLaws
+pub mod Firsts
 pub mod Passed
+pub mod Through
 pub mod Pools
 pub mod Ordered
 pub mod ByRecord

@@ -23,7 +23,7 @@ use Rattle.book.specs.declared.Values.{Values}
 use Rattle.book.specs.declared.Book.{Book}
 use Rattle.book.specs.declared.Pool.{Pool}
 use Rattle.book.specs.declared.Answer.{Answer}
-use Rattle.book.specs.Reasons.{isAccepted}
+use Rattle.book.specs.Reasons.{isAccepted, isSilent}
 use Rattle.book.specs.Records.{distinct, recordsOf, noPool, tradeWeight, weightOfRecords}
 use Rattle.book.specs.Messages.{typeOf, targetOf, listed, brought}
 use Rattle.book.specs.Trades.{tradesOf, tradeName, broughtWeight}
@@ -31,7 +31,7 @@ use Rattle.book.specs.Opening.{recordsMax, elevenDigitsMax, holidaysOf, 
 use Rattle.book.specs.Soundness.{liveOf, recordFine, inOrder, fieldsOnce, isNone, parsFrom, Sound, isSound}
 use Rattle.book.specs.Checks.{Call, live, trades, arrived, concerned, isTaken, taken, tradeAt, answerOf}
 use Rattle.message_type.specs.Questions.{isOn, bringsLots, listsLots, isCc}
-use Rattle.book.specs.Step.{isSilent, gapAt, lineOf, beforeAa, outboundOf, tradesMoved, liveMoved, tableMoved, accepted, bookAfter, tableAfter}
+use Rattle.book.specs.Step.{gapAt, lineOf, beforeAa, outboundOf, tradesMoved, liveMoved, tableMoved, accepted, bookAfter, tableAfter}
 use Rattle.book.specs.History.{fieldsOfLots}
 use Rattle.book.specs.Promise.{State, Put, callOf, after, afterAll, openedState}
 use Rattle.book.proofs.ByRecord.{allLive, wholeLots, exactByRecord, listedByRecord}

@@ -32,25 +32,38 @@ use Rattle.book.specs.declared.Trade.{Trade}
 use Rattle.book.specs.declared.Values.{Values}
 use Rattle.book.specs.declared.Book.{Book}
 use Rattle.book.specs.declared.Pool.{Pool}
+use Rattle.book.specs.declared.Caller.{Caller}
 use Rattle.book.specs.declared.Reason.{Reason}
-use Rattle.book.specs.declared.Reason.the-variants as reason
+use Rattle.book.specs.declared.Reason.the-variants as by
 use Rattle.book.specs.declared.Verdict.{Verdict}
 use Rattle.book.specs.declared.Verdict.the-variants.{Passes, Fails}
 use Rattle.book.specs.declared.Answer.{Answer}
-use Rattle.book.specs.declared.Answer.the-variants.{Accepted, Rejected, Dked}
-use Rattle.book.specs.Reasons.{numberOf}
+use Rattle.book.specs.declared.Answer.the-variants.{Accepted}
+use Rattle.book.specs.Reasons.{silent, told, refusal}
 use Rattle.book.specs.Records.{Fields, fieldsOf, liveFields, hasFields, distinct, kindNumber, LiveLot, livePools, liveLots, weightOfRecords}
 use Rattle.book.specs.Messages.{typeOf, ftba, fsti, isStipulated, idIn, targetOf, under, listed}
 use Rattle.book.specs.Trades.{tradesOf, agrees, isNamedBy, firstTrade, broughtWeight, tradeOfOn, openPars}
 use Rattle.book.specs.Opening.{holidaysOf, elevenDigitsMax}
-use Rattle.book.specs.Soundness.{liveOf, isSound}
+use Rattle.book.specs.Soundness.{liveOf, Held, heldIn, holdsSound}
 
--- what a frame call is given: book, table, body and the room in the output
+-- what the caller of a frame call gives besides book, table and body: what it lends by value, and the room in its output
+pub record Asked : Type 0 where
+  pub caller : Caller
+  pub room : ℕ
+
+-- what a frame call is given
 pub record Call : Type 0 where
   pub book : Book
   pub table : List Pool
   pub body : List ℕ
-  pub room : ℕ
+  pub asked : Asked
+
+-- the one maker of a call
+abbrev pub call : Book → List Pool → List ℕ → Asked → Call
+call book table body asked = record { book = book; table = table; body = body; asked = asked }
+
+abbrev pub askedBy : Caller → ℕ → Asked
+askedBy caller room = record { caller = caller; room = room }
 
 abbrev pub live : Call → List Pool
 live c = liveOf (c .book) (c .table)
@@ -60,20 +73,20 @@ trades c = tradesOf (c .book .values)
 
 -- ---- 42 to 44: the operator
 -- 42: a book or table that cannot have come about by the calls
-abbrev pub unsound : Call → Bool
-unsound c = not (isSound (c .book) (c .table))
+abbrev pub unsound : Book → Held → List ℕ → Bool
+unsound b h body = not (holdsSound b h)
 
 -- 43: no message ID is left, or fewer than two outbound numbers
-abbrev pub numbersSpent : Values → Bool
-numbersSpent v = leb elevenDigitsMax (v .lastMessageId) || outboundSpent (v .outbound)
+abbrev pub numbersSpent : Values → List ℕ → Bool
+numbersSpent v body = leb elevenDigitsMax (v .lastMessageId) || outboundSpent (v .outbound)
 
 -- the room that a TX and an AA take
 abbrev pub roomLeast : ℕ
 roomLeast = txLength + aaLength
 
 -- 44: an output with less room than that
-abbrev pub outputShort : Call → Bool
-outputShort c = ltb (c .room) roomLeast
+abbrev pub outputShort : Asked → Bool
+outputShort asked = ltb (asked .room) roomLeast
 
 -- ---- 10 to 25: the line and the sender's system
 -- not digits, or a number that fails a test
@@ -101,13 +114,9 @@ isDuplicate Duplicate = true
 isDuplicate Expected = false
 isDuplicate Gap = false
 
--- whether the sequence is the last one received
-abbrev pub repeatsLast : Line → List ℕ → Bool
-repeatsLast line body = isDuplicate (arrivalOf line (arrived body))
-
 -- 12: the number that came last comes again
-abbrev pub sequenceRepeats : Call → Bool
-sequenceRepeats c = repeatsLast (c .book .line) (c .body)
+abbrev pub sequenceRepeats : Line → List ℕ → Bool
+sequenceRepeats line body = isDuplicate (arrivalOf line (arrived body))
 
 -- 13: none of the four types
 abbrev pub typeUnknown : List ℕ → Bool
@@ -163,8 +172,8 @@ abbrev pub partiesFail : Values → List ℕ → Bool
 partiesFail v body = not (partiesFine v body)
 
 -- 18: every CX fails
-abbrev pub always : Call → Bool
-always c = true
+abbrev pub always : List ℕ → Bool
+always body = true
 
 -- 19: terminators that make no whole lots
 abbrev pub lotFormFails : List ℕ → Bool
@@ -205,8 +214,8 @@ tradeIdMissing body = isStipulated body && not (isWhole (idIn body))
 
 -- ---- 30 to 40: the trader
 -- 30: nothing lives under the target
-abbrev pub targetGone : Call → Bool
-targetGone c = not (any (under (targetOf (c .body))) (live c))
+abbrev pub targetGone : Values → List Pool → List ℕ → Bool
+targetGone v rs body = not (any (under (targetOf body)) rs)
 
 -- the trade of the target's live pools
 abbrev pub firstUnder : List Pool → ℕ
@@ -235,8 +244,11 @@ concernedFor Dk body ts rs = targetTrade body rs
 concernedFor Cx body ts rs = targetTrade body rs
 concernedFor Other body ts rs = targetTrade body rs
 
-unfoldable pub concerned : Call → ℕ
-concerned c = concernedFor (typeOf (c .body)) (c .body) (trades c) (live c)
+unfoldable pub concernedBy : List ℕ → List Trade → List Pool → ℕ
+concernedBy body ts rs = concernedFor (typeOf body) body ts rs
+
+abbrev pub concerned : Call → ℕ
+concerned c = concernedBy (c .body) (trades c) (live c)
 
 -- the named trade is one whose terms agree and, on a CC or DK, the target's
 abbrev pub namedFine : List ℕ → List Trade → ℕ → ℕ → Bool
@@ -248,8 +260,8 @@ idFails body ts target Broken = true
 idFails body ts target Absent = isStipulated body
 
 -- 31: a trade ID that is broken, missing where it must stand, or leads to no trade that fits
-abbrev pub tradeIdFails : Call → Bool
-tradeIdFails c = idFails (c .body) (trades c) (targetTrade (c .body) (live c)) (idIn (c .body))
+abbrev pub tradeIdFails : Values → List Pool → List ℕ → Bool
+tradeIdFails v rs body = idFails body (tradesOf v) (targetTrade body rs) (idIn body)
 
 -- without a trade ID, some trade's terms agree with an ON's, and the target's with a CC's or DK's
 abbrev pub termsFail : List ℕ → List Trade → ℕ → TradeId → Bool
@@ -258,8 +270,8 @@ termsFail body ts target Broken = false
 termsFail body ts target Absent = cond (isOn (typeOf body)) (not (any (agrees body) ts)) (not (agrees body (tradeAt ts target)))
 
 -- 32: without a trade ID, terms that lead to no trade that fits
-abbrev pub termsDiffer : Call → Bool
-termsDiffer c = termsFail (c .body) (trades c) (targetTrade (c .body) (live c)) (idIn (c .body))
+abbrev pub termsDiffer : Values → List Pool → List ℕ → Bool
+termsDiffer v rs body = termsFail body (tradesOf v) (targetTrade body rs) (idIn body)
 
 -- 33: GDMM differs from the millions of the good lots
 abbrev pub millionsFail : List ℕ → Bool
@@ -281,8 +293,11 @@ newPoolsRepeat body = not (distinct (map fieldsOf (newPools (details body))))
 abbrev pub isTaken : Field → List Fields → Pool → Bool
 isTaken tgt fs r = under tgt r && hasFields (liveFields r) fs
 
+abbrev pub takenBy : List ℕ → List Pool → List Pool
+takenBy body rs = keep (isTaken (targetOf body) (listed body)) rs
+
 abbrev pub taken : Call → List Pool
-taken c = keep (isTaken (targetOf (c .body)) (listed (c .body))) (live c)
+taken c = takenBy (c .body) (live c)
 
 -- the target's live lots
 abbrev pub targetLots : Field → List Pool → List LiveLot
@@ -329,92 +344,121 @@ listedFine body rs =
     && (not (isCc (typeOf body)) || all (oneLot (targetOf body) rs) (canceledLots (details body)))
 
 -- 37: a message that lists something else than whole lots
-abbrev pub listedFail : Call → Bool
-listedFail c = not (listedFine (c .body) (live c))
+abbrev pub listedFail : Values → List Pool → List ℕ → Bool
+listedFail v rs body = not (listedFine body rs)
 
 -- the trade's open par, with what the message takes off, holds what it brings
-abbrev pub parFine : Call → Bool
-parFine c =
-    ltb (concerned c) (length (trades c))
-    && leb (broughtWeight (c .body)) (tradeAt (trades c) (concerned c) .openPar + weightOfRecords (taken c))
+abbrev pub parFine : Values → List Pool → List ℕ → Bool
+parFine v rs body =
+    ltb (concernedBy body (tradesOf v) rs) (length (tradesOf v))
+    && leb (broughtWeight body) (tradeAt (tradesOf v) (concernedBy body (tradesOf v) rs) .openPar + weightOfRecords (takenBy body rs))
 
 -- 38: open par, with what is given back, does not hold what comes
-abbrev pub parShort : Call → Bool
-parShort c = not (parFine c)
+abbrev pub parShort : Values → List Pool → List ℕ → Bool
+parShort v rs body = not (parFine v rs body)
 
 -- the live pools less those listed, plus the new ones, fit the table
-abbrev pub tableFine : Call → Bool
-tableFine c = leb (length (live c) + length (newPools (details (c .body)))) (length (c .table) + length (listed (c .body)))
+abbrev pub tableFine : Book → Held → List ℕ → Bool
+tableFine b h body = leb (length (h .live) + length (newPools (details body))) (h .records + length (listed body))
 
 -- 40: more pools than the table has records
-abbrev pub tableFull : Call → Bool
-tableFull c = not (tableFine c)
+abbrev pub tableFull : Book → Held → List ℕ → Bool
+tableFull b h body = not (tableFine b h body)
 
--- ---- the list
--- a check: its number, why it refuses, the types that it is for, and whether it fails
+-- ---- the lists
+-- a test, by what it looks at: the body alone, with the values, with the inbound line; what the caller gives; the live pools too; or all that the table holds
+pub data Test : Type 0 where
+  ofBody : (List ℕ → Bool) → Test
+  ofValues : (Values → List ℕ → Bool) → Test
+  ofLine : (Line → List ℕ → Bool) → Test
+  ofAsked : (Asked → Bool) → Test
+  ofLive : (Values → List Pool → List ℕ → Bool) → Test
+  ofTable : (Book → Held → List ℕ → Bool) → Test
+
+abbrev pub fails : Test → Call → Bool
+fails (ofBody p) c = p (c .body)
+fails (ofValues p) c = p (c .book .values) (c .body)
+fails (ofLine p) c = p (c .book .line) (c .body)
+fails (ofAsked p) c = p (c .asked)
+fails (ofLive p) c = p (c .book .values) (live c) (c .body)
+fails (ofTable p) c = p (c .book) (heldIn (c .book) (c .table)) (c .body)
+
+-- a check: a key of its own, why it refuses, the types that it is for, and its test
 pub record Check : Type 0 where
-  pub number : ℕ
+  pub key : ℕ
   pub reason : Reason
   pub types : MessageType → Bool
-  pub fails : Call → Bool
+  pub test : Test
 
-abbrev pub check : ℕ → Reason → (MessageType → Bool) → (Call → Bool) → Check
-check n r p f = record { number = n; reason = r; types = p; fails = f }
-
--- a test of the body alone, of the opened values alone, and of both
-abbrev pub ofBody : (List ℕ → Bool) → Call → Bool
-ofBody p c = p (c .body)
-
-abbrev pub ofValues : (Values → Bool) → Call → Bool
-ofValues p c = p (c .book .values)
-
-abbrev pub ofBoth : (Values → List ℕ → Bool) → Call → Bool
-ofBoth p c = p (c .book .values) (c .body)
+-- one whose key is its number
+abbrev pub check : ℕ → (ℕ → Bool → Reason) → Bool → (MessageType → Bool) → Test → Check
+check n causer quiet types test = record { key = n; reason = causer n quiet; types = types; test = test }
 
 abbrev pub every : MessageType → Bool
 every t = true
 
-unfoldable pub checks : List Check
-checks =
-    check 42 reason.Unsound every unsound
-    ∷ check 43 reason.Spent every (ofValues numbersSpent)
-    ∷ check 44 reason.ShortOutput every outputShort
-    ∷ check 10 reason.Length every (ofBody lengthWrong)
-    ∷ check 11 reason.Sequence every (ofBody sequenceFails)
-    ∷ check 12 reason.Duplicate every sequenceRepeats
-    ∷ check 13 reason.MessageType every (ofBody typeUnknown)
-    ∷ check 14 reason.Version every (ofBody versionWrong)
-    ∷ check 15 reason.Filler every (ofBody fillersFail)
-    ∷ check 16 reason.Amounts every (ofBoth amountsFail)
-    ∷ check 17 reason.Parties every (ofBoth partiesFail)
-    ∷ check 18 reason.Cancel isCx always
-    ∷ check 19 reason.LotForm bringsLots (ofBody lotFormFails)
-    ∷ check 20 reason.Groups isCc (ofBody groupsFail)
-    ∷ check 21 reason.Sums isCc (ofBody sumsFail)
-    ∷ check 22 reason.Replacements isCc (ofBody replacementsFail)
-    ∷ check 23 reason.Settlement isCc (ofBoth settlementFails)
-    ∷ check 24 reason.ReasonCode isDk (ofBody reasonFails)
-    ∷ check 25 reason.NoTradeId isDk (ofBody tradeIdMissing)
-    ∷ check 30 reason.Target listsLots targetGone
-    ∷ check 31 reason.TradeId every tradeIdFails
-    ∷ check 32 reason.Terms every termsDiffer
-    ∷ check 33 reason.Millions isOn (ofBody millionsFail)
-    ∷ check 34 reason.Faces bringsLots (ofBoth newFacesFail)
-    ∷ check 35 reason.Variance bringsLots (ofBoth newLotsFail)
-    ∷ check 36 reason.Repeated bringsLots (ofBody newPoolsRepeat)
-    ∷ check 37 reason.Listed listsLots listedFail
-    ∷ check 38 reason.Par bringsLots parShort
-    ∷ check 40 reason.TableFull bringsLots tableFull
+-- the book itself
+unfoldable pub soundnessChecks : List Check
+soundnessChecks =
+    check 42 by.Operator silent every (ofTable unsound)
     ∷ []
 
--- a trader's number, 30 to 38, is DKed, but on a DK rejected; every other is rejected
-abbrev pub refusal : MessageType → Reason → Answer
-refusal t r = cond (between 30 38 (numberOf r) && not (isDk t)) (Dked r) (Rejected r)
+-- the operator's others, the line, and the sender's system
+unfoldable pub senderChecks : List Check
+senderChecks =
+    check 43 by.Operator silent every (ofValues numbersSpent)
+    ∷ check 44 by.Operator silent every (ofAsked outputShort)
+    ∷ check 10 by.Line silent every (ofBody lengthWrong)
+    ∷ check 11 by.Line silent every (ofBody sequenceFails)
+    ∷ check 12 by.Line told every (ofLine sequenceRepeats)
+    ∷ check 13 by.Sender told every (ofBody typeUnknown)
+    ∷ check 14 by.Sender told every (ofBody versionWrong)
+    ∷ check 15 by.Sender told every (ofBody fillersFail)
+    ∷ check 16 by.Sender told every (ofValues amountsFail)
+    ∷ check 17 by.Sender told every (ofValues partiesFail)
+    ∷ check 18 by.Sender told isCx (ofBody always)
+    ∷ check 19 by.Sender told bringsLots (ofBody lotFormFails)
+    ∷ check 20 by.Sender told isCc (ofBody groupsFail)
+    ∷ check 21 by.Sender told isCc (ofBody sumsFail)
+    ∷ check 22 by.Sender told isCc (ofBody replacementsFail)
+    ∷ check 23 by.Sender told isCc (ofValues settlementFails)
+    ∷ check 24 by.Sender told isDk (ofBody reasonFails)
+    ∷ check 25 by.Sender told isDk (ofBody tradeIdMissing)
+    ∷ []
+
+-- the trader, by target, trade, terms and new pools
+unfoldable pub termsChecks : List Check
+termsChecks =
+    check 30 by.Trader told listsLots (ofLive targetGone)
+    ∷ check 31 by.Trader told every (ofLive tradeIdFails)
+    ∷ check 32 by.Trader told every (ofLive termsDiffer)
+    ∷ check 33 by.Trader told isOn (ofBody millionsFail)
+    ∷ check 34 by.Trader told bringsLots (ofValues newFacesFail)
+    ∷ check 35 by.Trader told bringsLots (ofValues newLotsFail)
+    ∷ check 36 by.Trader told bringsLots (ofBody newPoolsRepeat)
+    ∷ []
+
+-- the trader, by what moves; the operator's table last
+unfoldable pub movesChecks : List Check
+movesChecks =
+    check 37 by.Trader told listsLots (ofLive listedFail)
+    ∷ check 38 by.Trader told bringsLots (ofLive parShort)
+    ∷ check 40 by.Operator told bringsLots (ofTable tableFull)
+    ∷ []
+
+abbrev pub traderChecks : List Check
+traderChecks = termsChecks ++ movesChecks
+
+abbrev pub checks : List Check
+checks = soundnessChecks ++ (senderChecks ++ traderChecks)
 
 -- the first check that is for the message's type and fails
+abbrev pub failsIn : Check → Call → Bool
+failsIn k c = k .types (typeOf (c .body)) && fails (k .test) c
+
 abbrev pub firstFailing : List Check → Call → Verdict
 firstFailing [] c = Passes
-firstFailing (k ∷ ks) c = cond (k .types (typeOf (c .body)) && k .fails c) (Fails (k .reason)) (firstFailing ks c)
+firstFailing (k ∷ ks) c = cond (failsIn k c) (Fails (k .reason)) (firstFailing ks c)
 
 -- it decides; where none fails, the message gets the next ID
 abbrev pub answerTo : Call → Verdict → Answer

@@ -11,7 +11,7 @@ use Rattle.book.specs.Records.{standingMillions}
 use Rattle.book.specs.Trades.{tradesOf}
 use Rattle.book.specs.Opening.{opened, cleared}
 use Rattle.book.specs.Soundness.{liveOf}
-use Rattle.book.specs.Checks.{Call, tradeAt, answerOf}
+use Rattle.book.specs.Checks.{Asked, Call, call, tradeAt, answerOf}
 use Rattle.book.specs.Step.{bookAfter, tableAfter}
 use Rattle.book.specs.History.{Brought, History, Fed, standingWeight, millionsByOns, millionsByDks}
 
@@ -20,13 +20,13 @@ pub record State : Type 0 where
   pub book : Book
   pub table : List Pool
 
--- what a call adds of its own: its body and the room in its output may be anything (time bytes and the output's content change no state)
+-- what a call adds of its own: its body and what its caller gives may be anything (the output's content changes no state)
 pub record Put : Type 0 where
   pub body : List ℕ
-  pub room : ℕ
+  pub asked : Asked
 
 abbrev pub callOf : State → Put → Call
-callOf s p = record { book = s .book; table = s .table; body = p .body; room = p .room }
+callOf s p = call (s .book) (s .table) (p .body) (p .asked)
 
 unfoldable pub after : State → Put → State
 after s p = record { book = bookAfter (callOf s p); table = tableAfter (callOf s p) }

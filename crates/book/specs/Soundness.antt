@@ -68,6 +68,15 @@ abbrev pub parsFrom : ℕ → List Trade → List Pool → Bool
 parsFrom i [] rs = true
 parsFrom i (t ∷ ts) rs = eqb (t .openPar + tradeWeight i rs) (t .par) && parsFrom (i + 1) ts rs
 
+-- what a table holds for a book: its live records, how many records it has, and whether zeros stand after the live ones
+pub record Held : Type 0 where
+  pub live : List Pool
+  pub records : ℕ
+  pub zeros : Bool
+
+abbrev pub heldIn : Book → List Pool → Held
+heldIn b table = record { live = liveOf b table; records = length table; zeros = all isNone (drop (b .live) table) }
+
 -- ---- the facts by name
 pub record Sound (b : Book) (table : List Pool) : Type 0 where
   pub values : valuesFine (b .values) ≡ true
@@ -81,14 +90,17 @@ pub record Sound (b : Book) (table : List Pool) : Type 0 where
   pub pars : parsFrom 0 (tradesOf (b .values)) (liveOf b table) ≡ true
 
 -- the test that decides them all
-unfoldable pub isSound : Book → List Pool → Bool
-isSound b table =
+abbrev pub holdsSound : Book → Held → Bool
+holdsSound b h =
     valuesFine (b .values)
-    && (leb (length table) recordsMax
+    && (leb (h .records) recordsMax
     && (soundLine (b .line)
-    && (leb (b .live) (length table)
-    && (all (recordFine (b .values)) (liveOf b table)
-    && (inOrder (liveOf b table)
-    && (fieldsOnce (liveOf b table)
-    && (all isNone (drop (b .live) table)
-    && parsFrom 0 (tradesOf (b .values)) (liveOf b table))))))))
+    && (leb (b .live) (h .records)
+    && (all (recordFine (b .values)) (h .live)
+    && (inOrder (h .live)
+    && (fieldsOnce (h .live)
+    && (h .zeros
+    && parsFrom 0 (tradesOf (b .values)) (h .live))))))))
+
+unfoldable pub isSound : Book → List Pool → Bool
+isSound b table = holdsSound b (heldIn b table)

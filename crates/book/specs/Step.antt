@@ -1,4 +1,4 @@
--- What a frame call leaves (01, "The book", "What goes out"): answer, book, table, output and tally after it, for any book, table, body, time bytes and output.
+-- What a frame call leaves (01, "The book", "What goes out"): answer, book, table, output and tally after it, for any book, table, body, caller and output.
 use Prim.Native.Nat.{ℕ, _+_, _-_}
 use mathlib.Core.List.{List, _++_}
 use mathlib.Core.Bool.{Bool, true, false, cond, not}
@@ -20,53 +20,14 @@ use Rattle.book.specs.declared.Trade.{Trade}
 use Rattle.book.specs.declared.Values.{Values}
 use Rattle.book.specs.declared.Book.{Book}
 use Rattle.book.specs.declared.Pool.{Pool}
-use Rattle.book.specs.declared.Reason.{Reason}
-use Rattle.book.specs.declared.Reason.the-variants as reason
+use Rattle.book.specs.declared.Caller.{Caller}
 use Rattle.book.specs.declared.Answer.{Answer}
 use Rattle.book.specs.declared.Answer.the-variants.{Accepted, Rejected, Dked}
-use Rattle.book.specs.Reasons.{codeOf, idOf, isAccepted}
+use Rattle.book.specs.Reasons.{codeOf, idOf, isAccepted, isSilent}
 use Rattle.book.specs.Records.{recordsOf, weightOfRecords, noPool}
 use Rattle.book.specs.Messages.{typeOf, targetOf, listed, brought}
 use Rattle.book.specs.Trades.{broughtWeight}
-use Rattle.book.specs.Checks.{Call, live, trades, arrived, concerned, isTaken, taken, tradeAt, answerOf}
-
--- 10, 11 and 42 to 44 move nothing and write nothing
-abbrev pub isSilentFor : Reason → Bool
-isSilentFor reason.Opening = true
-isSilentFor reason.Unsound = true
-isSilentFor reason.Spent = true
-isSilentFor reason.ShortOutput = true
-isSilentFor reason.Length = true
-isSilentFor reason.Sequence = true
-isSilentFor reason.Duplicate = false
-isSilentFor reason.MessageType = false
-isSilentFor reason.Version = false
-isSilentFor reason.Filler = false
-isSilentFor reason.Amounts = false
-isSilentFor reason.Parties = false
-isSilentFor reason.Cancel = false
-isSilentFor reason.LotForm = false
-isSilentFor reason.Groups = false
-isSilentFor reason.Sums = false
-isSilentFor reason.Replacements = false
-isSilentFor reason.Settlement = false
-isSilentFor reason.ReasonCode = false
-isSilentFor reason.NoTradeId = false
-isSilentFor reason.Target = false
-isSilentFor reason.TradeId = false
-isSilentFor reason.Terms = false
-isSilentFor reason.Millions = false
-isSilentFor reason.Faces = false
-isSilentFor reason.Variance = false
-isSilentFor reason.Repeated = false
-isSilentFor reason.Listed = false
-isSilentFor reason.Par = false
-isSilentFor reason.TableFull = false
-
-abbrev pub isSilent : Answer → Bool
-isSilent (Accepted id) = false
-isSilent (Rejected r) = isSilentFor r
-isSilent (Dked r) = isSilentFor r
+use Rattle.book.specs.Checks.{Call, call, askedBy, live, trades, arrived, concerned, isTaken, taken, tradeAt, answerOf}
 
 -- a gap is told by a TX; a duplicate is none
 abbrev pub isGap : Arrival → Bool
@@ -158,13 +119,13 @@ unfoldable pub tableAfter : Call → List Pool
 tableAfter c = cond (accepted c) (tableMoved c) (c .table)
 
 -- ---- what goes out: on a gap a TX first, then the AA; the rest of the output stays
-abbrev pub acknowledged : List ℕ → Answer → List ℕ → Acknowledged
-acknowledged body a time =
+abbrev pub acknowledged : List ℕ → Answer → Caller → Acknowledged
+acknowledged body a caller =
     record {
       internal = bytesIn body columns.internalId;
       message = idOf a;
       code = codeOf a;
-      time = time;
+      time = caller .time;
       original = bytesIn body columns.sequence;
     }
 
@@ -178,13 +139,13 @@ abbrev pub aaAt : Book → List ℕ → ℕ
 aaAt book body = cond (gapAt book body) txLength 0
 
 -- the output after an answer
-unfoldable pub outputFor : Book → List ℕ → Answer → List ℕ → List ℕ → List ℕ
-outputFor book body a time out =
+unfoldable pub outputFor : Book → List ℕ → Answer → Caller → List ℕ → List ℕ
+outputFor book body a caller out =
     cond (isSilent a) out
-    (pasted (withTx book body out) (aaAt book body) (aaBytes (nextOutbound (beforeAa book body)) (book .values .subscriber) (book .values .connection) (acknowledged body a time)))
+    (pasted (withTx book body out) (aaAt book body) (aaBytes (nextOutbound (beforeAa book body)) (book .values .subscriber) (book .values .connection) (acknowledged body a caller)))
 
-unfoldable pub outputAfter : Call → List ℕ → List ℕ → List ℕ
-outputAfter c time out = outputFor (c .book) (c .body) (answerOf c) time out
+unfoldable pub outputAfter : Call → List ℕ → List ℕ
+outputAfter c out = outputFor (c .book) (c .body) (answerOf c) (c .asked .caller) out
 
 -- ---- the tally: silent refusals are not in it
 abbrev pub outcomeOf : Answer → Outcome
@@ -195,6 +156,6 @@ outcomeOf (Dked r) = outcome.Dked
 unfoldable pub tallyAfter : List ℕ → Answer → List (List ℕ) → List (List ℕ)
 tallyAfter body a tally = cond (isSilent a) tally (raised tally (typeOf body) (outcomeOf a))
 
--- a call on a book and a table with a body, and an output whose length is its room
-abbrev pub callWith : Book → List Pool → List ℕ → List ℕ → Call
-callWith book table body out = record { book = book; table = table; body = body; room = length out }
+-- a call on a book and a table with a body, by a caller, and an output whose length is its room
+abbrev pub callWith : Book → List Pool → List ℕ → Caller → List ℕ → Call
+callWith book table body caller out = call book table body (askedBy caller (length out))

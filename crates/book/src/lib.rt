@@ -63,6 +63,11 @@ pub struct Book {
     pub live: usize,
 }
 
+// What a call is given besides book, table, body and output: the time bytes of its AA.
+pub struct Caller {
+    pub time: [u8; acknowledgment::TIME_WIDTH],
+}
+
 // A live pool: under which message ID it came, its lot's ordinal there, its trade, the three matched fields as bytes,
 // its current face in cents, its lot's kind (1 good, 2 odd, 3 bad) and millions.
 #[repr(C)]
@@ -78,38 +83,17 @@ pub struct Pool {
     pub millions: u64,
 }
 
-// Why a frame or an opening is refused, in the order of the checks.
+// Whether a refusal moves nothing and writes nothing, or is told by an AA.
+pub const SILENT: bool = true;
+
+pub const TOLD: bool = false;
+
+// Why a frame or an opening is refused: who causes it, with the paper's number and whether it is silent.
 pub enum Reason {
-    Opening,
-    Unsound,
-    Spent,
-    ShortOutput,
-    Length,
-    Sequence,
-    Duplicate,
-    MessageType,
-    Version,
-    Filler,
-    Amounts,
-    Parties,
-    Cancel,
-    LotForm,
-    Groups,
-    Sums,
-    Replacements,
-    Settlement,
-    ReasonCode,
-    NoTradeId,
-    Target,
-    TradeId,
-    Terms,
-    Millions,
-    Faces,
-    Variance,
-    Repeated,
-    Listed,
-    Par,
-    TableFull,
+    Operator(u64, bool),
+    Line(u64, bool),
+    Sender(u64, bool),
+    Trader(u64, bool),
 }
 
 // What a list of checks says: all pass, or the first that fails.

@@ -9,7 +9,7 @@ use lib.Dec.{eqb, leb, ltb}
 use borrow.Author.Tests.{leb-true, eqb-true, lt-ltb, le-ltb, ne-eqb}
 use Rattle.lists.proofs.Tests.{and-left, and-right}
 use Rattle.calendar.specs.Calendar.{firstYear, lastYear, monthsOfYear, daysOfWeek, monthOf, dayOf, yearOf, leap, daysOfMonth, daysOfMonths, daysOfYears, dayNumber, weekdayOf, isDate}
-use Rattle.calendar.proofs.Tables.{below}
+use Rattle.lists.proofs.Below.{below}
 
 -- from 1990 to 2099
 abbrev YEARS : ℕ

@@ -1,4 +1,3 @@
-pub mod Tables
 pub mod Days
 pub mod Holidays
 pub mod Business

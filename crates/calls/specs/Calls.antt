@@ -3,6 +3,7 @@ use Prim.Native.Nat.{ℕ}
 use mathlib.Core.Path.{_≡_}
 use mathlib.Core.List.{List}
 use mathlib.Core.Bool.{true, false}
+use Rattle.book.specs.declared.Caller.{Caller}
 use Rattle.book.specs.declared.Values.{Values}
 use Rattle.book.specs.declared.Book.{Book}
 use Rattle.book.specs.declared.Pool.{Pool}
@@ -15,11 +16,11 @@ use Rattle.calls.specs.declared.Opened.{Opened}
 use Rattle.calls.specs.declared.Stepped.{Stepped}
 
 -- a frame call: answer, book, table and output after it are those of the definitions
-pub record Framed (b : Book) (pools : List Pool) (body time out : List ℕ) (r : Stepped) (pools′ : List Pool) (out′ : List ℕ) : Type 0 where
-  pub answer : r .answer ≡ answerOf (callWith b pools body out)
-  pub book : r .book ≡ bookAfter (callWith b pools body out)
-  pub table : pools′ ≡ tableAfter (callWith b pools body out)
-  pub output : out′ ≡ outputAfter (callWith b pools body out) time out
+pub record Framed (b : Book) (pools : List Pool) (body : List ℕ) (caller : Caller) (out : List ℕ) (r : Stepped) (pools′ : List Pool) (out′ : List ℕ) : Type 0 where
+  pub answer : r .answer ≡ answerOf (callWith b pools body caller out)
+  pub book : r .book ≡ bookAfter (callWith b pools body caller out)
+  pub table : pools′ ≡ tableAfter (callWith b pools body caller out)
+  pub output : out′ ≡ outputAfter (callWith b pools body caller out) out
 
 -- an opening: whether 41 lets it pass, and the opened book in either case; zeros in the table where it passes, and the table as it was where it does not
 pub record Opens (v : Values) (pools : List Pool) (r : Opened) (pools′ : List Pool) : Type 0 where

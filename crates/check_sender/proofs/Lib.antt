@@ -1,3 +1,3 @@
 pub mod Guards
-pub mod Numbered
+pub mod Keyed
 pub mod Trying

@@ -5,18 +5,22 @@ use book::Verdict;
 use message_type::MessageType;
 use sequence::Arrival;
 ghost use mathlib.Core.Path.{_≡_};
+ghost use Prim.Native.Nat.{ℕ};
 ghost use mathlib.Core.List.{List};
 ghost use mathlib.Core.Bool.{cond, _&&_};
+ghost use Rattle.book.specs.declared.Caller.{Caller};
 ghost use Rattle.book.specs.declared.Pool.{Pool};
-ghost use Rattle.book.specs.declared.Reason.the-variants.{NoTradeId};
+ghost use Rattle.book.specs.Checks.{call, senderChecks, firstFailing, askedBy};
+ghost use Rattle.book.specs.Reasons.{told};
+ghost use Rattle.book.specs.declared.Reason.the-variants as by;
 ghost use Rattle.book.specs.declared.Verdict.the-variants.{Passes, Fails};
 ghost use Rattle.book.specs.Messages.{typeOf};
-ghost use Rattle.book.specs.Checks.{isDuplicate, numbersSpent, repeatsLast, typeUnknown, amountsFail, partiesFail, lotFormFails, groupsFail, sumsFail, replacementsFail, settlementFails, reasonFails, tradeIdMissing, firstFailing};
+ghost use Rattle.book.specs.Checks.{isDuplicate, numbersSpent, sequenceRepeats, typeUnknown, amountsFail, partiesFail, lotFormFails, groupsFail, sumsFail, replacementsFail, settlementFails, reasonFails, tradeIdMissing};
 ghost use Rattle.message_type.specs.Questions.{isOther, isCc, isCx, isDk, bringsLots};
-ghost use Rattle.check_sender.specs.Order.{senderChecks, numbered, failsIn};
+ghost use Rattle.check_sender.specs.Order.{withKey};
 
-// The checks before the last one, 25, by their numbers, in the order in which they are tried.
-const ORDER: [u8; 17] = [
+// The checks by their keys, in the order in which they are tried.
+const ORDER: [u8; CHECKS] = [
     43,
     44,
     10,
@@ -34,9 +38,10 @@ const ORDER: [u8; 17] = [
     22,
     23,
     24,
+    25,
 ];
 
-const CHECKS: usize = 17;
+const CHECKS: usize = 18;
 
 fn is_duplicate(a: Arrival) -> bool
     ensures { λ r. ⌜ r ≡ isDuplicate a ⌝ }
@@ -51,7 +56,7 @@ fn is_duplicate(a: Arrival) -> bool
 
 // 43: the last ID is the highest, or fewer than two outbound numbers are left.
 fn is_spent(book: Book) -> bool
-    ensures { λ r. ⌜ r ≡ numbersSpent (book .values) ⌝ }
+    ensures { λ r. ⌜ ((body : List ℕ) → r ≡ numbersSpent (book .values) body) ⌝ }
 {
     let outbound = book.values.outbound;
     (book::ELEVEN_DIGITS_MAX <= book.values.lastMessageId) | sequence::spent(outbound)
@@ -59,7 +64,7 @@ fn is_spent(book: Book) -> bool
 
 // 12: the sequence number is the last one received.
 fn repeats(book: Book, body: &[u8]) -> bool
-    ensures { λ r. ⌜ r ≡ repeatsLast (book .line) (now (body .entry)) ⌝ }
+    ensures { λ r. ⌜ r ≡ sequenceRepeats (book .line) (now (body .entry)) ⌝ }
 {
     let line = book.line;
     let number = header::arrived(body);
@@ -161,7 +166,7 @@ fn reason_fails(body: &[u8]) -> bool
 
 // 25 of a DK: its trade ID.
 fn id_verdict(body: &[u8]) -> Verdict
-    ensures { λ r. ⌜ r ≡ cond (isDk (typeOf (now (body .entry))) && tradeIdMissing (now (body .entry))) (Fails NoTradeId) Passes ⌝ }
+    ensures { λ r. ⌜ r ≡ cond (isDk (typeOf (now (body .entry))) && tradeIdMissing (now (body .entry))) (Fails (by.Sender 25 told)) Passes ⌝ }
 {
     if !message_type::is_dk(header::message_type(body)) {
         return Verdict::Passes;
@@ -169,69 +174,55 @@ fn id_verdict(body: &[u8]) -> Verdict
     header::id_verdict(body)
 }
 
-// Whether a message fails the check with a number.
-fn fails(book: Book, body: &[u8], room: usize, number: u8) -> bool
-    ensures { λ r. ⌜ ((table : List Pool) → r ≡ failsIn (numbered number) (record { book = book; table = table; body = now (body .entry); room = room })) ⌝ }
+// What a test says, as a verdict.
+fn verdict(fails: bool, reason: Reason) -> Verdict
+    ensures { λ r. ⌜ r ≡ cond fails (Fails reason) Passes ⌝ }
 {
-    match number {
-        43 => is_spent(book),
-        44 => room < book::ROOM_LEAST,
-        10 => !header::length_fits(body),
-        11 => header::sequence_fails(body),
-        12 => repeats(book, body),
-        13 => is_unknown(body),
-        14 => header::version_wrong(body),
-        15 => !header::fillers_fine(body),
-        16 => amounts_fail(book, body),
-        17 => parties_fail(book, body),
-        18 => is_cancel(body),
-        19 => lots_fail(body),
-        20 => groups_fail(body),
-        21 => sums_fail(body),
-        22 => replacements_fail(body),
-        23 => settlement_fails(book, body),
-        24 => reason_fails(body),
-        _ => false,
+    if fails {
+        return Verdict::Fails(reason);
     }
+    Verdict::Passes
 }
 
-// The reason that a number stands for.
-fn reason_of(number: u8) -> Reason
-    ensures { λ r. ⌜ r ≡ numbered number .reason ⌝ }
+// What the check with a key says.
+fn verdict_of(book: Book, body: &[u8], room: usize, key: u8) -> Verdict
+    ensures { λ r. ⌜ ((table : List Pool) (caller : Caller) → r ≡ firstFailing (withKey key senderChecks) (call book table (now (body .entry)) (askedBy caller room))) ⌝ }
 {
-    match number {
-        43 => Reason::Spent,
-        44 => Reason::ShortOutput,
-        10 => Reason::Length,
-        11 => Reason::Sequence,
-        12 => Reason::Duplicate,
-        13 => Reason::MessageType,
-        14 => Reason::Version,
-        15 => Reason::Filler,
-        16 => Reason::Amounts,
-        17 => Reason::Parties,
-        18 => Reason::Cancel,
-        19 => Reason::LotForm,
-        20 => Reason::Groups,
-        21 => Reason::Sums,
-        22 => Reason::Replacements,
-        23 => Reason::Settlement,
-        24 => Reason::ReasonCode,
-        _ => Reason::Opening,
+    match key {
+        43 => verdict(is_spent(book), Reason::Operator(43, book::SILENT)),
+        44 => verdict(room < book::ROOM_LEAST, Reason::Operator(44, book::SILENT)),
+        10 => verdict(!header::length_fits(body), Reason::Line(10, book::SILENT)),
+        11 => verdict(header::sequence_fails(body), Reason::Line(11, book::SILENT)),
+        12 => verdict(repeats(book, body), Reason::Line(12, book::TOLD)),
+        13 => verdict(is_unknown(body), Reason::Sender(13, book::TOLD)),
+        14 => verdict(header::version_wrong(body), Reason::Sender(14, book::TOLD)),
+        15 => verdict(!header::fillers_fine(body), Reason::Sender(15, book::TOLD)),
+        16 => verdict(amounts_fail(book, body), Reason::Sender(16, book::TOLD)),
+        17 => verdict(parties_fail(book, body), Reason::Sender(17, book::TOLD)),
+        18 => verdict(is_cancel(body), Reason::Sender(18, book::TOLD)),
+        19 => verdict(lots_fail(body), Reason::Sender(19, book::TOLD)),
+        20 => verdict(groups_fail(body), Reason::Sender(20, book::TOLD)),
+        21 => verdict(sums_fail(body), Reason::Sender(21, book::TOLD)),
+        22 => verdict(replacements_fail(body), Reason::Sender(22, book::TOLD)),
+        23 => verdict(settlement_fails(book, body), Reason::Sender(23, book::TOLD)),
+        24 => verdict(reason_fails(body), Reason::Sender(24, book::TOLD)),
+        25 => id_verdict(body),
+        _ => Verdict::Passes,
     }
 }
 
 // The first check that fails.
 pub fn first_of_sender(book: Book, body: &[u8], room: usize) -> Verdict
-    ensures { λ r. ⌜ ((table : List Pool) → r ≡ firstFailing senderChecks (record { book = book; table = table; body = now (body .entry); room = room })) ⌝ }
+    ensures { λ r. ⌜ ((table : List Pool) (caller : Caller) → r ≡ firstFailing senderChecks (call book table (now (body .entry)) (askedBy caller room))) ⌝ }
 {
     let mut i: usize = 0;
     while i < CHECKS {
-        let number = ORDER[i];
+        let key = ORDER[i];
         i += 1;
-        if fails(book, body, room, number) {
-            return Verdict::Fails(reason_of(number));
-        }
+        let said = verdict_of(book, body, room, key);
+        let Verdict::Passes = said else {
+            return said;
+        };
     }
-    id_verdict(body)
+    Verdict::Passes
 }

@@ -16,7 +16,8 @@ use Rattle.trade_id.specs.declared.TradeId.{TradeId}
 use Rattle.trade_id.specs.declared.TradeId.the-variants.{Whole, Broken, Absent}
 use Rattle.trade_id.proofs.TradeId.{the-type}
 use Rattle.book.specs.declared.Trade.{Trade}
-use Rattle.book.specs.declared.Reason.the-variants as reason
+use Rattle.book.specs.declared.Reason.the-variants as by
+use Rattle.book.specs.Reasons.{told}
 use Rattle.book.specs.declared.Verdict.{Verdict}
 use Rattle.book.specs.declared.Verdict.the-variants.{Passes, Fails}
 use Rattle.book.specs.Messages.{typeOf, isStipulated, idIn}
@@ -59,7 +60,7 @@ module _ (body : List ℕ) (ts : List Trade) where
   -- ---- 31
   module _ (target : ℕ) where
     abbrev pub verdict : TradeId → Verdict
-    verdict id = cond (idFails body ts target id) (Fails reason.TradeId) Passes
+    verdict id = cond (idFails body ts target id) (Fails (by.Trader 31 told)) Passes
 
     -- without an ID, on FTBA
     pub id-none : (id : TradeId) (b s : Bool) → b ≡ isAbsent id → s ≡ isStipulated body → (b && not s) ≡ true → Passes ≡ verdict id
@@ -70,7 +71,7 @@ module _ (body : List ℕ) (ts : List Trade) where
         rw f
 
     -- an ID that is not whole else
-    pub id-open : (id : TradeId) → isWhole id ≡ false → (b s : Bool) → b ≡ isAbsent id → s ≡ isStipulated body → (b && not s) ≡ false → Fails reason.TradeId ≡ verdict id
+    pub id-open : (id : TradeId) → isWhole id ≡ false → (b s : Bool) → b ≡ isAbsent id → s ≡ isStipulated body → (b && not s) ≡ false → Fails (by.Trader 31 told) ≡ verdict id
     id-open (Whole place n) w b s eb es h = clash refl w
     id-open Broken w b s eb es h = refl
     id-open Absent w b s eb es h =
@@ -78,12 +79,12 @@ module _ (body : List ℕ) (ts : List Trade) where
         rw f
 
     module _ (place n : ℕ) (id : idIn body ≡ Whole place n) (i : ℕ) (is : i ≡ firstTrade (λ (t : Trade) (left : ℕ). isNamedBy body (Whole place n) t) 0 ts (openPars ts)) where
-      decided : (b : Bool) → namedFine body ts target i ≡ b → cond (not b) (Fails reason.TradeId) Passes ≡ verdict (idIn body)
+      decided : (b : Bool) → namedFine body ts target i ≡ b → cond (not b) (Fails (by.Trader 31 told)) Passes ≡ verdict (idIn body)
       decided b e =
-          ap (λ (x : Bool). cond (not x) (Fails reason.TradeId) Passes) (sym e ∙ ap (namedFine body ts target) (is ∙ named-whole place n id))
+          ap (λ (x : Bool). cond (not x) (Fails (by.Trader 31 told)) Passes) (sym e ∙ ap (namedFine body ts target) (is ∙ named-whole place n id))
           ∙ ap verdict (sym id)
 
-      pub id-past : length ts ≤ i → Fails reason.TradeId ≡ verdict (idIn body)
+      pub id-past : length ts ≤ i → Fails (by.Trader 31 told) ≡ verdict (idIn body)
       id-past h = decided false (rw (le-ltb i (length ts) h))
 
       module _ (h : i < length ts) (t : Trade) (d : tradeAt ts i ≡ t) (a o : Bool) (e : a ≡ agrees body t) (f : o ≡ isOn (typeOf body)) where
@@ -93,7 +94,7 @@ module _ (body : List ℕ) (ts : List Trade) where
         pub id-fine : (a && (o || eqb i target)) ≡ true → Passes ≡ verdict (idIn body)
         id-fine g = decided true (fine ∙ g)
 
-        pub id-unlike : (a && (o || eqb i target)) ≡ false → Fails reason.TradeId ≡ verdict (idIn body)
+        pub id-unlike : (a && (o || eqb i target)) ≡ false → Fails (by.Trader 31 told) ≡ verdict (idIn body)
         id-unlike g = decided false (fine ∙ g)
 
   -- ---- 32

@@ -14,7 +14,8 @@ ghost use Rattle.lists.specs.Lists.{any};
 ghost use Rattle.book.specs.Trades.{tradesOf, sideOf, numberIs, priceIs, agrees, firstTrade, broughtWeight, openPars, isNamedBy, tradeOfOn};
 ghost use Rattle.check_terms.specs.Reading.{statedOf};
 ghost use Rattle.trade_id.specs.declared.TradeId.the-variants.{Whole};
-ghost use Rattle.book.specs.declared.Reason.the-variants as reason;
+ghost use Rattle.book.specs.declared.Reason.the-variants as by;
+ghost use Rattle.book.specs.Reasons.{told};
 ghost use Rattle.book.specs.declared.Verdict.the-variants.{Passes, Fails};
 ghost use Rattle.book.specs.Messages.{idIn};
 ghost use Rattle.book.specs.Checks.{idFails, termsFail};
@@ -197,19 +198,19 @@ pub fn trade_of_on(body: &[u8], v: Values) -> usize
 
 // 31: a trade ID that is begun but not whole, or names no trade with agreeing terms, or another than a CC's or DK's target; on FSTI, none.
 pub fn id_verdict(body: &[u8], v: Values, target: usize) -> Verdict
-    ensures { λ r. ⌜ r ≡ cond (idFails (now (body .entry)) (tradesOf v) target (idIn (now (body .entry)))) (Fails reason.TradeId) Passes ⌝ }
+    ensures { λ r. ⌜ r ≡ cond (idFails (now (body .entry)) (tradesOf v) target (idIn (now (body .entry)))) (Fails (by.Trader 31 told)) Passes ⌝ }
 {
     let id = header::trade_id_in(body);
     if is_absent(id) & !header::is_stipulated(body) {
         return Verdict::Passes;
     }
     let TradeId::Whole { place, length } = id else {
-        return Verdict::Fails(Reason::TradeId);
+        return Verdict::Fails(Reason::Trader(31, book::TOLD));
     };
     let i = find_named(body, v, place, length);
     let n = header::lesser(v.tradeCount, book::TRADES_MAX);
     if n <= i {
-        return Verdict::Fails(Reason::TradeId);
+        return Verdict::Fails(Reason::Trader(31, book::TOLD));
     }
     let message = header::message_type(body);
     let t = v.trades[i];
@@ -217,7 +218,7 @@ pub fn id_verdict(body: &[u8], v: Values, target: usize) -> Verdict
     if agrees(body, t) & concerned {
         return Verdict::Passes;
     }
-    Verdict::Fails(Reason::TradeId)
+    Verdict::Fails(Reason::Trader(31, book::TOLD))
 }
 
 // 32: without a trade ID, no trade's terms agree with an ON's, or the target's with a CC's or DK's.

@@ -1,4 +1,4 @@
--- The last three of the trader's checks, 37, 38 and 40, and what an accepted message moves.
+-- The checks by what moves, 37, 38 and 40, and what an accepted message moves.
 use Prim.Native.Nat.{ℕ, _+_, _≤_, _<_}
 use native.Mathlib.Omega.{arith}
 use mathlib.Core.Path.{_≡_, refl, sym, ap, _∙_}
@@ -19,14 +19,15 @@ use Rattle.message_type.specs.declared.MessageType.the-variants.{On, Cc, Dk, Cx
 use Rattle.book.specs.declared.Book.{Book}
 use Rattle.book.specs.declared.Pool.{Pool}
 use Rattle.book.specs.declared.Reason.{Reason}
-use Rattle.book.specs.declared.Reason.the-variants as reason
+use Rattle.book.specs.declared.Reason.the-variants as by
+use Rattle.book.specs.Reasons.{told}
 use Rattle.book.specs.declared.Verdict.the-variants.{Passes, Fails}
 use Rattle.book.specs.Records.{fieldsOf, noPool, weightOfRecords}
 use Rattle.book.specs.Messages.{typeOf, targetOf, under, listed, listedOf}
 use Rattle.book.specs.Trades.{tradesOf, openPars, broughtWeight, tradeOfOn}
 use Rattle.book.specs.Opening.{recordsMax}
-use Rattle.book.specs.Soundness.{recordFine, Sound}
-use Rattle.book.specs.Checks.{Check, live, targetTrade, tradeAt, concerned, concernedFor, isTaken, taken, listedFine, parFine, tableFine, checks, firstFailing}
+use Rattle.book.specs.Soundness.{recordFine, heldIn, Sound}
+use Rattle.book.specs.Checks.{Check, live, targetTrade, tradeAt, concerned, concernedBy, concernedFor, isTaken, taken, listedFine, parFine, tableFine, termsChecks, movesChecks, traderChecks, firstFailing, Asked}
 use Rattle.message_type.specs.Questions.{isOn, isCc, bringsLots, listsLots}
 use Rattle.book.proofs.ListLaws.{all-keep}
 use Rattle.book.proofs.Ordered.{ordered-keep}
@@ -45,17 +46,17 @@ use Rattle.check_listed.specs.declared.Listed.{Listed}
 use Rattle.check_listed.specs.Listing.{Findable, Takes}
 use Rattle.check_soundness.proofs.Whole.{few-trades, light}
 use Rattle.check_trader.specs.declared.Decision.{Decision}
-use Rattle.check_trader.specs.Decisions.{traderChecks, callOn, Ready, refusedWith, DecidedBy}
-use Rattle.check_trader.proofs.Firsts.{fails-not, first-late}
+use Rattle.check_trader.specs.Decisions.{callOn, Ready, refusedWith, DecidedBy}
+use Rattle.book.proofs.Firsts.{fails-not, first-late}
 
 same-reason : (r q : Reason) → Fails r ≡ Fails q → r ≡ q
 same-reason r q e = cc
 
 -- a refused decision holds nothing else
-pub refused-by : (ks : List Check) (book : Book) (ns ks′ : List (List ℕ)) (body : List ℕ) (room : ℕ) (d : Decision) (r : Reason) → d ≡ refusedWith r
-    → Fails r ≡ firstFailing ks (callOn book ns ks′ body room) → DecidedBy ks (callOn book ns ks′ body room) d
+pub refused-by : (ks : List Check) (book : Book) (ns ks′ : List (List ℕ)) (body : List ℕ) (asked : Asked) (d : Decision) (r : Reason) → d ≡ refusedWith r
+    → Fails r ≡ firstFailing ks (callOn book ns ks′ body asked) → DecidedBy ks (callOn book ns ks′ body asked) d
 unfolding refusedWith
-refused-by ks book ns ks′ body room d r ed f =
+refused-by ks book ns ks′ body asked d r ed f =
     let e : d .verdict ≡ Fails r = ap (λ (x : Decision). x .verdict) ed in
     record {
       verdict = e ∙ f;
@@ -142,10 +143,10 @@ module _ (book : Book) (ns ks : List (List ℕ)) (body : List ℕ) (y : Ready bo
             rw (le-ltb (run .start) (run .stop) (omega (arith, n))) (run-trade-none body (take (book .live) (tableOf ns ks)) e)
 
   -- ---- 37, 38 and 40
-  module _ (room : ℕ) (k : MessageType) (on cc : Bool) (ek : k ≡ typeOf body) (eo : on ≡ isOn k) (ec : cc ≡ isCc k) (target : ℕ)
+  module _ (asked : Asked) (k : MessageType) (on cc : Bool) (ek : k ≡ typeOf body) (eo : on ≡ isOn k) (ec : cc ≡ isCc k) (target : ℕ)
       (et : targetTrade body (take (book .live) (tableOf ns ks)) ≡ target) (t : Listed) (tk : Takes body (take (book .live) (tableOf ns ks)) t) where
-    pub listed-fails : not (t .fine) ≡ true → Fails reason.Listed ≡ firstFailing (drop 7 traderChecks) (callOn book ns ks body room)
-    unfolding traderChecks checks
+    pub listed-fails : not (t .fine) ≡ true → Fails (by.Trader 37 told) ≡ firstFailing movesChecks (callOn book ns ks body asked)
+    unfolding movesChecks
     listed-fails h = rw (takes-not (listsLots (typeOf body)) (listedFine body (take (book .live) (tableOf ns ks))) (t .fine) (tk .fine) (not-true (t .fine) h))
 
     module _ (h37 : not (t .fine) ≡ false) (off brought trade : ℕ)
@@ -154,8 +155,8 @@ module _ (book : Book) (ns ks : List (List ℕ)) (body : List ℕ) (y : Ready bo
       tests : (listsLots (typeOf body) && not (listedFine body (take (book .live) (tableOf ns ks)))) ≡ false
       tests = takes-all (listsLots (typeOf body)) (listedFine body (take (book .live) (tableOf ns ks))) (t .fine) (tk .fine) (not-false (t .fine) h37)
 
-      pub concerned-is : trade ≡ concerned (callOn book ns ks body room)
-      unfolding concerned
+      pub concerned-is : trade ≡ concerned (callOn book ns ks body asked)
+      unfolding concernedBy
       concerned-is = er ∙ rw (eo, ek, sym et) (sym (go (typeOf body)))
         where
           go : (j : MessageType)
@@ -167,7 +168,7 @@ module _ (book : Book) (ns ks : List (List ℕ)) (body : List ℕ) (y : Ready bo
           go Cx = refl
           go Other = refl
 
-      pub off-is : off ≡ weightOfRecords (taken (callOn book ns ks body room))
+      pub off-is : off ≡ weightOfRecords (taken (callOn book ns ks body asked))
       off-is =
           ef ks
           ∙ ap (runSum weightShare 0 0)
@@ -177,20 +178,20 @@ module _ (book : Book) (ns ks : List (List ℕ)) (body : List ℕ) (y : Ready bo
           (all-keep (recordFine (book .values)) (isTaken (targetOf body) (listed body)) (take (book .live) (tableOf ns ks)) (sure .records))
 
       module _ (p : Bool) (ep : p ≡ (ltb trade (length (tradesOf (book .values))) && leb brought (tradeAt (tradesOf (book .values)) trade .openPar + off))) where
-        par-is : p ≡ parFine (callOn book ns ks body room)
+        par-is : p ≡ parFine (book .values) (take (book .live) (tableOf ns ks)) body
         par-is = rw (sym concerned-is, sym off-is, sym eb) ep
 
         module _ (b : Bool) (ebo : b ≡ (on || cc)) where
           both-is : b ≡ bringsLots (typeOf body)
           both-is = ebo ∙ rw (eo, ec, ek)
 
-          pub par-fails : (b && not p) ≡ true → Fails reason.Par ≡ firstFailing (drop 7 traderChecks) (callOn book ns ks body room)
-          unfolding traderChecks checks
+          pub par-fails : (b && not p) ≡ true → Fails (by.Trader 38 told) ≡ firstFailing movesChecks (callOn book ns ks body asked)
+          unfolding movesChecks
           par-fails h = rw (tests, rw (both-is, par-is) at h)
 
           module _ (h38 : (b && not p) ≡ false) (q : Bool)
               (eq : formedFor cc (details body) ≡ true → q ≡ leb (book .live + length (newPools (details body))) (length ns + cond cc (length (keep isCanceled (details body))) 0)) where
-            fits-is : bringsLots (typeOf body) ≡ true → q ≡ tableFine (callOn book ns ks body room)
+            fits-is : bringsLots (typeOf body) ≡ true → q ≡ tableFine book (heldIn book (tableOf ns ks)) body
             unfolding listed
             fits-is o = eq (rw (ec, ek) (y .formed o)) ∙ rw (size, length-table ns ks, ec, ek) (ap (λ (n : ℕ). leb (book .live + length (newPools (details body))) (length ns + n)) (go (typeOf body) o))
               where
@@ -201,20 +202,20 @@ module _ (book : Book) (ns ks : List (List ℕ)) (body : List ℕ) (y : Ready bo
                 go Cx o = absurd (true≢false (sym o))
                 go Other o = absurd (true≢false (sym o))
 
-            both-fits : (x : Bool) → (b && not q) ≡ x → (bringsLots (typeOf body) && not (tableFine (callOn book ns ks body room))) ≡ x
+            both-fits : (x : Bool) → (b && not q) ≡ x → (bringsLots (typeOf body) && not (tableFine book (heldIn book (tableOf ns ks)) body)) ≡ x
             both-fits x h = go (bringsLots (typeOf body)) refl
               where
-                go : (o : Bool) → bringsLots (typeOf body) ≡ o → (bringsLots (typeOf body) && not (tableFine (callOn book ns ks body room))) ≡ x
+                go : (o : Bool) → bringsLots (typeOf body) ≡ o → (bringsLots (typeOf body) && not (tableFine book (heldIn book (tableOf ns ks)) body)) ≡ x
                 go true e = rw (sym (fits-is e), sym both-is) h
                 go false e = rw e (rw (both-is, e) at h)
 
-            pub table-fails : (b && not q) ≡ true → Fails reason.TableFull ≡ firstFailing (drop 7 traderChecks) (callOn book ns ks body room)
-            unfolding traderChecks checks
+            pub table-fails : (b && not q) ≡ true → Fails (by.Operator 40 told) ≡ firstFailing movesChecks (callOn book ns ks body asked)
+            unfolding movesChecks
             table-fails h = rw (tests, rw (both-is, par-is) at h38, both-fits true h)
 
             pub all-pass : (b && not q) ≡ false
-                → DecidedBy (drop 7 traderChecks) (callOn book ns ks body room) (record { verdict = Passes; trade = trade; off = off; brought = brought; marks = t .marks })
-            unfolding traderChecks checks
+                → DecidedBy movesChecks (callOn book ns ks body asked) (record { verdict = Passes; trade = trade; off = off; brought = brought; marks = t .marks })
+            unfolding movesChecks
             all-pass h =
                 record {
                   verdict = rw (tests, rw (both-is, par-is) at h38, both-fits false h);
@@ -227,11 +228,11 @@ module _ (book : Book) (ns ks : List (List ℕ)) (body : List ℕ) (y : Ready bo
                 }
 
 -- ---- all ten
-pub decided-late : (book : Book) (ns ks : List (List ℕ)) (body : List ℕ) (room : ℕ) (d : Decision) → Passes ≡ firstFailing (take 7 traderChecks) (callOn book ns ks body room)
-    → DecidedBy (drop 7 traderChecks) (callOn book ns ks body room) d → DecidedBy traderChecks (callOn book ns ks body room) d
-decided-late book ns ks body room d e m =
+pub decided-late : (book : Book) (ns ks : List (List ℕ)) (body : List ℕ) (asked : Asked) (d : Decision) → Passes ≡ firstFailing termsChecks (callOn book ns ks body asked)
+    → DecidedBy movesChecks (callOn book ns ks body asked) d → DecidedBy traderChecks (callOn book ns ks body asked) d
+decided-late book ns ks body asked d e m =
     record {
-      verdict = m .verdict ∙ sym (first-late (callOn book ns ks body room) 7 traderChecks (sym e));
+      verdict = m .verdict ∙ sym (first-late (callOn book ns ks body asked) termsChecks movesChecks (sym e));
       refused = m .refused;
       trade = m .trade;
       off = m .off;

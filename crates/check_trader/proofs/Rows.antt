@@ -1,9 +1,8 @@
--- The first seven of the trader's checks, 30 to 36, as seven tests in a row, each with the type that it is for.
+-- The trader's checks by target, trade, terms and new pools, 30 to 36, as seven tests in a row, each with the type that it is for.
 use Prim.Native.Nat.{ℕ}
 use mathlib.Core.Path.{_≡_, refl, sym, _∙_}
 use mathlib.Core.List.{List}
 use mathlib.Core.Bool.{Bool, true, false, cond, not, _&&_, _||_}
-use lib.ListN.{take}
 use native.Mathlib.Omega.{arith}
 use denote.Enum.Declared.{tagOf}
 use borrow.Author.Tests.{not-false, not-true}
@@ -13,25 +12,25 @@ use Rattle.book.specs.declared.Book.{Book}
 use Rattle.book.specs.declared.Values.{Values}
 use Rattle.book.specs.declared.Pool.{Pool}
 use Rattle.book.specs.declared.Reason.{Reason}
-use Rattle.book.specs.declared.Reason.the-variants as reason
+use Rattle.book.specs.declared.Reason.the-variants as by
+use Rattle.book.specs.Reasons.{told}
 use Rattle.book.specs.declared.Verdict.{Verdict}
 use Rattle.book.specs.declared.Verdict.the-variants.{Passes, Fails}
 use Rattle.book.proofs.Verdict.{the-type}
 use Rattle.book.specs.Messages.{typeOf, idIn, targetOf, under}
 use Rattle.book.specs.Trades.{tradesOf}
 use Rattle.book.specs.Soundness.{liveOf}
-use Rattle.book.specs.Checks.{idFails, termsFail, millionsFail, newFacesFail, newLotsFail, newPoolsRepeat, targetTrade, checks, firstFailing}
+use Rattle.book.specs.Checks.{idFails, termsFail, millionsFail, newFacesFail, newLotsFail, newPoolsRepeat, targetTrade, call, termsChecks, firstFailing, Asked}
 use Rattle.message_type.specs.Questions.{isOn, isCc, isDk, bringsLots, listsLots}
 use Rattle.book.proofs.ListLaws.{neither-left}
-use Rattle.check_trader.specs.Decisions.{traderChecks}
-use Rattle.check_trader.proofs.Firsts.{fails-not}
+use Rattle.book.proofs.Firsts.{fails-not}
 
 abbrev row : Bool → Bool → Bool → Bool → Bool → Bool → Bool → Verdict
 row a b c d e f g =
-    cond a (Fails reason.Target)
-    (cond b (Fails reason.TradeId)
-    (cond c (Fails reason.Terms)
-    (cond d (Fails reason.Millions) (cond e (Fails reason.Faces) (cond f (Fails reason.Variance) (cond g (Fails reason.Repeated) Passes))))))
+    cond a (Fails (by.Trader 30 told))
+    (cond b (Fails (by.Trader 31 told))
+    (cond c (Fails (by.Trader 32 told))
+    (cond d (Fails (by.Trader 33 told)) (cond e (Fails (by.Trader 34 told)) (cond f (Fails (by.Trader 35 told)) (cond g (Fails (by.Trader 36 told)) Passes))))))
 
 -- a test by the verdict that it gives
 failed : (v : Verdict) (b : Bool) (r : Reason) → v ≡ cond b (Fails r) Passes → tagOf the-type v ≡ 1 → b ≡ true
@@ -57,28 +56,28 @@ module _ (v : Values) (body : List ℕ) (there : Bool) (target : ℕ) where
   -- what the function promises of a verdict
   abbrev pub First : Verdict → Type 0
   First r =
-      (book : Book) (table : List Pool) (room : ℕ) → book .values ≡ v → any (under (targetOf body)) (liveOf book table) ≡ there
+      (book : Book) (table : List Pool) (asked : Asked) → book .values ≡ v → any (under (targetOf body)) (liveOf book table) ≡ there
       → targetTrade body (liveOf book table) ≡ target
-      → r ≡ firstFailing (take 7 traderChecks) (record { book = book; table = table; body = body; room = room })
+      → r ≡ firstFailing termsChecks (call book table body asked)
 
   by-row : (r : Verdict) → r ≡ rowFor → First r
-  unfolding traderChecks checks
-  by-row r e book table room ev et eg = rw (et, eg, ev) e
+  unfolding termsChecks
+  by-row r e book table asked ev et eg = rw (et, eg, ev) e
 
   module _ (k : MessageType) (on cc dk : Bool) (ek : k ≡ typeOf body) (eo : on ≡ isOn k) (ec : cc ≡ isCc k) (ed : dk ≡ isDk k) where
-    pub target-fails : ((cc || dk) && not there) ≡ true → First (Fails reason.Target)
-    target-fails a = by-row (Fails reason.Target) (rw (rw (ec, ed, ek) at a))
+    pub target-fails : ((cc || dk) && not there) ≡ true → First (Fails (by.Trader 30 told))
+    target-fails a = by-row (Fails (by.Trader 30 told)) (rw (rw (ec, ed, ek) at a))
 
-    module _ (id : Verdict) (ei : id ≡ cond (idFails body (tradesOf v) target (idIn body)) (Fails reason.TradeId) Passes) (a : ((cc || dk) && not there) ≡ false) where
+    module _ (id : Verdict) (ei : id ≡ cond (idFails body (tradesOf v) target (idIn body)) (Fails (by.Trader 31 told)) Passes) (a : ((cc || dk) && not there) ≡ false) where
       pub id-fails : tagOf the-type id ≡ 1 → First id
-      id-fails b = by-row id (ei ∙ rw (rw (ec, ed, ek) at a, failed id (idFails body (tradesOf v) target (idIn body)) reason.TradeId ei b))
+      id-fails b = by-row id (ei ∙ rw (rw (ec, ed, ek) at a, failed id (idFails body (tradesOf v) target (idIn body)) (by.Trader 31 told) ei b))
 
       module _ (tf : Bool) (et : tf ≡ termsFail body (tradesOf v) target (idIn body)) (passes : id ≡ Passes) where
         b : idFails body (tradesOf v) target (idIn body) ≡ false
-        b = passed (idFails body (tradesOf v) target (idIn body)) reason.TradeId (sym passes ∙ ei)
+        b = passed (idFails body (tradesOf v) target (idIn body)) (by.Trader 31 told) (sym passes ∙ ei)
 
-        pub terms-fail : tf ≡ true → First (Fails reason.Terms)
-        terms-fail c = by-row (Fails reason.Terms) (rw (rw (ec, ed, ek) at a, b, sym et ∙ c))
+        pub terms-fail : tf ≡ true → First (Fails (by.Trader 32 told))
+        terms-fail c = by-row (Fails (by.Trader 32 told)) (rw (rw (ec, ed, ek) at a, b, sym et ∙ c))
 
         module _ (c : tf ≡ false) where
           -- for a DK there are no more
@@ -98,22 +97,22 @@ module _ (v : Values) (body : List ℕ) (there : Bool) (target : ℕ) where
             millions : (x : Bool) → (on && m) ≡ x → (isOn (typeOf body) && millionsFail body) ≡ x
             millions x e = rw (eo, ek, em) at e
 
-            pub millions-fail : (on && m) ≡ true → First (Fails reason.Millions)
-            millions-fail e = by-row (Fails reason.Millions) (rw (rw (ec, ed, ek) at a, b, sym et ∙ c, millions true e))
+            pub millions-fail : (on && m) ≡ true → First (Fails (by.Trader 33 told))
+            millions-fail e = by-row (Fails (by.Trader 33 told)) (rw (rw (ec, ed, ek) at a, b, sym et ∙ c, millions true e))
 
             module _ (f : Bool) (ef : f ≡ newFacesFail v body) (e : (on && m) ≡ false) where
-              pub faces-fail : f ≡ true → First (Fails reason.Faces)
-              faces-fail g = by-row (Fails reason.Faces) (rw (rw (ec, ed, ek) at a, b, sym et ∙ c, millions false e, more, sym ef ∙ g))
+              pub faces-fail : f ≡ true → First (Fails (by.Trader 34 told))
+              faces-fail g = by-row (Fails (by.Trader 34 told)) (rw (rw (ec, ed, ek) at a, b, sym et ∙ c, millions false e, more, sym ef ∙ g))
 
               module _ (l : Bool) (el : l ≡ newLotsFail v body) (g : f ≡ false) where
-                pub lots-fail : l ≡ true → First (Fails reason.Variance)
+                pub lots-fail : l ≡ true → First (Fails (by.Trader 35 told))
                 lots-fail h =
-                    by-row (Fails reason.Variance) (rw (rw (ec, ed, ek) at a, b, sym et ∙ c, millions false e, more, sym ef ∙ g, sym el ∙ h))
+                    by-row (Fails (by.Trader 35 told)) (rw (rw (ec, ed, ek) at a, b, sym et ∙ c, millions false e, more, sym ef ∙ g, sym el ∙ h))
 
                 module _ (p : Bool) (ep : p ≡ newPoolsRepeat body) (h : l ≡ false) where
-                  pub pools-repeat : p ≡ true → First (Fails reason.Repeated)
+                  pub pools-repeat : p ≡ true → First (Fails (by.Trader 36 told))
                   pools-repeat i =
-                      by-row (Fails reason.Repeated)
+                      by-row (Fails (by.Trader 36 told))
                       (rw (rw (ec, ed, ek) at a, b, sym et ∙ c, millions false e, more, sym ef ∙ g, sym el ∙ h, sym ep ∙ i))
 
                   pub all-pass : p ≡ false → First Passes

@@ -3,7 +3,7 @@ use Prim.Native.Nat.{ℕ, _<_}
 use mathlib.Core.List.{List}
 use mathlib.Core.Bool.{true, not}
 use mathlib.Core.Path.{_≡_}
-use lib.ListN.{length, drop, getD, replicate}
+use lib.ListN.{length, getD, replicate}
 use lib.Dec.{eqb}
 use Rattle.book.specs.declared.Book.{Book}
 use Rattle.book.specs.declared.Reason.{Reason}
@@ -15,19 +15,15 @@ use Rattle.book.specs.Messages.{typeOf, targetOf, listed}
 use Rattle.book.specs.Trades.{broughtWeight}
 use Rattle.book.specs.Opening.{recordsMax}
 use Rattle.book.specs.Soundness.{isSound}
-use Rattle.book.specs.Checks.{Call, Check, live, checks, firstFailing, concerned, isTaken, taken}
+use Rattle.book.specs.Checks.{Call, Check, call, live, firstFailing, concerned, isTaken, taken, Asked}
 use Rattle.message_type.specs.Questions.{isCc, bringsLots}
 use Rattle.rows.specs.Rows.{tableOf}
 use Rattle.check_listed.specs.Listing.{marksTaken}
 use Rattle.check_trader.specs.declared.Decision.{Decision}
 
--- 30 to 40: what comes after 42 and the eighteen checks of operator, line and sender
-unfoldable pub traderChecks : List Check
-traderChecks = drop 19 checks
-
 -- a call on the table of two lent slices
-abbrev pub callOn : Book → List (List ℕ) → List (List ℕ) → List ℕ → ℕ → Call
-callOn book numbers keys body room = record { book = book; table = tableOf numbers keys; body = body; room = room }
+abbrev pub callOn : Book → List (List ℕ) → List (List ℕ) → List ℕ → Asked → Call
+callOn book numbers keys body asked = call book (tableOf numbers keys) body asked
 
 -- what is known when the trader's turn comes: 42 has passed, and 19 of an ON and a CC
 pub record Ready (book : Book) (numbers keys : List (List ℕ)) (body : List ℕ) : Type 0 where

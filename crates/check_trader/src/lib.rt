@@ -8,7 +8,7 @@ use rows_find::Run;
 ghost use mathlib.Core.Path.{_≡_};
 ghost use mathlib.Core.Bool.{true, cond, _&&_};
 ghost use Prim.Native.Nat.{ℕ, _+_, _≤_, _<_};
-ghost use lib.ListN.{length, take, drop};
+ghost use lib.ListN.{length, take};
 ghost use lib.Dec.{leb, ltb};
 ghost use Rattle.lists.specs.Lists.{any, keep};
 ghost use Rattle.terminator.specs.Terminators.{isCanceled};
@@ -19,13 +19,13 @@ ghost use Rattle.book.specs.Messages.{targetOf, under};
 ghost use Rattle.book.specs.Trades.{tradesOf, tradeOfOn, openPars};
 ghost use Rattle.book.specs.Opening.{recordsMax};
 ghost use Rattle.book.specs.Soundness.{liveOf};
-ghost use Rattle.book.specs.Checks.{targetTrade, tradeAt, firstFailing};
+ghost use Rattle.book.specs.Checks.{call, targetTrade, tradeAt, termsChecks, movesChecks, traderChecks, firstFailing, Asked};
 ghost use Rattle.message_type.specs.Questions.{isOn, isCc, isDk};
 ghost use Rattle.book.specs.declared.Pool.{Pool};
 ghost use Rattle.book.specs.declared.Book.{Book};
 ghost use mathlib.Core.List.{List};
 ghost use Rattle.rows.specs.Rows.{tableOf, numberAt};
-ghost use Rattle.check_trader.specs.Decisions.{traderChecks, callOn, Ready, refusedWith, DecidedBy};
+ghost use Rattle.check_trader.specs.Decisions.{callOn, Ready, refusedWith, DecidedBy};
 
 // What the trader's checks decide, and what an accepted message moves: its trade, the weight that it takes off, the weight that it brings,
 // and a mark on each record that it takes off.
@@ -39,7 +39,7 @@ pub struct Decision {
 
 // 30 to 36, where it is known whether the target has live pools, and of which trade.
 fn first_of_terms(v: Values, body: &[u8], there: bool, target: usize) -> Verdict
-    ensures { λ r. ⌜ ((book : Book) (table : List Pool) (room : ℕ) → book .values ≡ v → any (under (targetOf (now (body .entry)))) (liveOf book table) ≡ there → targetTrade (now (body .entry)) (liveOf book table) ≡ target → r ≡ firstFailing (take 7 traderChecks) (record { book = book; table = table; body = now (body .entry); room = room })) ⌝ }
+    ensures { λ r. ⌜ ((book : Book) (table : List Pool) (asked : Asked) → book .values ≡ v → any (under (targetOf (now (body .entry)))) (liveOf book table) ≡ there → targetTrade (now (body .entry)) (liveOf book table) ≡ target → r ≡ firstFailing termsChecks (call book table (now (body .entry)) asked)) ⌝ }
 {
     let kind = header::message_type(body);
     let on = message_type::is_on(kind);
@@ -47,29 +47,29 @@ fn first_of_terms(v: Values, body: &[u8], there: bool, target: usize) -> Verdict
     let dk = message_type::is_dk(kind);
     let limits = v.limits;
     if (cc | dk) & !there {
-        return Verdict::Fails(Reason::Target);
+        return Verdict::Fails(Reason::Trader(30, book::TOLD));
     }
     let id = check_terms::id_verdict(body, v, target);
     let Verdict::Passes = id else {
         return id;
     };
     if check_terms::terms_fail(body, v, target) {
-        return Verdict::Fails(Reason::Terms);
+        return Verdict::Fails(Reason::Trader(32, book::TOLD));
     }
     if !(on | cc) {
         return Verdict::Passes;
     }
     if on & header::millions_fail(body) {
-        return Verdict::Fails(Reason::Millions);
+        return Verdict::Fails(Reason::Trader(33, book::TOLD));
     }
     if faces::faces_fail(body, limits.least) {
-        return Verdict::Fails(Reason::Faces);
+        return Verdict::Fails(Reason::Trader(34, book::TOLD));
     }
     if new_lots::lots_fail(body, limits.variance, limits.poolsAMillion) {
-        return Verdict::Fails(Reason::Variance);
+        return Verdict::Fails(Reason::Trader(35, book::TOLD));
     }
     if check_once::repeated(body) {
-        return Verdict::Fails(Reason::Repeated);
+        return Verdict::Fails(Reason::Trader(36, book::TOLD));
     }
     Verdict::Passes
 }
@@ -121,7 +121,7 @@ fn par_fits(
 }
 
 // The trade of the target's records.
-fn target_trade(numbers: &[[u64; 6]], run: Run) -> usize
+fn target_trade(numbers: &[[u64; rows::NUMBERS]], run: Run) -> usize
     requires { ⌜ run .stop ≤ length (now numbers) ⌝ }
     ensures { λ r. ⌜ r ≡ cond (ltb (run .start) (run .stop)) (numberAt (now (numbers .entry)) (run .start) 2) 0 ⌝ }
 {
@@ -159,14 +159,14 @@ fn refused(reason: Reason) -> Decision
 // 37, 38 and 40, where the target's trade is known, and what an accepted message moves.
 fn decide_moves(
     book: Book,
-    numbers: &[[u64; 6]],
-    keys: &[[u8; 22]],
+    numbers: &[[u64; rows::NUMBERS]],
+    keys: &[[u8; rows::KEY_WIDTH]],
     body: &[u8],
     target: usize,
 ) -> Decision
     requires { ⌜ Ready book (now numbers) (now keys) (now body) ⌝ }
     requires { ⌜ targetTrade (now body) (liveOf book (tableOf (now numbers) (now keys))) ≡ target ⌝ }
-    ensures { λ r. ⌜ ((room : ℕ) → DecidedBy (drop 7 traderChecks) (callOn book (now (numbers .entry)) (now (keys .entry)) (now (body .entry)) room) r) ⌝ }
+    ensures { λ r. ⌜ ((asked : Asked) → DecidedBy movesChecks (callOn book (now (numbers .entry)) (now (keys .entry)) (now (body .entry)) asked) r) ⌝ }
 {
     let values = book.values;
     let live = book.live;
@@ -176,7 +176,7 @@ fn decide_moves(
     let cc = message_type::is_cc(kind);
     let found = check_listed::find_listed(body, numbers, keys, live);
     if !found.fine {
-        return refused(Reason::Listed);
+        return refused(Reason::Trader(37, book::TOLD));
     }
     let marks = found.marks;
     let off = rows_find::weight_of_marked(numbers, &marks, live);
@@ -184,10 +184,10 @@ fn decide_moves(
     let trade = concerned_by(body, values, on, target);
     let both = on | cc;
     if both & !par_fits(trades, values.tradeCount, trade, off, brought) {
-        return refused(Reason::Par);
+        return refused(Reason::Trader(38, book::TOLD));
     }
     if both & !table_fits(body, cc, live, numbers.len()) {
-        return refused(Reason::TableFull);
+        return refused(Reason::Operator(40, book::TOLD));
     }
     Decision {
         verdict: Verdict::Passes,
@@ -199,9 +199,14 @@ fn decide_moves(
 }
 
 // Decides 30 to 40.
-pub fn decide(book: Book, numbers: &[[u64; 6]], keys: &[[u8; 22]], body: &[u8]) -> Decision
+pub fn decide(
+    book: Book,
+    numbers: &[[u64; rows::NUMBERS]],
+    keys: &[[u8; rows::KEY_WIDTH]],
+    body: &[u8],
+) -> Decision
     requires { ⌜ Ready book (now numbers) (now keys) (now body) ⌝ }
-    ensures { λ r. ⌜ ((room : ℕ) → DecidedBy traderChecks (callOn book (now (numbers .entry)) (now (keys .entry)) (now (body .entry)) room) r) ⌝ }
+    ensures { λ r. ⌜ ((asked : Asked) → DecidedBy traderChecks (callOn book (now (numbers .entry)) (now (keys .entry)) (now (body .entry)) asked) r) ⌝ }
 {
     let values = book.values;
     let run = rows_find::target_run(numbers, book.live, body);

@@ -12,13 +12,13 @@ use Rattle.framing.specs.Framing.{nextFrame}
 use Rattle.book.specs.declared.Book.{Book}
 use Rattle.book.specs.declared.Pool.{Pool}
 use Rattle.book.specs.Reasons.{isAccepted}
-use Rattle.book.specs.Checks.{Call, answerOf, roomLeast}
+use Rattle.book.specs.Checks.{Call, answerOf, roomLeast, askedBy}
 use Rattle.book.specs.Step.{bookAfter, tableAfter}
 use Rattle.book.specs.Promise.{Put, callOf, after, afterAll, fed}
 use Rattle.calls.specs.declared.Stepped.{Stepped}
 use Rattle.calls.specs.Calls.{Framed}
 use Rattle.day.specs.declared.Going.{Going}
-use Rattle.day.specs.Tape.{bodyThen, bodiesFrom, bodiesOf, putOf, putsOf}
+use Rattle.day.specs.Tape.{bodyThen, bodiesFrom, bodiesOf, putOf, putsOf, midnight}
 use Rattle.day.specs.Days.{stateOf, acceptedAmong, othersAmong, Passes}
 use Rattle.day.specs.Turns.{framesIn, placeOf, placeAfter, bodyIn, begunOf, countedOf, callIn, turn, turns}
 
@@ -57,18 +57,18 @@ unfolding outgoing
 outgoing-long n = length-replicate n 0
 
 -- a frame call, counted, is a turn
-pub turned : (tape : List ℕ) (g : Going) (pools : List Pool) (time out : List ℕ) (r : Stepped) (pools′ : List Pool) (out′ : List ℕ) → length out ≡ roomLeast
-    → Framed (g .day .book) pools (bodyIn tape (placeAfter tape (g .at))) time out r pools′ out′
+pub turned : (tape : List ℕ) (g : Going) (pools : List Pool) (out : List ℕ) (r : Stepped) (pools′ : List Pool) (out′ : List ℕ) → length out ≡ roomLeast
+    → Framed (g .day .book) pools (bodyIn tape (placeAfter tape (g .at))) midnight out r pools′ out′
     → (g′ : Going) → g′ ≡ countedOf g (r .book) (isAccepted (r .answer)) (placeAfter tape (g .at) .next)
     → (g′ ≡ turn tape g pools .0) × (pools′ ≡ turn tape g pools .1)
 unfolding turn
-turned tape g pools time out r pools′ out′ room f g′ e = (
+turned tape g pools out r pools′ out′ room f g′ e = (
   e ∙ (λ i. countedOf g ((f .book ∙ ap (λ (n : ℕ). bookAfter (on n)) room) i) (isAccepted ((f .answer ∙ ap (λ (n : ℕ). answerOf (on n)) room) i)) (placeAfter tape (g .at) .next)),
   f .table ∙ ap (λ (n : ℕ). tableAfter (on n)) room,
 )
   where
     on : ℕ → Call
-    on n = callOf (stateOf (g .day .book) pools) (record { body = bodyIn tape (placeAfter tape (g .at)); room = n })
+    on n = callOf (stateOf (g .day .book) pools) (record { body = bodyIn tape (placeAfter tape (g .at)); asked = askedBy midnight n })
 
 module _ (tape : List ℕ) where
   -- the first turn, and then the others

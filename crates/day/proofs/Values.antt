@@ -1,22 +1,15 @@
--- The machine values of what the day passes by value: the day, the day on its way and the place of a frame; and that of the time bytes 000000.
+-- The machine values of what the day passes by value: the day, the day on its way and the place of a frame.
 --     DayR, GoingR, PlaceR     their types in the program logic
 --     dayVal, goingVal, placeVals     their machine values
 --     day-value, going-value, place-value       the laws of these values
---     midnight-is      the time bytes are related to theirs
 --     day-of       what whoever holds a day on its way knows of the day
 -- Assumes nothing.
-use Prim.Native.Nat.{ℕ}
-use mathlib.Core.Path.{refl}
-use mathlib.Core.List.{List, [], _∷_}
-use lib.Dec.{lit<}
-use mir.Syntax.{w8}
-use mir.Val.{Val, vint}
+use mathlib.Core.List.{List}
+use mir.Val.{Val}
 use denote.RattleType.{RattleType}
 use denote.Laws.{Is}
-use denote.Builtin.{u8}
 use denote.Struct.Laws as LL
 use Rattle.slice_laws.proofs.Machine.{Machine, machine}
-use Rattle.table_rows.proofs.Values.{TimeR, timeVals}
 use Rattle.day.specs.declared.Day.{Day}
 use Rattle.day.specs.declared.Going.{Going}
 use Rattle.day.specs.declared.Place.{Place}
@@ -26,17 +19,6 @@ use Rattle.day.proofs.Going as G
 use Rattle.day.proofs.Going.Laws as G′
 use Rattle.day.proofs.Place as P
 use Rattle.day.proofs.Place.Laws as P′
-
--- ---- the time bytes
--- 000000
-abbrev pub midnight : List ℕ
-midnight = 48 ∷ 48 ∷ 48 ∷ 48 ∷ 48 ∷ 48 ∷ []
-
-zero-byte : Is u8 48 (vint w8 48 ∷ [])
-zero-byte = (refl, lit< tt)
-
-pub midnight-is : Is TimeR midnight (timeVals midnight)
-midnight-is = (vint w8 48 ∷ vint w8 48 ∷ vint w8 48 ∷ vint w8 48 ∷ vint w8 48 ∷ vint w8 48 ∷ [], ((refl, refl), (zero-byte, (zero-byte, (zero-byte, (zero-byte, (zero-byte, (zero-byte, tt))))))))
 
 -- ---- the day
 abbrev pub DayR : RattleType

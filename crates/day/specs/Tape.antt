@@ -6,7 +6,8 @@ use Rattle.lists.specs.Lists.{part}
 use Rattle.framing.specs.declared.Frame.{Frame}
 use Rattle.framing.specs.declared.Frame.the-variants.{Body, Nothing}
 use Rattle.framing.specs.Framing.{nextFrame}
-use Rattle.book.specs.Checks.{roomLeast}
+use Rattle.book.specs.declared.Caller.{Caller}
+use Rattle.book.specs.Checks.{roomLeast, askedBy}
 use Rattle.book.specs.Promise.{Put}
 
 -- a frame's body, and then the bodies from the place after it on; none where there is no frame
@@ -23,9 +24,13 @@ bodiesFrom tape (suc n) at = bodyThen tape (bodiesFrom tape n) (nextFrame tape a
 unfoldable pub bodiesOf : List ℕ → List (List ℕ)
 bodiesOf tape = bodiesFrom tape (length tape) 0
 
--- a body, and the room that the day lends for what goes out
+-- the program's time bytes, 000000
+abbrev pub midnight : Caller
+midnight = record { time = 48 ∷ 48 ∷ 48 ∷ 48 ∷ 48 ∷ 48 ∷ [] }
+
+-- a body, with those, and the room that the day lends for what goes out
 abbrev pub putOf : List ℕ → Put
-putOf body = record { body = body; room = roomLeast }
+putOf body = record { body = body; asked = askedBy midnight roomLeast }
 
 -- the calls of a tape
 unfoldable pub putsOf : List ℕ → List Put

@@ -1,11 +1,13 @@
 // A day: every whole frame of a tape is put to a book over a lent table, one after another, and the accepted ones are counted.
 use book::Book;
+use book::Caller;
 use book::Pool;
 use calls::Stepped;
 use framing::Frame;
 ghost use mathlib.Core.Path.{_≡_};
 ghost use Prim.Native.Nat.{_<_, _≤_, _^_};
 ghost use lib.ListN.{length};
+ghost use Rattle.day.specs.Tape.{midnight};
 ghost use Rattle.book.specs.Reasons.{isAccepted};
 ghost use Rattle.day.specs.Days.{Passes};
 ghost use Rattle.day.specs.Turns.{framesIn, placeAfter, countedOf, begunOf, turn};
@@ -133,6 +135,15 @@ fn counted(going: Going, stepped: Stepped, place: Place) -> Going
     }
 }
 
+// The program's time bytes, 000000.
+fn at_midnight() -> Caller
+    ensures { λ r. ⌜ r ≡ midnight ⌝ }
+{
+    Caller {
+        time: [b'0'; acknowledgment::TIME_WIDTH],
+    }
+}
+
 // Puts the next frame of the tape to the book. What goes out is written and dropped.
 fn put_frame(going: Going, pools: &mut [Pool], tape: &[u8]) -> Going
     requires { ⌜ (going .day .accepted < 2 ^ 63) × (going .day .others < 2 ^ 63) ⌝ }
@@ -143,7 +154,7 @@ fn put_frame(going: Going, pools: &mut [Pool], tape: &[u8]) -> Going
     let start = start_of(place);
     let end = end_of(place);
     let mut out = [0u8; book::ROOM_LEAST];
-    let stepped = table_step::step_part(book, pools, tape, start, end, [b'0'; 6], &mut out);
+    let stepped = table_step::step_part(book, pools, tape, start, end, at_midnight(), &mut out);
     counted(going, stepped, place)
 }
 

@@ -1,43 +1,95 @@
--- The rows after a frame call: where the numbers begin with those of an answer they are the tally after that answer, and else they stay.
-use Prim.Native.Nat.{ℕ}
-use mathlib.Core.Path.{_≡_, sym, _∙_}
-use mathlib.Core.List.{List, _++_}
-use mathlib.Core.Bool.{Bool, true, false, not, and-false}
-use lib.ListN.{length, drop}
-use borrow.Author.Tests.{eq-eqb, ne-eqb, not-true, not-false}
-use Rattle.lists.proofs.Tests.{un-true}
+-- The rows after a frame call: the numbers of the call's answer raise what that answer raises, and others leave them.
+use Prim.Native.Nat.{ℕ, _+_}
+use mathlib.Core.Path.{_≡_, refl, sym, ap, _∙_}
+use mathlib.Core.List.{List, [], _∷_, _++_}
+use mathlib.Core.Bool.{Bool, true, false, cond, not, _&&_, and-false}
+use lib.ListN.{length}
+use native.Mathlib.Omega.{arith}
+use borrow.Author.Tests.{eq-eqb, ne-eqb, le-ltb, not-true, not-false}
+use Rattle.lists.specs.Lists.{all}
+use Rattle.message_type.specs.declared.MessageType.{MessageType}
+use Rattle.tally.specs.declared.Outcome.{Outcome}
+use Rattle.tally.specs.declared.Outcome.the-variants as outcome
+use Rattle.tally.specs.Tally.{raised}
+use Rattle.book.specs.declared.Reason.{Reason}
 use Rattle.book.specs.declared.Answer.{Answer}
+use Rattle.book.specs.declared.Answer.the-variants.{Accepted, Rejected, Dked}
+use Rattle.book.specs.declared.Verdict.{Verdict}
+use Rattle.book.specs.declared.Verdict.the-variants.{Passes, Fails}
+use Rattle.book.specs.Messages.{typeOf}
+use Rattle.book.specs.Reasons.{numberOf, isSilentFor, isTraders, refusal}
+use Rattle.book.specs.Checks.{Call, Check, soundnessChecks, senderChecks, termsChecks, movesChecks, checks, firstFailing, answerTo, answerOf}
 use Rattle.book.specs.Step.{tallyAfter}
-use Rattle.exports_numbers.specs.Said.{saidOf, isSaid, answerIn}
-use Rattle.exports_numbers.proofs.Saying.{said-again, heard-again, only-said}
+use Rattle.book.proofs.Firsts.{first-among}
+use Rattle.message_type.specs.Questions.{answersAsDk}
+use Rattle.exports_numbers.specs.declared.Heard.{Heard}
+use Rattle.exports_numbers.specs.Said.{saidOf, isTold, heard, heardAs, heardIn}
 use Rattle.exports_book.specs.Tally.{rowsAfter}
 
+-- a check's number is told just where its reason is not silent
+abbrev tells : Reason → Bool
+tells r = cond (isSilentFor r) (not (isTold (numberOf r))) (isTold (numberOf r))
+
+tells-all : all (λ (k : Check). tells (k .reason)) checks ≡ true
+unfolding isTold soundnessChecks senderChecks termsChecks movesChecks
+tells-all = refl
+
+told-is : (r : Reason) → tells r ≡ true → isTold (numberOf r) ≡ not (isSilentFor r)
+told-is r e = go (isSilentFor r) e
+  where
+    go : (s : Bool) → cond s (not (isTold (numberOf r))) (isTold (numberOf r)) ≡ true → isTold (numberOf r) ≡ not s
+    go true h = not-true (isTold (numberOf r)) h
+    go false h = h
+
+swapped : (s : Bool) (x y : List (List ℕ)) → cond (not s) x y ≡ cond s y x
+swapped true x y = refl
+swapped false x y = refl
+
+heard-two : (x y : ℕ) (rest : List ℕ) → heardIn (x ∷ y ∷ rest) ≡ heardAs x y
+unfolding heardIn
+heard-two x y rest = rw (le-ltb (length (x ∷ y ∷ rest)) 2 (omega arith))
+
 module _ (body : List ℕ) (rows : List (List ℕ)) where
-  -- an answer's numbers raise what that answer raises
-  pub counted : (a : Answer) (rest : List ℕ) → length rows ≡ 4 → rowsAfter body (saidOf a ++ rest) rows ≡ tallyAfter body a rows
-  unfolding rowsAfter
-  counted a rest h = rw (eq-eqb (length rows) 4 h, said-again a rest, heard-again a rest)
+  abbrev raisedBy : Heard → List (List ℕ)
+  raisedBy h = cond (h .told) (raised rows (typeOf body) (h .outcome)) rows
+
+  -- what a reason's numbers raise, rejected or DKed
+  tells-raise : (x : ℕ) (r : Reason) (rest : List ℕ) (o : Outcome) → heardAs x (numberOf r) ≡ heard (isTold (numberOf r)) o → tells r ≡ true
+      → raisedBy (heardIn (x ∷ numberOf r ∷ rest)) ≡ cond (isSilentFor r) rows (raised rows (typeOf body) o)
+  tells-raise x r rest o e t =
+      ap raisedBy (heard-two x (numberOf r) rest ∙ e) ∙ ap (λ (b : Bool). cond b (raised rows (typeOf body) o) rows) (told-is r t)
+      ∙ swapped (isSilentFor r) (raised rows (typeOf body) o) rows
+
+  -- the numbers of a call's answer raise what that answer raises
+  pub counted : (c : Call) (rest : List ℕ) → length rows ≡ 4 → rowsAfter body (saidOf (answerOf c) ++ rest) rows ≡ tallyAfter body (answerOf c) rows
+  unfolding rowsAfter heardAs tallyAfter answerOf
+  counted c rest h = rw (eq-eqb (length rows) 4 h) (go (firstFailing checks c) refl)
+    where
+      refused : (r : Reason) → tells r ≡ true → (b : Bool)
+          → raisedBy (heardIn (saidOf (cond b (Dked r) (Rejected r)) ++ rest)) ≡ tallyAfter body (cond b (Dked r) (Rejected r)) rows
+      refused r t true = tells-raise 2 r rest outcome.Dked refl t
+      refused r t false = tells-raise 1 r rest outcome.Rejected refl t
+
+      go : (v : Verdict) → firstFailing checks c ≡ v → raisedBy (heardIn (saidOf (answerTo c v) ++ rest)) ≡ tallyAfter body (answerTo c v) rows
+      go Passes e = ap raisedBy (heard-two 0 (c .book .values .lastMessageId + 1) rest)
+      go (Fails r) e = refused r (first-among tells c checks r tells-all e) (isTraders r && not (answersAsDk (typeOf (c .body))))
 
   module _ (said : List ℕ) where
-    -- numbers that no answer says raise nothing
-    pub unsaid : ((a : Answer) (rest : List ℕ) → said ≡ saidOf a ++ rest → ⊥) → rowsAfter body said rows ≡ rows
-    unfolding rowsAfter
-    unsaid none = let e : isSaid said ≡ false = un-true (isSaid said) (λ s. none (answerIn said) (drop 2 said) (only-said said s)) in
-        rw (e, and-false)
-
     -- rows that are not four stay
     pub not-four-stay : (length rows ≡ 4 → ⊥) → rows ≡ rowsAfter body said rows
     unfolding rowsAfter
     not-four-stay h = rw (ne-eqb (length rows) 4 h)
 
-    module _ (fine : Bool) (fine-is : fine ≡ isSaid said) where
-      pub not-heard : not fine ≡ true → rows ≡ rowsAfter body said rows
+    module _ (h : Heard) (is : h ≡ heardIn said) where
+      pub not-heard : not (h .told) ≡ true → rows ≡ rowsAfter body said rows
       unfolding rowsAfter
-      not-heard n = let e : isSaid said ≡ false = sym fine-is ∙ not-true fine n in rw (e, and-false)
+      not-heard n =
+          let e : heardIn said .told ≡ false = ap (λ (x : Heard). x .told) (sym is) ∙ not-true (h .told) n in
+          rw (e, and-false)
 
-      pub was-heard : (a : Answer) (before after rows′ : List (List ℕ)) → length rows ≡ 4 → (fine ≡ true → a ≡ answerIn said) → not fine ≡ false
-          → before ≡ rows → after ≡ tallyAfter body a before → rows′ ≡ after → rows′ ≡ rowsAfter body said rows
+      pub was-heard : (k : MessageType) (before after rows′ : List (List ℕ)) → length rows ≡ 4 → not (h .told) ≡ false
+          → before ≡ rows → k ≡ typeOf body → after ≡ raised before k (h .outcome) → rows′ ≡ after → rows′ ≡ rowsAfter body said rows
       unfolding rowsAfter
-      was-heard a before after rows′ h ea n eb et er =
-          let e : isSaid said ≡ true = sym fine-is ∙ not-false fine n in
-          rw (eq-eqb (length rows) 4 h, e) (er ∙ rw (ea (not-false fine n), eb) at et)
+      was-heard k before after rows′ l n eb ek et er =
+          let e : heardIn said .told ≡ true = ap (λ (x : Heard). x .told) (sym is) ∙ not-false (h .told) n in
+          rw (eq-eqb (length rows) 4 l, e) (er ∙ et ∙ rw (eb, ek, is))

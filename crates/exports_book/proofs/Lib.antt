@@ -1,4 +1,3 @@
 pub mod Reading
 mod Writing
-mod Tallying
-mod Counting
+pub mod Counting

@@ -5,6 +5,7 @@ use mathlib.Core.List.{List}
 use mathlib.Core.Bool.{Bool, true, false, _&&_}
 use lib.ListN.{length}
 use lib.Dec.{eqb}
+use Rattle.book.specs.declared.Caller.{Caller}
 use Rattle.book.specs.declared.Values.{Values}
 use Rattle.book.specs.declared.Book.{Book}
 use Rattle.book.specs.Opening.{valuesFine}
@@ -12,6 +13,10 @@ use Rattle.image.specs.Images.{isImage, bookIn}
 
 abbrev pub timeWidth : ℕ
 timeWidth = 6
+
+-- what lent time bytes give a call
+abbrev pub callerOf : List ℕ → Caller
+callerOf time = record { time = time }
 
 -- words that are a book's, and six time bytes
 unfoldable pub callable : List ℕ → List ℕ → Bool

@@ -1,24 +1,20 @@
 // What the calls for C and Rust do on either side of a call on the table: the book that words say, the answer and the book after a call written, a trade's figures, a frame and a tally in numbers.
-use book::Answer;
 use book::Book;
+use book::Caller;
 use book::Values;
 use calls::Figures;
 use calls::Opened;
 use calls::Stepped;
 use framing::Frame;
-use tally::Tally;
 ghost use mathlib.Core.Path.{_≡_};
 ghost use mathlib.Core.Bool.{true, false};
 ghost use lib.ListN.{length};
 ghost use Rattle.lists.specs.Lists.{pasted};
 ghost use Rattle.book.specs.Opening.{valuesFine};
-ghost use Rattle.book.specs.Step.{tallyAfter};
 ghost use Rattle.image.specs.Images.{isImage};
-ghost use Rattle.exports_book.specs.Reading.{timeWidth, callable, Reads, ReadsValues};
+ghost use Rattle.exports_book.specs.Reading.{timeWidth, callerOf, callable, Reads, ReadsValues};
 ghost use Rattle.exports_book.specs.Writing.{Finishes, OpensTo, figuresNumbers, frameNumbers};
 ghost use Rattle.exports_book.specs.Tally.{rowsAfter};
-
-const TIME_WIDTH: usize = 6;
 
 // The number of an opening that is refused.
 const REFUSED: u64 = 41;
@@ -50,17 +46,21 @@ pub fn start(image: &[u64], time: &[u8]) -> Book
 {
     let read = image_reading::read_book(image);
     let book = read.book;
-    refused_unless(read.fine & (time.len() == TIME_WIDTH), book)
+    refused_unless(read.fine & (time.len() == acknowledgment::TIME_WIDTH), book)
 }
 
-// The time bytes, where they are six.
-pub fn six_of(time: &[u8]) -> [u8; 6]
-    ensures { λ r. ⌜ (length (now (time .entry)) ≡ timeWidth → r ≡ now (time .entry)) ⌝ }
+// What the time bytes give a call, where they are six.
+pub fn caller_of(time: &[u8]) -> Caller
+    ensures { λ r. ⌜ (length (now (time .entry)) ≡ timeWidth → r ≡ callerOf (now (time .entry))) ⌝ }
 {
-    if time.len() != TIME_WIDTH {
-        return [0; 6];
+    if time.len() != acknowledgment::TIME_WIDTH {
+        return Caller {
+            time: [0; acknowledgment::TIME_WIDTH],
+        };
     }
-    [time[0], time[1], time[2], time[3], time[4], time[5]]
+    Caller {
+        time: [time[0], time[1], time[2], time[3], time[4], time[5]],
+    }
 }
 
 // Writes the answer in two numbers, and of the book after the call what can have moved: nothing after a silent refusal, and all but the trades after any other.
@@ -110,19 +110,7 @@ pub fn put_figures(out: &mut [u64], f: Figures)
     exports_numbers::put_numbers(&mut *out, &three);
 }
 
-// The tally goes in and comes back; it stands beside the frame call.
-fn tally_after(body: &[u8], said: Answer, tally: Tally) -> Tally
-    ensures { λ r. ⌜ r ≡ tallyAfter (now (body .entry)) said tally ⌝ }
-{
-    if answers::is_silent(said) {
-        return tally;
-    }
-    let kind = header::message_type(body);
-    let outcome = answers::outcome_of(said);
-    tally::raise(tally, kind, outcome)
-}
-
-// The tally after a frame call: raised by the message's type and the answer that two numbers say. A slice that is not four rows stays as it is, and so does any where no answer says the numbers.
+// The tally after a frame call: raised by the message's type and what the two numbers tell. A slice that is not four rows stays as it is, and so does any where no AA tells the numbers.
 pub fn count(rows: &mut [[u32; 3]], body: &[u8], said: &[u64])
     ensures { λ _. ⌜ now (rows .exit) ≡ rowsAfter (now (body .entry)) (now (said .entry)) (now (rows .entry)) ⌝ }
 {
@@ -130,12 +118,13 @@ pub fn count(rows: &mut [[u32; 3]], body: &[u8], said: &[u64])
         return;
     }
     let heard = exports_numbers::hear(said);
-    if !heard.fine {
+    if !heard.told {
         return;
     }
-    let answer = heard.answer;
+    let outcome = heard.outcome;
+    let kind = header::message_type(body);
     let before = tally::tally_of(rows);
-    let after = tally_after(body, answer, before);
+    let after = tally::raise(before, kind, outcome);
     tally::put_rows(&mut *rows, after);
 }
 

@@ -1,19 +1,15 @@
-// Numbers for C and Rust: an answer in two numbers and the answer that two numbers say, and numbers written into a lent slice.
+// Numbers for C and Rust: an answer in two numbers, what two numbers tell the tally, and numbers written into a lent slice.
 use book::Answer;
-use book::Reason;
+use tally::Outcome;
 ghost use mathlib.Core.Path.{_≡_};
-ghost use Rattle.exports_numbers.specs.Said.{saidOf, reasonOf, answerSaid, heardIn};
+ghost use Rattle.exports_numbers.specs.Said.{saidOf, isTold, heardAs, heardIn};
 ghost use Rattle.lists.specs.Lists.{pasted};
 ghost use Rattle.exports_numbers.specs.Bit.{bit};
 
-const ACCEPTED: u64 = 0;
-
-const REJECTED: u64 = 1;
-
-// What was read, and whether an answer says it.
+// What two numbers tell the tally: whether an answer that an AA tells says them, and its column.
 pub struct Heard {
-    pub fine: bool,
-    pub answer: Answer,
+    pub told: bool,
+    pub outcome: Outcome,
 }
 
 // An answer in two numbers.
@@ -27,76 +23,51 @@ pub fn said_of(answer: Answer) -> [u64; 2]
     }
 }
 
-// The reason of a number.
-fn reason_of(number: u64) -> Reason
-    ensures { λ r. ⌜ r ≡ reasonOf number ⌝ }
+// The numbers that an AA tells: 12 to 25, 30 to 38 and 40.
+fn is_told(number: u64) -> bool
+    ensures { λ r. ⌜ r ≡ isTold number ⌝ }
 {
-    match number {
-        10 => Reason::Length,
-        11 => Reason::Sequence,
-        12 => Reason::Duplicate,
-        13 => Reason::MessageType,
-        14 => Reason::Version,
-        15 => Reason::Filler,
-        16 => Reason::Amounts,
-        17 => Reason::Parties,
-        18 => Reason::Cancel,
-        19 => Reason::LotForm,
-        20 => Reason::Groups,
-        21 => Reason::Sums,
-        22 => Reason::Replacements,
-        23 => Reason::Settlement,
-        24 => Reason::ReasonCode,
-        25 => Reason::NoTradeId,
-        30 => Reason::Target,
-        31 => Reason::TradeId,
-        32 => Reason::Terms,
-        33 => Reason::Millions,
-        34 => Reason::Faces,
-        35 => Reason::Variance,
-        36 => Reason::Repeated,
-        37 => Reason::Listed,
-        38 => Reason::Par,
-        40 => Reason::TableFull,
-        41 => Reason::Opening,
-        42 => Reason::Unsound,
-        43 => Reason::Spent,
-        _ => Reason::ShortOutput,
+    let sender = (12 <= number) & (number <= 25);
+    let trader = (30 <= number) & (number <= 38);
+    (sender | trader) | (number == 40)
+}
+
+// What two numbers tell.
+fn hear_as(first: u64, second: u64) -> Heard
+    ensures { λ r. ⌜ r ≡ heardAs first second ⌝ }
+{
+    let told = is_told(second);
+    match first {
+        0 => Heard {
+            told: true,
+            outcome: Outcome::Accepted,
+        },
+        1 => Heard {
+            told: told,
+            outcome: Outcome::Rejected,
+        },
+        2 => Heard {
+            told: told,
+            outcome: Outcome::Dked,
+        },
+        _ => Heard {
+            told: false,
+            outcome: Outcome::Accepted,
+        },
     }
 }
 
-// The one answer that two numbers could say.
-fn answer_of(first: u64, second: u64) -> Answer
-    ensures { λ r. ⌜ r ≡ answerSaid first second ⌝ }
-{
-    if first == ACCEPTED {
-        return Answer::Accepted(second);
-    }
-    let reason = reason_of(second);
-    if first == REJECTED {
-        return Answer::Rejected(reason);
-    }
-    Answer::Dked(reason)
-}
-
-// Reads an answer from the first two numbers of a slice. Numbers that no answer says are told.
+// Reads the first two numbers of a slice. Fewer tell nothing.
 pub fn hear(said: &[u64]) -> Heard
     ensures { λ r. ⌜ r ≡ heardIn (now (said .entry)) ⌝ }
 {
     if said.len() < 2 {
         return Heard {
-            fine: false,
-            answer: Answer::Accepted(0),
+            told: false,
+            outcome: Outcome::Accepted,
         };
     }
-    let first = said[0];
-    let second = said[1];
-    let answer = answer_of(first, second);
-    let two = said_of(answer);
-    Heard {
-        fine: (first == two[0]) & (second == two[1]),
-        answer: answer,
-    }
+    hear_as(said[0], said[1])
 }
 
 // A yes or a no as a number.

@@ -7,7 +7,8 @@ use denote.Enum.Declared.{tagOf}
 use Rattle.trade_id.proofs.TradeId as code
 use Rattle.trade_id.specs.declared.TradeId.{TradeId}
 use Rattle.trade_id.specs.declared.TradeId.the-variants.{Whole, Broken, Absent}
-use Rattle.book.specs.declared.Reason.the-variants.{NoTradeId}
+use Rattle.book.specs.declared.Reason.the-variants as by
+use Rattle.book.specs.Reasons.{told}
 use Rattle.book.specs.declared.Verdict.{Verdict}
 use Rattle.book.specs.declared.Verdict.the-variants.{Passes, Fails}
 use Rattle.book.specs.Checks.{isWhole}
@@ -20,12 +21,12 @@ not-whole Absent k = refl
 
 -- 25 by its two tests
 abbrev verdict : Bool → Bool → Verdict
-verdict s w = cond (s && not w) (Fails NoTradeId) Passes
+verdict s w = cond (s && not w) (Fails (by.Sender 25 told)) Passes
 
 pub not-stipulated : (s w : Bool) → s ≡ false → Passes ≡ verdict s w
 not-stipulated s w e = rw e
 
-pub without : (s w : Bool) → s ≡ true → w ≡ false → Fails NoTradeId ≡ verdict s w
+pub without : (s w : Bool) → s ≡ true → w ≡ false → Fails (by.Sender 25 told) ≡ verdict s w
 without s w e f = rw (e, f)
 
 pub with-one : (s w : Bool) → s ≡ true → w ≡ true → Passes ≡ verdict s w

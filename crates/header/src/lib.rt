@@ -20,7 +20,8 @@ ghost use Rattle.book.specs.Opening.{tradesMax};
 ghost use Rattle.book.specs.Checks.{notNumber, atMost, isNoSequence, sequenceFails, arrived, versionWrong, blankIn, fillersFine, isSide, partiesFine, amountsWrong, replacementsFail, isBusinessDate, settlementFails, reasonFails, tradeIdMissing, millionsFail};
 ghost use mathlib.Core.Bool.{cond};
 ghost use lib.Dec.{eqb, leb};
-ghost use Rattle.book.specs.declared.Reason.the-variants.{NoTradeId};
+ghost use Rattle.book.specs.declared.Reason.the-variants as by;
+ghost use Rattle.book.specs.Reasons.{told};
 ghost use Rattle.book.specs.declared.Verdict.the-variants.{Passes, Fails};
 
 // The lesser of two numbers.
@@ -242,14 +243,14 @@ pub fn reason_fails(body: &[u8]) -> bool
 
 // 25: a stipulated DK without a whole trade ID.
 pub fn id_verdict(body: &[u8]) -> Verdict
-    ensures { λ r. ⌜ r ≡ cond (tradeIdMissing (now (body .entry))) (Fails NoTradeId) Passes ⌝ }
+    ensures { λ r. ⌜ r ≡ cond (tradeIdMissing (now (body .entry))) (Fails (by.Sender 25 told)) Passes ⌝ }
 {
     if !is_stipulated(body) {
         return Verdict::Passes;
     }
     let id = trade_id_in(body);
     let TradeId::Whole { .. } = id else {
-        return Verdict::Fails(Reason::NoTradeId);
+        return Verdict::Fails(Reason::Sender(25, book::TOLD));
     };
     Verdict::Passes
 }

@@ -53,3 +53,7 @@ listsAll t = isDk t
 -- the buyer of a trade submits a DK, the seller every other
 abbrev pub buyerSubmits : MessageType → Bool
 buyerSubmits t = isDk t
+
+-- a trader's number on a DK is rejected, where it DKs every other
+abbrev pub answersAsDk : MessageType → Bool
+answersAsDk t = isDk t

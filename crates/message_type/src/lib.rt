@@ -1,6 +1,6 @@
 // The types of a message, and the questions that the rules ask of them.
 ghost use mathlib.Core.Path.{_≡_};
-ghost use Rattle.message_type.specs.Questions.{isOn, isCc, isDk, isCx, isOther, bringsLots, listsLots, listsAll, buyerSubmits};
+ghost use Rattle.message_type.specs.Questions.{isOn, isCc, isDk, isCx, isOther, bringsLots, listsLots, listsAll, buyerSubmits, answersAsDk};
 
 // The four types of the tally, and every other.
 pub enum MessageType {
@@ -112,6 +112,13 @@ pub fn lists_all(t: MessageType) -> bool
 // The buyer of a trade submits a DK, the seller every other.
 pub fn buyer_submits(t: MessageType) -> bool
     ensures { λ r. ⌜ r ≡ buyerSubmits t ⌝ }
+{
+    is_dk(t)
+}
+
+// A trader's number on it is rejected, where it DKs every other.
+pub fn answers_as_dk(t: MessageType) -> bool
+    ensures { λ r. ⌜ r ≡ answersAsDk t ⌝ }
 {
     is_dk(t)
 }

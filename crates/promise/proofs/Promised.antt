@@ -5,6 +5,7 @@ use mathlib.Core.Path.{_≡_, sym, ap, _∙_}
 use mathlib.Core.List.{List}
 use mathlib.Core.Bool.{true, false}
 use lib.ListN.{length}
+use Rattle.book.specs.declared.Caller.{Caller}
 use Rattle.book.specs.declared.Values.{Values}
 use Rattle.lists.proofs.Tests.{_∈_}
 use Rattle.book.specs.declared.Book.{Book}
@@ -14,7 +15,7 @@ use Rattle.book.specs.Records.{Fields}
 use Rattle.book.specs.Messages.{targetOf, listed}
 use Rattle.book.specs.Opening.{openingFine}
 use Rattle.book.specs.Soundness.{Sound}
-use Rattle.book.specs.Checks.{lotFields, answerOf}
+use Rattle.book.specs.Checks.{lotFields, answerOf, askedBy}
 use Rattle.book.specs.History.{Brought, Fed, atOpening, history, isTarget, takesOff}
 use Rattle.book.specs.Promise.{State, Put, callOf, after, openedState, Demand3}
 use Rattle.book.proofs.Demand3.{Trace, done, next, traced, traced-not-twice, traced-brought-before, refused-keeps}
@@ -28,15 +29,15 @@ use Rattle.promise.specs.Runs.{Run}
 -- a run of calls is a run of the definitions
 pub run-trace : {s s″ : State} {fs : List Fed} → Run s fs s″ → Trace s fs s″
 run-trace runs.done = done
-run-trace (runs.next {s} {s″} {fs} body time out r pools out′ f rest) =
-    next (record { body = body; room = length out }) (r .answer) (f .book) (f .table) (f .answer) (run-trace rest)
+run-trace (runs.next {s} {s″} {fs} body caller out r pools out′ f rest) =
+    next (record { body = body; asked = askedBy caller (length out) }) (r .answer) (f .book) (f .table) (f .answer) (run-trace rest)
 
 -- demand 1: a call that refuses, on any book and table, changes no trade, no live pool and no message ID
-pub calls-refused-keep : (s : State) (body time out : List ℕ) (r : Stepped) (pools : List Pool) (out′ : List ℕ) → Framed (s .book) (s .table) body time out r pools out′ → isAccepted (r .answer) ≡ false
+pub calls-refused-keep : (s : State) (body : List ℕ) (caller : Caller) (out : List ℕ) (r : Stepped) (pools : List Pool) (out′ : List ℕ) → Framed (s .book) (s .table) body caller out r pools out′ → isAccepted (r .answer) ≡ false
     → (r .book .values .trades ≡ s .book .values .trades) × (r .book .values .lastMessageId ≡ s .book .values .lastMessageId) × (r .book .live ≡ s .book .live) × (pools ≡ s .table)
 unfolding after
-calls-refused-keep s body time out r pools out′ f n =
-    let kept = refused-keeps s (record { body = body; room = length out }) (ap isAccepted (sym (f .answer)) ∙ n) in (
+calls-refused-keep s body caller out r pools out′ f n =
+    let kept = refused-keeps s (record { body = body; asked = askedBy caller (length out) }) (ap isAccepted (sym (f .answer)) ∙ n) in (
       ap (λ (b : Book). b .values .trades) (f .book) ∙ kept .0,
       ap (λ (b : Book). b .values .lastMessageId) (f .book) ∙ kept .1,
       ap (λ (b : Book). b .live) (f .book) ∙ kept .2,
@@ -68,9 +69,9 @@ module _ (v : Values) (pools zeros : List Pool) (r : Opened) (o : Opens v pools 
     calls-sound = traced-sound v pools isOpened s fs from-opening
 
     -- one more call, known by its contract, that is accepted: each lot that it takes off was not yet off
-    module _ (body time out : List ℕ) (x : Stepped) (pools′ : List Pool) (out′ : List ℕ) (f : Framed (s .book) (s .table) body time out x pools′ out′) (ok : isAccepted (x .answer) ≡ true) where
+    module _ (body : List ℕ) (caller : Caller) (out : List ℕ) (x : Stepped) (pools′ : List Pool) (out′ : List ℕ) (f : Framed (s .book) (s .table) body caller out x pools′ out′) (ok : isAccepted (x .answer) ≡ true) where
       abbrev put : Put
-      put = record { body = body; room = length out }
+      put = record { body = body; asked = askedBy caller (length out) }
 
       passes : isAccepted (answerOf (callOf s put)) ≡ true
       passes = ap isAccepted (sym (f .answer)) ∙ ok

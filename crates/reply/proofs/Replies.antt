@@ -16,20 +16,21 @@ use Rattle.sequence.specs.declared.Line.{Line}
 use Rattle.sequence.specs.Sequence.{arrivalOf, lineAfter, nextOutbound}
 use Rattle.acknowledgment.specs.declared.Acknowledged.{Acknowledged}
 use Rattle.acknowledgment.specs.Frames.{aaBytes, txBytes, txLength}
+use Rattle.book.specs.declared.Caller.{Caller}
 use Rattle.book.specs.declared.Answer.{Answer}
 use Rattle.book.specs.declared.Book.{Book}
-use Rattle.book.specs.Reasons.{codeOf, idOf}
+use Rattle.book.specs.Reasons.{codeOf, idOf, isSilent}
 use Rattle.book.specs.Checks.{arrived}
-use Rattle.book.specs.Step.{isSilent, isGap, acknowledged, outputFor}
+use Rattle.book.specs.Step.{isGap, acknowledged, outputFor}
 use Rattle.reply.specs.Counters.{withCounters}
 
 -- two columns copied and two numbers are what an AA says
-pub acknowledged-is : (body internal original : List ℕ) (a : Answer) (time : List ℕ) (m k : ℕ) → headerWidth ≤ length body
+pub acknowledged-is : (body internal original : List ℕ) (a : Answer) (caller : Caller) (m k : ℕ) → headerWidth ≤ length body
     → internal ≡ withPart (replicate 16 0) 0 body 98 16
     → original ≡ withPart (replicate 6 0) 0 body 2 6
     → m ≡ idOf a → k ≡ codeOf a
-    → _≡_ {A = Acknowledged} (record { internal = internal; message = m; code = k; time = time; original = original }) (acknowledged body a time)
-acknowledged-is body internal original a time m k h ei eo em ek = rw (ei ∙ copied body 98 16 (omega arith), eo ∙ copied body 2 6 (omega arith), em, ek)
+    → _≡_ {A = Acknowledged} (record { internal = internal; message = m; code = k; time = caller .time; original = original }) (acknowledged body a caller)
+acknowledged-is body internal original a caller m k h ei eo em ek = rw (ei ∙ copied body 98 16 (omega arith), eo ∙ copied body 2 6 (omega arith), em, ek)
 
 module _ (line : Line) (last : Outbound) (number : Inbound) (arrival : Arrival) (g : Bool) (ea : arrival ≡ arrivalOf line number) (eg : g ≡ isGap arrival) where
   pub after-gap : g ≡ true → isGap (arrivalOf line number) ≡ true
@@ -45,20 +46,20 @@ module _ (line : Line) (last : Outbound) (number : Inbound) (arrival : Arrival) 
   before-none e = rw (no-gap e)
 
 module _ (book : Book) (body : List ℕ) (number : Inbound) (a : Answer) (en : number ≡ arrived body) where
-  module _ (time out : List ℕ) (ack : Acknowledged) (ek : ack ≡ acknowledged body a time) (es : isSilent a ≡ false) where
+  module _ (caller : Caller) (out : List ℕ) (ack : Acknowledged) (ek : ack ≡ acknowledged body a caller) (es : isSilent a ≡ false) where
     -- on a gap a TX, and the AA after it
     pub told-out : (tx end : List ℕ) (told : Outbound) → isGap (arrivalOf (book .line) number) ≡ true
         → tx ≡ pasted out 0 (txBytes (nextOutbound (book .values .outbound)) (book .values .subscriber) (book .values .connection) (book .line .expected) number)
         → told ≡ nextOutbound (book .values .outbound)
         → end ≡ pasted tx txLength (aaBytes (nextOutbound told) (book .values .subscriber) (book .values .connection) ack)
-        → end ≡ outputFor book body a time out
+        → end ≡ outputFor book body a caller out
     unfolding outputFor
     told-out tx end told g et ed ee = rw (es, sym en, g) (rw (et, ed, ek) at ee)
 
     -- else the AA alone
     pub plain-out : (end : List ℕ) → isGap (arrivalOf (book .line) number) ≡ false
         → end ≡ pasted out 0 (aaBytes (nextOutbound (book .values .outbound)) (book .values .subscriber) (book .values .connection) ack)
-        → end ≡ outputFor book body a time out
+        → end ≡ outputFor book body a caller out
     unfolding outputFor
     plain-out end g ee = rw (es, sym en, g) (rw ek at ee)
 

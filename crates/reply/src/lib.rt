@@ -2,6 +2,7 @@
 use acknowledgment::Acknowledged;
 use book::Answer;
 use book::Book;
+use book::Caller;
 use sequence::Arrival;
 use sequence::Inbound;
 use sequence::Line;
@@ -14,13 +15,14 @@ ghost use mathlib.Core.List.{List};
 ghost use lib.ListN.{length};
 ghost use Rattle.layout.specs.Columns.{headerWidth};
 ghost use Rattle.book.specs.Checks.{arrived};
-ghost use Rattle.book.specs.Step.{isSilent, isGap, acknowledged, outputFor};
+ghost use Rattle.book.specs.Reasons.{isSilent};
+ghost use Rattle.book.specs.Step.{isGap, acknowledged, outputFor};
 ghost use Rattle.reply.specs.Counters.{withCounters};
 
 // What an AA says of a body and its answer.
-fn acknowledge(body: &[u8], answer: Answer, time: [u8; 6]) -> Acknowledged
+fn acknowledge(body: &[u8], answer: Answer, caller: Caller) -> Acknowledged
     requires { ⌜ headerWidth ≤ length (now body) ⌝ }
-    ensures { λ r. ⌜ r ≡ acknowledged (now (body .entry)) answer time ⌝ }
+    ensures { λ r. ⌜ r ≡ acknowledged (now (body .entry)) answer caller ⌝ }
 {
     let mut internal = [0u8; layout::INTERNAL_ID.width];
     let mut original = [0u8; layout::SEQUENCE.width];
@@ -38,6 +40,7 @@ fn acknowledge(body: &[u8], answer: Answer, time: [u8; 6]) -> Acknowledged
         layout::SEQUENCE.at,
         layout::SEQUENCE.width,
     );
+    let time = caller.time;
     Acknowledged {
         internal: internal,
         message: answers::id_of(answer),
@@ -74,13 +77,13 @@ pub fn put_reply(
     body: &[u8],
     number: Inbound,
     answer: Answer,
-    time: [u8; 6],
+    caller: Caller,
     out: &mut [u8],
 )
     requires { ⌜ headerWidth ≤ length (now body) ⌝ }
     requires { ⌜ number ≡ arrived (now body) ⌝ }
     requires { ⌜ isSilent answer ≡ false ⌝ }
-    ensures { λ _. ⌜ now (out .exit) ≡ outputFor book (now (body .entry)) answer time (now (out .entry)) ⌝ }
+    ensures { λ _. ⌜ now (out .exit) ≡ outputFor book (now (body .entry)) answer caller (now (out .entry)) ⌝ }
 {
     let values = book.values;
     let line = book.line;
@@ -88,7 +91,7 @@ pub fn put_reply(
     let connection = values.connection;
     let last = values.outbound;
     let expected = line.expected;
-    let a = acknowledge(body, answer, time);
+    let a = acknowledge(body, answer, caller);
     if is_gap(sequence::judge(line, number)) {
         let told = acknowledgment::put_tx(
             &mut *out,

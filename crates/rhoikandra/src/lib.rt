@@ -24,8 +24,8 @@ pub extern "C" fn rhoikandra_step(
     ensures { λ _. ⌜ Calls (now (image .entry)) (now (pools .entry)) (now (body .entry)) (now (time .entry)) (now (out .entry)) (now (said .entry)) (now (image .exit)) (now (pools .exit)) (now (out .exit)) (now (said .exit)) ⌝ }
 {
     let book = exports_book::start(image, time);
-    let six = exports_book::six_of(time);
-    let stepped = table_step::step(book, pools, body, six, out);
+    let caller = exports_book::caller_of(time);
+    let stepped = table_step::step(book, pools, body, caller, out);
     exports_book::finish(image, said, stepped);
 }
 
@@ -49,7 +49,7 @@ pub extern "C" fn rhoikandra_figures(image: &[u64], pools: &[Pool], trade: usize
     exports_book::put_figures(out, f);
 }
 
-// The tally after a frame call: raised by the message's type and the answer that two numbers say. A slice that is not four rows stays as it is, and so does any where no answer says the numbers.
+// The tally after a frame call: raised by the message's type and what the two numbers tell. A slice that is not four rows stays as it is, and so does any where no AA tells the numbers.
 #[no_mangle]
 pub extern "C" fn rhoikandra_tally(rows: &mut [[u32; 3]], body: &[u8], said: &[u64])
     ensures { λ _. ⌜ now (rows .exit) ≡ rowsAfter (now (body .entry)) (now (said .entry)) (now (rows .entry)) ⌝ }

@@ -1,5 +1,4 @@
 pub mod Sound
-pub mod Alike
 pub mod Calls
 pub mod Changed
 pub mod Rows

@@ -8,14 +8,15 @@ use lib.ListN.{length, take, drop}
 use lib.Seq.{length-front}
 use lib.Dec.{ltb}
 use Rattle.message_type.specs.declared.MessageType.{MessageType}
+use Rattle.book.specs.declared.Caller.{Caller}
 use Rattle.book.specs.declared.Book.{Book}
 use Rattle.book.specs.declared.Pool.{Pool}
-use Rattle.book.specs.declared.Reason.the-variants as reason
 use Rattle.book.specs.declared.Answer.the-variants.{Rejected}
+use Rattle.book.specs.Reasons.{bookUnsound}
 use Rattle.book.specs.Messages.{typeOf}
 use Rattle.book.specs.Opening.{recordsMax}
 use Rattle.book.specs.Soundness.{isSound}
-use Rattle.book.specs.Checks.{answerOf}
+use Rattle.book.specs.Checks.{answerOf, call, askedBy}
 use Rattle.book.specs.Step.{bookAfter, tableAfter, outputFor, outputAfter, callWith}
 use Rattle.rows.specs.Rows.{tableOf}
 use Rattle.calls.specs.declared.Stepped.{Stepped}
@@ -26,21 +27,20 @@ use Rattle.rows_enough.specs.FirstRows.{bringsMax, wanted, rowsOf, fromO
 use Rattle.calls.specs.Calls.{Framed}
 use Rattle.rows_enough.specs.Moving.{Moves, StepsRows}
 use Rattle.rows_enough.proofs.Sound.{Padded}
-use Rattle.rows_enough.proofs.Alike.{on}
 use Rattle.rows_enough.proofs.Calls.{same-answer, same-book, same-output}
 use Rattle.rows_enough.proofs.Rows.{record-front}
 use Rattle.rows_enough.proofs.Storing.{Stores, stores}
 use Rattle.rows_enough.proofs.Staging.{counted, test-unsound, test-padded, staged-rows}
 
-module _ (b : Book) (body time out : List ℕ) where
+module _ (b : Book) (body : List ℕ) (caller : Caller) (out : List ℕ) where
   abbrev unmoved : Moved
-  unmoved = record { stepped = record { book = b; answer = Rejected reason.Unsound }; from = 0; to = 0 }
+  unmoved = record { stepped = record { book = b; answer = Rejected bookUnsound }; from = 0; to = 0 }
 
   -- 42: nothing moves
-  unsound-moves : (t : List Pool) (ns ks : List (List ℕ)) → isSound b t ≡ false → Moves b t body time out unmoved ns ks out
+  unsound-moves : (t : List Pool) (ns ks : List (List ℕ)) → isSound b t ≡ false → Moves b t body caller out unmoved ns ks out
   unfolding bookAfter tableAfter outputAfter outputFor
   unsound-moves t ns ks e =
-      let a : answerOf (callWith b t body out) ≡ Rejected reason.Unsound = unsound-answer (callWith b t body out) e in
+      let a : answerOf (callWith b t body caller out) ≡ Rejected bookUnsound = unsound-answer (callWith b t body caller out) e in
       record {
         answer = sym a;
         book = rw a;
@@ -53,7 +53,7 @@ module _ (b : Book) (body time out : List ℕ) where
       }
 
   module _ (ns ks : List (List ℕ)) (records : ℕ) (rest : Bool) where
-    pub unsound-rows : (ltb recordsMax records || not rest) ≡ true → StepsRows b ns ks records rest body time out unmoved ns ks out
+    pub unsound-rows : (ltb recordsMax records || not rest) ≡ true → StepsRows b ns ks records rest body caller out unmoved ns ks out
     unsound-rows e =
         record {
           moves = λ t s. unsound-moves t ns ks (test-unsound b (wanted (b .live) (length body)) (bringsMax (length body)) (omega arith) ns ks records rest t s e);
@@ -65,7 +65,7 @@ module _ (b : Book) (body time out : List ℕ) where
     module _ (e : (ltb recordsMax records || not rest) ≡ false) (rows : ℕ) (q : rows ≡ rowsOf records (wanted (b .live) (length body)))
         (hn : rowsOf records (wanted (b .live) (length body)) ≤ length ns) (hk : rowsOf records (wanted (b .live) (length body)) ≤ length ks) (r : Stepped) (ms js : List (List ℕ)) (out′ : List ℕ)
         (ln : length ms ≡ length (take rows ns)) (lk : length js ≡ length (take rows ks))
-        (f : Frames b (take rows ns) (take rows ks) body time out r ms js out′)
+        (f : Frames b (take rows ns) (take rows ks) body caller out r ms js out′)
         (kind : MessageType) (ek : kind ≡ typeOf body) (from to : ℕ) (ef : from ≡ fromOf kind (r .answer) (b .live)) (et : to ≡ toOf (r .answer) (b .live) (r .book .live)) where
       abbrev m : ℕ
       m = rowsOf records (wanted (b .live) (length body))
@@ -73,7 +73,7 @@ module _ (b : Book) (body time out : List ℕ) where
       paired : length (take rows ks) ≡ length (take rows ns)
       paired = sym (counted rows m ks q hk) ∙ counted rows m ns q hn
 
-      steps : Steps b (take rows ns) (take rows ks) body time out r ms js out′
+      steps : Steps b (take rows ns) (take rows ks) body caller out r ms js out′
       steps = f .steps paired
 
       size : length ms ≡ m
@@ -86,7 +86,7 @@ module _ (b : Book) (body time out : List ℕ) where
       long-keys = length-front ks js rows lk
 
       rows-move : (t : List Pool) → FirstRows (wanted (b .live) (length body)) ns ks records rest t
-          → Moves b t body time out (record { stepped = r; from = from; to = to }) (ms ++ drop rows ns) (js ++ drop rows ks) out′
+          → Moves b t body caller out (record { stepped = r; from = from; to = to }) (ms ++ drop rows ns) (js ++ drop rows ks) out′
       rows-move t s =
           record {
             answer = answer;
@@ -105,34 +105,34 @@ module _ (b : Book) (body time out : List ℕ) where
           on-rows : tableOf (take rows ns) (take rows ks) ≡ take m t
           on-rows = staged-rows b (wanted (b .live) (length body)) (bringsMax (length body)) (omega arith) ns ks records rest t s rows q hn
 
-          answer : r .answer ≡ answerOf (on b body (length out) t)
-          answer = steps .answer ∙ ap (λ (x : List Pool). answerOf (on b body (length out) x)) on-rows ∙ sym (same-answer b t m body p (length out))
+          answer : r .answer ≡ answerOf (call b t body (askedBy caller (length out)))
+          answer = steps .answer ∙ ap (λ (x : List Pool). answerOf (call b x body (askedBy caller (length out)))) on-rows ∙ sym (same-answer b t m body p (askedBy caller (length out)))
 
-          book : r .book ≡ bookAfter (on b body (length out) t)
-          book = steps .book ∙ ap (λ (x : List Pool). bookAfter (on b body (length out) x)) on-rows ∙ sym (same-book b t m body p (length out))
+          book : r .book ≡ bookAfter (call b t body (askedBy caller (length out)))
+          book = steps .book ∙ ap (λ (x : List Pool). bookAfter (call b x body (askedBy caller (length out)))) on-rows ∙ sym (same-book b t m body p (askedBy caller (length out)))
 
-          output : out′ ≡ outputAfter (on b body (length out) t) time out
-          output = steps .output ∙ ap (λ (x : List Pool). outputAfter (on b body (length out) x) time out) on-rows ∙ sym (same-output b t m body p (length out) time out)
+          output : out′ ≡ outputAfter (call b t body (askedBy caller (length out))) out
+          output = steps .output ∙ ap (λ (x : List Pool). outputAfter (call b x body (askedBy caller (length out))) out) on-rows ∙ sym (same-output b t m body p (askedBy caller (length out)) out)
 
-          table : tableOf ms js ≡ tableAfter (on b body (length out) (take m t))
-          table = steps .table ∙ ap (λ (x : List Pool). tableAfter (on b body (length out) x)) on-rows
+          table : tableOf ms js ≡ tableAfter (call b (take m t) body (askedBy caller (length out)))
+          table = steps .table ∙ ap (λ (x : List Pool). tableAfter (call b x body (askedBy caller (length out)))) on-rows
 
-          st : Stores t (ms ++ drop rows ns) (js ++ drop rows ks) m (fromOf (typeOf body) (answerOf (on b body (length out) t)) (b .live))
-              (toOf (answerOf (on b body (length out) t)) (b .live) (bookAfter (on b body (length out) t) .live)) (tableAfter (on b body (length out) t))
+          st : Stores t (ms ++ drop rows ns) (js ++ drop rows ks) m (fromOf (typeOf body) (answerOf (call b t body (askedBy caller (length out)))) (b .live))
+              (toOf (answerOf (call b t body (askedBy caller (length out)))) (b .live) (bookAfter (call b t body (askedBy caller (length out))) .live)) (tableAfter (call b t body (askedBy caller (length out))))
           st =
-              stores b t m body p (length out) ms js (ms ++ drop rows ns) (js ++ drop rows ks) table size
+              stores b t m body p (askedBy caller (length out)) ms js (ms ++ drop rows ns) (js ++ drop rows ks) table size
               (λ i h. sym (record-front ms js (drop rows ns) (drop rows ks) i h (omega (arith, h, ln, lk, paired))))
 
-          from-is : from ≡ fromOf (typeOf body) (answerOf (on b body (length out) t)) (b .live)
+          from-is : from ≡ fromOf (typeOf body) (answerOf (call b t body (askedBy caller (length out)))) (b .live)
           from-is = ef ∙ rw (ek, answer)
 
-          to-is : to ≡ toOf (answerOf (on b body (length out) t)) (b .live) (bookAfter (on b body (length out) t) .live)
+          to-is : to ≡ toOf (answerOf (call b t body (askedBy caller (length out)))) (b .live) (bookAfter (call b t body (askedBy caller (length out))) .live)
           to-is = et ∙ rw (answer, book)
 
-      pub rows-step : StepsRows b ns ks records rest body time out (record { stepped = r; from = from; to = to }) (ms ++ drop rows ns) (js ++ drop rows ks) out′
+      pub rows-step : StepsRows b ns ks records rest body caller out (record { stepped = r; from = from; to = to }) (ms ++ drop rows ns) (js ++ drop rows ks) out′
       rows-step = record { moves = rows-move; numbers = long; keys = long-keys }
 
 -- with the records that it names stored, the table is that after the frame call
-pub framed : (b : Book) (t : List Pool) (body time out : List ℕ) (r : Moved) (ns ks : List (List ℕ)) (out′ : List ℕ) → Moves b t body time out r ns ks out′
-    → (t′ : List Pool) → t′ ≡ stored t ns ks (r .from) (r .to) → Framed b t body time out (r .stepped) t′ out′
-framed b t body time out r ns ks out′ m t′ e = record { answer = m .answer; book = m .book; table = e ∙ m .table; output = m .output }
+pub framed : (b : Book) (t : List Pool) (body : List ℕ) (caller : Caller) (out : List ℕ) (r : Moved) (ns ks : List (List ℕ)) (out′ : List ℕ) → Moves b t body caller out r ns ks out′
+    → (t′ : List Pool) → t′ ≡ stored t ns ks (r .from) (r .to) → Framed b t body caller out (r .stepped) t′ out′
+framed b t body caller out r ns ks out′ m t′ e = record { answer = m .answer; book = m .book; table = e ∙ m .table; output = m .output }

@@ -10,13 +10,12 @@ use Rattle.book.specs.declared.Book.{Book}
 use Rattle.book.specs.declared.Pool.{Pool}
 use Rattle.book.specs.Reasons.{isAccepted}
 use Rattle.book.specs.Messages.{typeOf}
-use Rattle.book.specs.Checks.{Call, answerOf}
+use Rattle.book.specs.Checks.{Call, answerOf, call, Asked}
 use Rattle.message_type.specs.Questions.{isOn}
 use Rattle.book.specs.Step.{accepted, bookAfter, tableAfter}
 use Rattle.rows.specs.Rows.{recordAt, tableOf}
 use Rattle.rows_enough.specs.FirstRows.{bringsMax, fromOf, toOf, stored}
 use Rattle.rows_enough.proofs.Sound.{Padded}
-use Rattle.rows_enough.proofs.Alike.{on}
 use Rattle.rows_enough.proofs.Calls.{same-answer, same-book, table-padded}
 use Rattle.rows_enough.proofs.Changed.{refused-table, live-within, after-within, rest-stays, on-stays}
 use Rattle.rows_enough.proofs.Rows.{stored-is}
@@ -27,24 +26,24 @@ pub record Stores (t : List Pool) (ns ks : List (List ℕ)) (m a e : ℕ) (after
   pub within : e ≤ m
   pub whole : stored t ns ks a e ≡ after
 
-module _ (b : Book) (t : List Pool) (m : ℕ) (body : List ℕ) (p : Padded b t m (bringsMax (length body))) (room : ℕ) (ns ks ms js : List (List ℕ))
-    (rows : tableOf ns ks ≡ tableAfter (on b body room (take m t))) (size : length ns ≡ m)
+module _ (b : Book) (t : List Pool) (m : ℕ) (body : List ℕ) (p : Padded b t m (bringsMax (length body))) (asked : Asked) (ns ks ms js : List (List ℕ))
+    (rows : tableOf ns ks ≡ tableAfter (call b (take m t) body asked)) (size : length ns ≡ m)
     (front : (i : ℕ) → i < length ns → recordAt ns ks i ≡ recordAt ms js i) where
   abbrev c : Call
-  c = on b body room t
+  c = call b t body asked
 
   abbrev r : Call
-  r = on b body room (take m t)
+  r = call b (take m t) body asked
 
   parts : tableAfter c ≡ tableOf ns ks ++ drop m t
-  parts = table-padded b t m body p room ∙ ap (λ (x : List Pool). x ++ drop m t) (sym rows)
+  parts = table-padded b t m body p asked ∙ ap (λ (x : List Pool). x ++ drop m t) (sym rows)
 
   stores-refused : accepted c ≡ false → Stores t ms js m 0 0 (tableAfter c)
   stores-refused e = record { ordered = omega arith; within = omega arith; whole = sym (refused-table c e) }
 
   module _ (ok : accepted c ≡ true) where
     ok-rows : accepted r ≡ true
-    ok-rows = ap isAccepted (sym (same-answer b t m body p room)) ∙ ok
+    ok-rows = ap isAccepted (sym (same-answer b t m body p asked)) ∙ ok
 
     long : length (take m t) ≡ m
     long = length-take-le m t (p .within)
@@ -53,7 +52,7 @@ module _ (b : Book) (t : List Pool) (m : ℕ) (body : List ℕ) (p : Padded b t 
     before-within = omega (arith, long, live-within r ok-rows)
 
     now-within : bookAfter c .live ≤ m
-    now-within = omega (arith, long, after-within r ok-rows, ap (λ (x : Book). x .live) (same-book b t m body p room))
+    now-within = omega (arith, long, after-within r ok-rows, ap (λ (x : Book). x .live) (same-book b t m body p asked))
 
     stores-from : (a : ℕ) → a ≤ max (b .live) (bookAfter c .live) → take a (tableAfter c) ≡ take a t
         → Stores t ms js m a (max (b .live) (bookAfter c .live)) (tableAfter c)

@@ -4,6 +4,7 @@ use mathlib.Core.Path.{_≡_}
 use mathlib.Core.List.{List}
 use mathlib.Core.Bool.{Bool, cond}
 use lib.ListN.{length}
+use Rattle.book.specs.declared.Caller.{Caller}
 use Rattle.book.specs.declared.Values.{Values}
 use Rattle.book.specs.declared.Book.{Book}
 use Rattle.book.specs.declared.Pool.{Pool}
@@ -17,18 +18,18 @@ use Rattle.rows_enough.specs.FirstRows.{wanted, FirstRows, stored}
 use Rattle.calls.specs.Calls.{Says}
 
 -- a frame call on rows of a table: with the records that it names taken from the rows, the table is that after the call
-pub record Moves (b : Book) (pools : List Pool) (body time out : List ℕ) (r : Moved) (ns′ ks′ : List (List ℕ)) (out′ : List ℕ) : Type 0 where
-  pub answer : r .stepped .answer ≡ answerOf (callWith b pools body out)
-  pub book : r .stepped .book ≡ bookAfter (callWith b pools body out)
-  pub table : stored pools ns′ ks′ (r .from) (r .to) ≡ tableAfter (callWith b pools body out)
-  pub output : out′ ≡ outputAfter (callWith b pools body out) time out
+pub record Moves (b : Book) (pools : List Pool) (body : List ℕ) (caller : Caller) (out : List ℕ) (r : Moved) (ns′ ks′ : List (List ℕ)) (out′ : List ℕ) : Type 0 where
+  pub answer : r .stepped .answer ≡ answerOf (callWith b pools body caller out)
+  pub book : r .stepped .book ≡ bookAfter (callWith b pools body caller out)
+  pub table : stored pools ns′ ks′ (r .from) (r .to) ≡ tableAfter (callWith b pools body caller out)
+  pub output : out′ ≡ outputAfter (callWith b pools body caller out) out
   pub ordered : r .from ≤ r .to
   pub within : r .to ≤ length pools
   pub staged : r .to ≤ length ns′
   pub stagedKeys : r .to ≤ length ks′
 
-pub record StepsRows (b : Book) (ns ks : List (List ℕ)) (records : ℕ) (rest : Bool) (body time out : List ℕ) (r : Moved) (ns′ ks′ : List (List ℕ)) (out′ : List ℕ) : Type 0 where
-  pub moves : (pools : List Pool) → FirstRows (wanted (b .live) (length body)) ns ks records rest pools → Moves b pools body time out r ns′ ks′ out′
+pub record StepsRows (b : Book) (ns ks : List (List ℕ)) (records : ℕ) (rest : Bool) (body : List ℕ) (caller : Caller) (out : List ℕ) (r : Moved) (ns′ ks′ : List (List ℕ)) (out′ : List ℕ) : Type 0 where
+  pub moves : (pools : List Pool) → FirstRows (wanted (b .live) (length body)) ns ks records rest pools → Moves b pools body caller out r ns′ ks′ out′
   pub numbers : length ns′ ≡ length ns
   pub keys : length ks′ ≡ length ks
 

@@ -1,6 +1,7 @@
 // The frame call, opening and the figures on the first rows of a table: where its other records are zeros, the rows are all that a call needs.
 use book::Answer;
 use book::Book;
+use book::Caller;
 use book::Reason;
 use book::Values;
 use calls::Figures;
@@ -102,23 +103,23 @@ fn to_of(answer: Answer, before: usize, after: usize) -> usize
 // The frame call on the first rows of a table of so many records; rest tells whether the other records are zeros.
 pub fn step_rows(
     book: Book,
-    numbers: &mut [[u64; 6]],
-    keys: &mut [[u8; 22]],
+    numbers: &mut [[u64; rows::NUMBERS]],
+    keys: &mut [[u8; rows::KEY_WIDTH]],
     records: usize,
     rest: bool,
     body: &[u8],
-    time: [u8; 6],
+    caller: Caller,
     out: &mut [u8],
 ) -> Moved
     requires { ⌜ (rowsOf records (wanted (book .live) (length (now body))) ≤ length (now numbers)) × (rowsOf records (wanted (book .live) (length (now body))) ≤ length (now keys)) ⌝ }
-    ensures { λ r. ⌜ StepsRows book (now (numbers .entry)) (now (keys .entry)) records rest (now (body .entry)) time (now (out .entry)) r (now (numbers .exit)) (now (keys .exit)) (now (out .exit)) ⌝ }
+    ensures { λ r. ⌜ StepsRows book (now (numbers .entry)) (now (keys .entry)) records rest (now (body .entry)) caller (now (out .entry)) r (now (numbers .exit)) (now (keys .exit)) (now (out .exit)) ⌝ }
 {
     let live = book.live;
     if (book::RECORDS_MAX < records) | !rest {
         return Moved {
             stepped: Stepped {
                 book: book,
-                answer: Answer::Rejected(Reason::Unsound),
+                answer: Answer::Rejected(Reason::Operator(42, book::SILENT)),
             },
             from: 0,
             to: 0,
@@ -131,7 +132,7 @@ pub fn step_rows(
         &mut numbers[..rows],
         &mut keys[..rows],
         body,
-        time,
+        caller,
         &mut *out,
     );
     let answer = stepped.answer;
@@ -149,8 +150,8 @@ pub fn step_rows(
 // What a book says of a trade, by the first rows of a table.
 pub fn figures_rows(
     book: Book,
-    numbers: &[[u64; 6]],
-    keys: &[[u8; 22]],
+    numbers: &[[u64; rows::NUMBERS]],
+    keys: &[[u8; rows::KEY_WIDTH]],
     records: usize,
     rest: bool,
     trade: usize,

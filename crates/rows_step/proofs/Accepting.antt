@@ -18,12 +18,13 @@ use Rattle.sequence.specs.Sequence.{outboundMax}
 use Rattle.message_type.specs.declared.MessageType.{MessageType}
 use Rattle.message_type.specs.declared.MessageType.the-variants.{On, Cc, Dk, Cx, Other}
 use Rattle.terminator.specs.Lots.{Lot, lotWeight}
+use Rattle.book.specs.declared.Caller.{Caller}
 use Rattle.book.specs.declared.Book.{Book}
 use Rattle.book.specs.declared.Trade.{Trade}
 use Rattle.book.specs.declared.Pool.{Pool}
 use Rattle.book.specs.declared.Answer.the-variants.{Accepted}
 use Rattle.book.specs.declared.Verdict.the-variants.{Passes}
-use Rattle.book.specs.Reasons.{isAccepted}
+use Rattle.book.specs.Reasons.{isAccepted, isSilent}
 use Rattle.book.specs.Records.{noPool, weightOfRecords}
 use Rattle.book.specs.Messages.{typeOf, targetOf, under, listed, brought, broughtBy}
 use Rattle.book.specs.Trades.{tradesOf, broughtWeight}
@@ -31,9 +32,9 @@ use Rattle.book.specs.Opening.{tradesMax, recordsMax, elevenDigitsMax, holidays
 use Rattle.calendar.specs.Calendar.{isDate}
 use Rattle.book.specs.declared.Values.{Values}
 use Rattle.book.specs.Soundness.{recordFine, isNone, Sound}
-use Rattle.book.specs.Checks.{arrived, noTrade, tradeAt, targetTrade, firstUnder, concerned, concernedFor, isTaken, taken, firstFailing, answerOf}
+use Rattle.book.specs.Checks.{arrived, noTrade, tradeAt, targetTrade, firstUnder, concerned, concernedFor, isTaken, taken, firstFailing, answerOf, traderChecks, concernedBy, Asked, askedBy}
 use Rattle.message_type.specs.Questions.{bringsLots, listsLots, isCx, isOther}
-use Rattle.book.specs.Step.{isSilent, withOpenPar, outputFor, tradesMoved, liveMoved, tableMoved, bookAfter, tableAfter, outputAfter}
+use Rattle.book.specs.Step.{withOpenPar, outputFor, tradesMoved, liveMoved, tableMoved, bookAfter, tableAfter, outputAfter}
 use Rattle.book.proofs.ListLaws.{all-keep}
 use Rattle.book.proofs.Ordered.{ordered-keep}
 use Rattle.book.proofs.Kept.{last-within}
@@ -46,7 +47,7 @@ use Rattle.rows_move.specs.Moves.{remaining, bringing, filled, Movable}
 use Rattle.rows_move.proofs.Taking.{keep-most}
 use Rattle.check_soundness.proofs.Whole.{few-trades, record-light}
 use Rattle.check_trader.specs.declared.Decision.{Decision}
-use Rattle.check_trader.specs.Decisions.{traderChecks, callOn}
+use Rattle.check_trader.specs.Decisions.{callOn}
 use Rattle.calls.specs.declared.Stepped.{Stepped}
 use Rattle.rows_step.specs.Frames.{Acceptable, Steps}
 use Rattle.rows_step.proofs.Answering.{accepted-answer, sender-length, header-there}
@@ -74,18 +75,18 @@ past-end [] n h = refl
 past-end (t ∷ ts) zero h = absurd (omega (arith, h))
 past-end (t ∷ ts) (suc n) h = past-end ts n (omega (arith, h))
 
-module _ (b : Book) (ns ks : List (List ℕ)) (body : List ℕ) (room : ℕ) (d : Decision) (x : Acceptable b ns ks body room d) where
-  pass : firstFailing traderChecks (callOn b ns ks body room) ≡ Passes
+module _ (b : Book) (ns ks : List (List ℕ)) (body : List ℕ) (asked : Asked) (d : Decision) (x : Acceptable b ns ks body asked d) where
+  pass : firstFailing traderChecks (callOn b ns ks body asked) ≡ Passes
   pass = sym (x .decided .verdict) ∙ x .passes
 
-  pub said : answerOf (callOn b ns ks body room) ≡ Accepted (b .values .lastMessageId + 1)
-  said = accepted-answer (callOn b ns ks body room) (x .ready .sound) (x .sender) pass
+  pub said : answerOf (callOn b ns ks body asked) ≡ Accepted (b .values .lastMessageId + 1)
+  said = accepted-answer (callOn b ns ks body asked) (x .ready .sound) (x .sender) pass
 
-  ok : isAccepted (answerOf (callOn b ns ks body room)) ≡ true
+  ok : isAccepted (answerOf (callOn b ns ks body asked)) ≡ true
   ok = ap isAccepted said
 
-  facts : Fine (callOn b ns ks body room)
-  facts = fine (callOn b ns ks body room) ok
+  facts : Fine (callOn b ns ks body asked)
+  facts = fine (callOn b ns ks body asked) ok
 
   sure : Sound b (tableOf ns ks)
   sure = is-sound b (tableOf ns ks) (x .ready .sound)
@@ -96,7 +97,7 @@ module _ (b : Book) (ns ks : List (List ℕ)) (body : List ℕ) (room : ℕ) (d 
 
   -- the header is there
   pub header-fits : headerWidth ≤ length body
-  header-fits = header-there body (sender-length (callOn b ns ks body room) (x .ready .sound) (x .sender))
+  header-fits = header-there body (sender-length (callOn b ns ks body asked) (x .ready .sound) (x .sender))
 
   within : b .live ≤ length ns
   within = omega (arith, length-table ns ks, leb-true (b .live) (length (tableOf ns ks)) (sure .liveWithin))
@@ -111,8 +112,8 @@ module _ (b : Book) (ns ks : List (List ℕ)) (body : List ℕ) (room : ℕ) (d 
   short : length (tradesOf (b .values)) ≤ b .values .tradeCount
   short = rw length-take (omega arith)
 
-  at-type : (k : MessageType) → typeOf body ≡ k → concerned (callOn b ns ks body room) ≡ concernedFor k body (tradesOf (b .values)) (take (b .live) (tableOf ns ks))
-  unfolding concerned
+  at-type : (k : MessageType) → typeOf body ≡ k → concerned (callOn b ns ks body asked) ≡ concernedFor k body (tradesOf (b .values)) (take (b .live) (tableOf ns ks))
+  unfolding concernedBy
   at-type k e = ap (λ (j : MessageType). concernedFor j body (tradesOf (b .values)) (take (b .live) (tableOf ns ks))) e
 
   target-trade : any (under (targetOf body)) (take (b .live) (tableOf ns ks)) ≡ true → targetTrade body (take (b .live) (tableOf ns ks)) < b .values .tradeCount
@@ -122,15 +123,15 @@ module _ (b : Book) (ns ks : List (List ℕ)) (body : List ℕ) (room : ℕ) (d 
       let r = record-light (b .values) (f .0) (all-out (recordFine (b .values)) (f .1) (sure .records)) in
       rw (f .3 .1) (r .0)
 
-  pub trade-known : concerned (callOn b ns ks body room) < b .values .tradeCount
+  pub trade-known : concerned (callOn b ns ks body asked) < b .values .tradeCount
   trade-known = go (typeOf body) refl
     where
-      by-par : bringsLots (typeOf body) ≡ true → concerned (callOn b ns ks body room) < b .values .tradeCount
+      by-par : bringsLots (typeOf body) ≡ true → concerned (callOn b ns ks body asked) < b .values .tradeCount
       by-par o =
-          let h = ltb-true (concerned (callOn b ns ks body room)) (length (tradesOf (b .values))) (and-left (ltb (concerned (callOn b ns ks body room)) (length (tradesOf (b .values)))) _ (facts .parEnough o)) in
+          let h = ltb-true (concerned (callOn b ns ks body asked)) (length (tradesOf (b .values))) (and-left (ltb (concerned (callOn b ns ks body asked)) (length (tradesOf (b .values)))) _ (facts .parEnough o)) in
           omega (arith, h, short)
 
-      go : (k : MessageType) → typeOf body ≡ k → concerned (callOn b ns ks body room) < b .values .tradeCount
+      go : (k : MessageType) → typeOf body ≡ k → concerned (callOn b ns ks body asked) < b .values .tradeCount
       go On e = by-par (ap bringsLots e)
       go Cc e = by-par (ap bringsLots e)
       go Dk e = rw (at-type Dk e) (target-trade (facts .targetLive (ap listsLots e)))
@@ -140,20 +141,20 @@ module _ (b : Book) (ns ks : List (List ℕ)) (body : List ℕ) (room : ℕ) (d 
   pub trade-few : d .trade < tradesMax
   trade-few = omega (arith, x .decided .trade (x .passes), trade-known, few-trades (b .values) (sure .values))
 
-  there : tradeAt (tradesOf (b .values)) (concerned (callOn b ns ks body room)) ≡ getD (b .values .trades) (concerned (callOn b ns ks body room)) noTrade
-  there = getD-take (b .values .tradeCount) (b .values .trades) (concerned (callOn b ns ks body room)) noTrade trade-known
+  there : tradeAt (tradesOf (b .values)) (concerned (callOn b ns ks body asked)) ≡ getD (b .values .trades) (concerned (callOn b ns ks body asked)) noTrade
+  there = getD-take (b .values .tradeCount) (b .values .trades) (concerned (callOn b ns ks body asked)) noTrade trade-known
 
   -- what comes is no more than what stands open and goes
-  covers : broughtWeight body ≤ tradeAt (tradesOf (b .values)) (concerned (callOn b ns ks body room)) .openPar + weightOfRecords (taken (callOn b ns ks body room))
+  covers : broughtWeight body ≤ tradeAt (tradesOf (b .values)) (concerned (callOn b ns ks body asked)) .openPar + weightOfRecords (taken (callOn b ns ks body asked))
   covers = go (typeOf body) refl
     where
       by-par : bringsLots (typeOf body) ≡ true
-          → broughtWeight body ≤ tradeAt (tradesOf (b .values)) (concerned (callOn b ns ks body room)) .openPar + weightOfRecords (taken (callOn b ns ks body room))
-      by-par o = leb-true (broughtWeight body) (tradeAt (tradesOf (b .values)) (concerned (callOn b ns ks body room)) .openPar + weightOfRecords (taken (callOn b ns ks body room)))
-          (and-right (ltb (concerned (callOn b ns ks body room)) (length (tradesOf (b .values)))) _ (facts .parEnough o))
+          → broughtWeight body ≤ tradeAt (tradesOf (b .values)) (concerned (callOn b ns ks body asked)) .openPar + weightOfRecords (taken (callOn b ns ks body asked))
+      by-par o = leb-true (broughtWeight body) (tradeAt (tradesOf (b .values)) (concerned (callOn b ns ks body asked)) .openPar + weightOfRecords (taken (callOn b ns ks body asked)))
+          (and-right (ltb (concerned (callOn b ns ks body asked)) (length (tradesOf (b .values)))) _ (facts .parEnough o))
 
       go : (k : MessageType) → typeOf body ≡ k
-          → broughtWeight body ≤ tradeAt (tradesOf (b .values)) (concerned (callOn b ns ks body room)) .openPar + weightOfRecords (taken (callOn b ns ks body room))
+          → broughtWeight body ≤ tradeAt (tradesOf (b .values)) (concerned (callOn b ns ks body asked)) .openPar + weightOfRecords (taken (callOn b ns ks body asked))
       go On e = by-par (ap bringsLots e)
       go Cc e = by-par (ap bringsLots e)
       go Dk e = omega (arith, nothing-brought body e)
@@ -163,20 +164,20 @@ module _ (b : Book) (ns ks : List (List ℕ)) (body : List ℕ) (room : ℕ) (d 
   pub trade-covers : d .brought ≤ getD (b .values .trades) (d .trade) noTrade .openPar + d .off
   trade-covers = rw (x .decided .trade (x .passes), x .decided .off (x .passes), x .decided .brought (x .passes), sym there) covers
 
-  weight-few : weightOfRecords (taken (callOn b ns ks body room)) ≤ recordsMax * elevenDigitsMax
+  weight-few : weightOfRecords (taken (callOn b ns ks body asked)) ≤ recordsMax * elevenDigitsMax
   weight-few =
-      let w = weight-most (b .values) (taken (callOn b ns ks body room)) (ordered-keep (isTaken (targetOf body) (listed body)) (take (b .live) (tableOf ns ks)) (sure .ordered)) (all-keep (recordFine (b .values)) (isTaken (targetOf body) (listed body)) (take (b .live) (tableOf ns ks)) (sure .records)) in
-      let m : length (taken (callOn b ns ks body room)) ≤ length (take (b .live) (tableOf ns ks)) = keep-most _ (take (b .live) (tableOf ns ks)) in
+      let w = weight-most (b .values) (taken (callOn b ns ks body asked)) (ordered-keep (isTaken (targetOf body) (listed body)) (take (b .live) (tableOf ns ks)) (sure .ordered)) (all-keep (recordFine (b .values)) (isTaken (targetOf body) (listed body)) (take (b .live) (tableOf ns ks)) (sure .records)) in
+      let m : length (taken (callOn b ns ks body asked)) ≤ length (take (b .live) (tableOf ns ks)) = keep-most _ (take (b .live) (tableOf ns ks)) in
       omega (arith, w, m, size, within, few)
 
-  left-few : tradeAt (tradesOf (b .values)) (concerned (callOn b ns ks body room)) .openPar ≤ elevenDigitsMax
-  left-few = go (decLt (concerned (callOn b ns ks body room)) (length (tradesOf (b .values))))
+  left-few : tradeAt (tradesOf (b .values)) (concerned (callOn b ns ks body asked)) .openPar ≤ elevenDigitsMax
+  left-few = go (decLt (concerned (callOn b ns ks body asked)) (length (tradesOf (b .values))))
     where
-      go : Dec (concerned (callOn b ns ks body room) < length (tradesOf (b .values))) → tradeAt (tradesOf (b .values)) (concerned (callOn b ns ks body room)) .openPar ≤ elevenDigitsMax
+      go : Dec (concerned (callOn b ns ks body asked) < length (tradesOf (b .values))) → tradeAt (tradesOf (b .values)) (concerned (callOn b ns ks body asked)) .openPar ≤ elevenDigitsMax
       go (yes h) =
-          left-most (holidaysOf (b .values)) 0 (concerned (callOn b ns ks body room)) (tradesOf (b .values)) (take (b .live) (tableOf ns ks)) (sure .pars)
+          left-most (holidaysOf (b .values)) 0 (concerned (callOn b ns ks body asked)) (tradesOf (b .values)) (take (b .live) (tableOf ns ks)) (sure .pars)
           (trades-fine (b .values) (sure .values)) h
-      go (no n) = rw (past-end (tradesOf (b .values)) (concerned (callOn b ns ks body room)) (omega (arith, n))) (omega arith)
+      go (no n) = rw (past-end (tradesOf (b .values)) (concerned (callOn b ns ks body asked)) (omega (arith, n))) (omega arith)
 
   pub trade-fits : getD (b .values .trades) (d .trade) noTrade .openPar + d .off ≤ 9000000000000000000
   trade-fits = rw (x .decided .trade (x .passes), x .decided .off (x .passes), sym there) (omega (arith, weight-few, left-few))
@@ -195,28 +196,28 @@ module _ (b : Book) (ns ks : List (List ℕ)) (body : List ℕ) (room : ℕ) (d 
   abbrev after : List Pool
   after = remaining body (take (b .live) (tableOf ns ks)) ++ bringing body (b .values .lastMessageId + 1) (d .trade)
 
-  live-is : liveMoved (callOn b ns ks body room) ≡ after
+  live-is : liveMoved (callOn b ns ks body asked) ≡ after
   unfolding liveMoved
   live-is = rw (x .decided .trade (x .passes))
 
   pub after-fits : length after ≤ length ns
-  after-fits = omega (arith, ap length live-is, length-table ns ks, moved-fits (callOn b ns ks body room) ok sure)
+  after-fits = omega (arith, ap length live-is, length-table ns ks, moved-fits (callOn b ns ks body asked) ok sure)
 
   pub moved-is : set (b .values .trades) (d .trade) (withOpenPar (getD (b .values .trades) (d .trade) noTrade) ((getD (b .values .trades) (d .trade) noTrade .openPar + d .off) - d .brought))
-      ≡ tradesMoved (callOn b ns ks body room)
+      ≡ tradesMoved (callOn b ns ks body asked)
   unfolding tradesMoved
   moved-is = rw (x .decided .trade (x .passes), x .decided .off (x .passes), x .decided .brought (x .passes), there)
 
-  pub filled-is : filled (length ns) after ≡ tableMoved (callOn b ns ks body room)
+  pub filled-is : filled (length ns) after ≡ tableMoved (callOn b ns ks body asked)
   unfolding tableMoved
   filled-is = rw (live-is, length-table ns ks)
 
-  pub live-after : length after ≡ length (liveMoved (callOn b ns ks body room))
+  pub live-after : length after ≡ length (liveMoved (callOn b ns ks body asked))
   live-after = sym (ap length live-is)
 
 -- ---- all that an accepted call leaves
-module _ (b : Book) (ns ks : List (List ℕ)) (body time out : List ℕ) (d : Decision) (x : Acceptable b ns ks body (length out) d) where
-  book-is : (moved : List Trade) (counted : Book) (n : ℕ) → moved ≡ tradesMoved (callOn b ns ks body (length out)) → n ≡ length (liveMoved (callOn b ns ks body (length out)))
+module _ (b : Book) (ns ks : List (List ℕ)) (body : List ℕ) (caller : Caller) (out : List ℕ) (d : Decision) (x : Acceptable b ns ks body (askedBy caller (length out)) d) where
+  book-is : (moved : List Trade) (counted : Book) (n : ℕ) → moved ≡ tradesMoved (callOn b ns ks body (askedBy caller (length out))) → n ≡ length (liveMoved (callOn b ns ks body (askedBy caller (length out))))
       → counted ≡ withCounters b body (Accepted (b .values .lastMessageId + 1))
       → _≡_ {A = Book}
       (record {
@@ -235,17 +236,17 @@ module _ (b : Book) (ns ks : List (List ℕ)) (body time out : List ℕ) (d : De
         line = counted .line;
         live = n;
       })
-      (bookAfter (callOn b ns ks body (length out)))
+      (bookAfter (callOn b ns ks body (askedBy caller (length out))))
   unfolding bookAfter withCounters
-  book-is moved counted n em en ec = rw (ec, em, en, said b ns ks body (length out) d x)
+  book-is moved counted n em en ec = rw (ec, em, en, said b ns ks body (askedBy caller (length out)) d x)
 
-  table-is : tableMoved (callOn b ns ks body (length out)) ≡ tableAfter (callOn b ns ks body (length out))
+  table-is : tableMoved (callOn b ns ks body (askedBy caller (length out))) ≡ tableAfter (callOn b ns ks body (askedBy caller (length out)))
   unfolding tableAfter
-  table-is = rw (said b ns ks body (length out) d x)
+  table-is = rw (said b ns ks body (askedBy caller (length out)) d x)
 
-  output-is : outputFor b body (Accepted (b .values .lastMessageId + 1)) time out ≡ outputAfter (callOn b ns ks body (length out)) time out
+  output-is : outputFor b body (Accepted (b .values .lastMessageId + 1)) caller out ≡ outputAfter (callOn b ns ks body (askedBy caller (length out))) out
   unfolding outputAfter
-  output-is = rw (said b ns ks body (length out) d x)
+  output-is = rw (said b ns ks body (askedBy caller (length out)) d x)
 
   pub accepted-steps : (moved : List Trade) (counted : Book) (n : ℕ) (number : Inbound) (ns′ ks′ : List (List ℕ)) (out′ : List ℕ)
       → moved ≡ set (b .values .trades) (d .trade) (withOpenPar (getD (b .values .trades) (d .trade) noTrade) ((getD (b .values .trades) (d .trade) noTrade .openPar + d .off) - d .brought))
@@ -253,8 +254,8 @@ module _ (b : Book) (ns ks : List (List ℕ)) (body time out : List ℕ) (d : De
       → ((body′ : List ℕ) → number ≡ arrived body′ → counted ≡ withCounters b body′ (Accepted (b .values .lastMessageId + 1)))
       → n ≡ length (remaining body (take (b .live) (tableOf ns ks)) ++ bringing body (b .values .lastMessageId + 1) (d .trade))
       → tableOf ns′ ks′ ≡ filled (length ns) (remaining body (take (b .live) (tableOf ns ks)) ++ bringing body (b .values .lastMessageId + 1) (d .trade))
-      → out′ ≡ outputFor b body (Accepted (b .values .lastMessageId + 1)) time out
-      → Steps b ns ks body time out
+      → out′ ≡ outputFor b body (Accepted (b .values .lastMessageId + 1)) caller out
+      → Steps b ns ks body caller out
       (record {
         book =
             record {
@@ -278,8 +279,8 @@ module _ (b : Book) (ns ks : List (List ℕ)) (body time out : List ℕ) (d : De
       ns′ ks′ out′
   accepted-steps moved counted n number ns′ ks′ out′ em ea ec en et eo =
       record {
-        answer = sym (said b ns ks body (length out) d x);
-        book = book-is moved counted n (em ∙ moved-is b ns ks body (length out) d x) (en ∙ live-after b ns ks body (length out) d x) (ec body ea);
-        table = et ∙ filled-is b ns ks body (length out) d x ∙ table-is;
+        answer = sym (said b ns ks body (askedBy caller (length out)) d x);
+        book = book-is moved counted n (em ∙ moved-is b ns ks body (askedBy caller (length out)) d x) (en ∙ live-after b ns ks body (askedBy caller (length out)) d x) (ec body ea);
+        table = et ∙ filled-is b ns ks body (askedBy caller (length out)) d x ∙ table-is;
         output = eo ∙ output-is;
       }

@@ -2,38 +2,26 @@
 use Prim.Native.Nat.{ℕ, _+_, _≤_}
 use native.Mathlib.Omega.{arith}
 use mathlib.Core.Path.{_≡_, refl, ap, _∙_}
-use mathlib.Core.List.{List}
+use mathlib.Core.List.{List, _++_}
 use mathlib.Core.Bool.{Bool, true, false, cond, not, _&&_, true≢false}
-use lib.ListN.{length, take, drop}
+use lib.ListN.{length}
 use borrow.Author.Tests.{not-false}
 use Rattle.layout.specs.Columns.{headerWidth}
 use Rattle.layout.specs.Details.{lengthFits, details}
 use Rattle.layout.proofs.Lengths.{fit-length}
 use Rattle.terminator.specs.Lots.{formedFor}
-use Rattle.message_type.specs.declared.MessageType.{MessageType}
 use Rattle.book.specs.declared.Reason.{Reason}
-use Rattle.book.specs.declared.Reason.the-variants as reason
+use Rattle.book.specs.declared.Reason.the-variants as by
 use Rattle.book.specs.declared.Verdict.{Verdict}
 use Rattle.book.specs.declared.Verdict.the-variants.{Passes, Fails}
-use Rattle.book.specs.declared.Answer.the-variants.{Accepted, Rejected, Dked}
-use Rattle.book.specs.Reasons.{numberOf, isAccepted}
+use Rattle.book.specs.declared.Answer.the-variants.{Accepted, Rejected}
+use Rattle.book.specs.Reasons.{silent, isSilentFor, bookUnsound, refusal}
 use Rattle.book.specs.Messages.{typeOf}
-use Rattle.lists.specs.Lists.{between}
 use Rattle.book.specs.Soundness.{isSound}
-use Rattle.book.specs.Checks.{Call, numbersSpent, outputShort, checks, refusal, firstFailing, answerTo, answerOf}
-use Rattle.message_type.specs.Questions.{isCc, isDk, bringsLots}
-use Rattle.book.specs.Step.{isSilentFor, isSilent}
+use Rattle.book.specs.Checks.{Call, numbersSpent, outputShort, soundnessChecks, senderChecks, traderChecks, checks, firstFailing, answerTo, answerOf}
+use Rattle.message_type.specs.Questions.{isCc, bringsLots}
 use Rattle.book.proofs.Passed.{passes, for-type}
-use Rattle.check_sender.specs.Order.{senderChecks}
-use Rattle.check_trader.specs.Decisions.{traderChecks}
-use Rattle.check_trader.proofs.Firsts.{first-late, first-early}
-
--- a refusal by any reason is not accepted, and as silent as its reason
-pub refusal-refuses : (t : MessageType) (r : Reason) → isAccepted (refusal t r) ≡ false
-refusal-refuses t r = elim (between 30 38 (numberOf r) && not (isDk t)) as (λ b. isAccepted (cond b (Dked r) (Rejected r)) ≡ false) [ true ↦ refl | false ↦ refl ]
-
-pub refusal-silent : (t : MessageType) (r : Reason) → isSilent (refusal t r) ≡ isSilentFor r
-refusal-silent t r = elim (between 30 38 (numberOf r) && not (isDk t)) as (λ b. isSilent (cond b (Dked r) (Rejected r)) ≡ isSilentFor r) [ true ↦ refl | false ↦ refl ]
+use Rattle.book.proofs.Firsts.{first-late, first-early}
 
 -- a body of the right length has a header
 pub header-there : (body : List ℕ) → lengthFits body ≡ true → headerWidth ≤ length body
@@ -45,27 +33,23 @@ silentIn (Fails q) = isSilentFor q
 
 module _ (c : Call) where
   -- 42
-  pub unsound-answer : isSound (c .book) (c .table) ≡ false → answerOf c ≡ Rejected reason.Unsound
-  unfolding answerOf checks
+  pub unsound-answer : isSound (c .book) (c .table) ≡ false → answerOf c ≡ Rejected bookUnsound
+  unfolding answerOf soundnessChecks isSound
   unsound-answer e = rw e
 
   module _ (s : isSound (c .book) (c .table) ≡ true) where
-    first-passes : firstFailing (take 1 checks) c ≡ Passes
-    unfolding checks
-    first-passes = rw s
-
-    past-first : firstFailing checks c ≡ firstFailing (drop 1 checks) c
-    past-first = first-late c 1 checks first-passes
+    past-first : firstFailing checks c ≡ firstFailing (senderChecks ++ traderChecks) c
+    unfolding soundnessChecks isSound
+    past-first = rw s
 
     -- 43 to 25
     pub sender-answer : (r : Reason) → firstFailing senderChecks c ≡ Fails r → answerOf c ≡ refusal (typeOf (c .body)) r
-    unfolding answerOf senderChecks
-    sender-answer r e = ap (answerTo c) (past-first ∙ first-early c 18 (drop 1 checks) r e)
+    unfolding answerOf
+    sender-answer r e = ap (answerTo c) (past-first ∙ first-early c senderChecks traderChecks r e)
 
     module _ (p : firstFailing senderChecks c ≡ Passes) where
       past-sender : firstFailing checks c ≡ firstFailing traderChecks c
-      unfolding senderChecks traderChecks checks
-      past-sender = past-first ∙ first-late c 18 (drop 1 checks) p
+      past-sender = past-first ∙ first-late c senderChecks traderChecks p
 
       -- 30 to 40
       pub trader-answer : (r : Reason) → firstFailing traderChecks c ≡ Fails r → answerOf c ≡ refusal (typeOf (c .body)) r
@@ -78,21 +62,20 @@ module _ (c : Call) where
 
       -- 10 and 19 have passed
       pub sender-length : lengthFits (c .body) ≡ true
-      unfolding senderChecks checks
+      unfolding senderChecks
       sender-length = not-false (lengthFits (c .body)) (passes 10 senderChecks c p)
 
       pub sender-formed : bringsLots (typeOf (c .body)) ≡ true → formedFor (isCc (typeOf (c .body))) (details (c .body)) ≡ true
-      unfolding senderChecks checks
+      unfolding senderChecks
       sender-formed = for-type (bringsLots (typeOf (c .body))) (formedFor (isCc (typeOf (c .body))) (details (c .body))) (passes 19 senderChecks c p)
 
-  -- a number that goes out comes after 10
+  -- a number that goes out comes after 10: one that fails before it is silent
   pub loud-length : (r : Reason) → firstFailing senderChecks c ≡ Fails r → isSilentFor r ≡ false → lengthFits (c .body) ≡ true
-  unfolding senderChecks checks
+  unfolding senderChecks
   loud-length r e n =
-      go (numbersSpent (c .book .values)) (outputShort c) (lengthFits (c .body))
-      (firstFailing (drop 3 senderChecks) c) e
+      go (numbersSpent (c .book .values) (c .body)) (outputShort (c .asked)) (lengthFits (c .body)) _ e
     where
-      go : (a b l : Bool) (v : Verdict) → cond a (Fails reason.Spent) (cond b (Fails reason.ShortOutput) (cond (not l) (Fails reason.Length) v)) ≡ Fails r → l ≡ true
+      go : (a b l : Bool) (v : Verdict) → cond a (Fails (by.Operator 43 silent)) (cond b (Fails (by.Operator 44 silent)) (cond (not l) (Fails (by.Line 10 silent)) v)) ≡ Fails r → l ≡ true
       go true b l v h = absurd (true≢false (ap silentIn h ∙ n))
       go false true l v h = absurd (true≢false (ap silentIn h ∙ n))
       go false false true v h = refl

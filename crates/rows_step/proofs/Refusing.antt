@@ -7,12 +7,14 @@ use lib.ListN.{length}
 use Rattle.layout.specs.Columns.{headerWidth}
 use Rattle.sequence.specs.declared.Inbound.{Inbound}
 use Rattle.message_type.specs.declared.MessageType.{MessageType}
+use Rattle.book.specs.declared.Caller.{Caller}
 use Rattle.book.specs.declared.Book.{Book}
 use Rattle.book.specs.declared.Reason.{Reason}
 use Rattle.book.specs.declared.Answer.{Answer}
 use Rattle.book.specs.Messages.{typeOf}
-use Rattle.book.specs.Checks.{arrived, refusal}
-use Rattle.book.specs.Step.{isSilent, outputFor}
+use Rattle.book.specs.Checks.{arrived}
+use Rattle.book.specs.Reasons.{isSilent, refusal}
+use Rattle.book.specs.Step.{outputFor}
 use Rattle.reply.specs.Counters.{withCounters}
 use Rattle.calls.specs.declared.Stepped.{Stepped}
 
@@ -29,18 +31,18 @@ module _ (book : Book) (body : List ℕ) (reason : Reason) (k : MessageType) (nu
   pub not-silent : silent ≡ false → isSilent a ≡ false
   not-silent e = sym es ∙ e
 
-  abbrev pub Refuses : List ℕ → List ℕ → List ℕ → Type 0
-  Refuses time out out′ =
-      (a ≡ refusal (typeOf body) reason) × (after ≡ withCounters book body (refusal (typeOf body) reason)) × (out′ ≡ outputFor book body (refusal (typeOf body) reason) time out)
+  abbrev pub Refuses : Caller → List ℕ → List ℕ → Type 0
+  Refuses caller out out′ =
+      (a ≡ refusal (typeOf body) reason) × (after ≡ withCounters book body (refusal (typeOf body) reason)) × (out′ ≡ outputFor book body (refusal (typeOf body) reason) caller out)
 
   counted : after ≡ withCounters book body (refusal (typeOf body) reason)
   counted = rw (sym answer-is) (ec body en)
 
-  pub refused-silently : (time out : List ℕ) → silent ≡ true → Refuses time out out
+  pub refused-silently : (caller : Caller) (out : List ℕ) → silent ≡ true → Refuses caller out out
   unfolding outputFor
-  refused-silently time out e =
+  refused-silently caller out e =
       let q : isSilent (refusal (typeOf body) reason) ≡ true = rw (sym answer-is, sym es) e in
       (answer-is, counted, rw q)
 
-  pub refused-aloud : (time out out′ : List ℕ) → out′ ≡ outputFor book body a time out → Refuses time out out′
-  refused-aloud time out out′ e = (answer-is, counted, rw (sym answer-is) e)
+  pub refused-aloud : (caller : Caller) (out out′ : List ℕ) → out′ ≡ outputFor book body a caller out → Refuses caller out out′
+  refused-aloud caller out out′ e = (answer-is, counted, rw (sym answer-is) e)

@@ -1,6 +1,7 @@
 // The frame call: 42 first, then the checks of operator, line and sender, then the trader's; then what an accepted message moves, and what goes out.
 use book::Answer;
 use book::Book;
+use book::Caller;
 use book::Reason;
 use book::Trade;
 use book::Verdict;
@@ -16,20 +17,20 @@ ghost use Rattle.layout.specs.Columns.{headerWidth};
 ghost use Rattle.book.specs.declared.Verdict.the-variants.{Passes};
 ghost use Rattle.book.specs.Messages.{typeOf};
 ghost use Rattle.book.specs.Opening.{tradesMax, recordsMax};
-ghost use Rattle.book.specs.Checks.{noTrade, refusal, firstFailing};
-ghost use Rattle.book.specs.Step.{isSilent, withOpenPar, outputFor};
+ghost use Rattle.book.specs.Checks.{noTrade, firstFailing, senderChecks, askedBy};
+ghost use Rattle.book.specs.Reasons.{isSilent, refusal};
+ghost use Rattle.book.specs.Step.{withOpenPar, outputFor};
 ghost use Rattle.rows.specs.Rows.{tableOf};
 ghost use Rattle.reply.specs.Counters.{withCounters};
-ghost use Rattle.check_sender.specs.Order.{senderChecks};
 ghost use Rattle.check_trader.specs.Decisions.{callOn, Ready};
 ghost use Rattle.rows_step.specs.Frames.{Acceptable, Steps, Frames};
 
 // A refused frame: what goes out, and the counters.
-fn refuse(book: Book, body: &[u8], reason: Reason, time: [u8; 6], out: &mut [u8]) -> Stepped
+fn refuse(book: Book, body: &[u8], reason: Reason, caller: Caller, out: &mut [u8]) -> Stepped
     requires { ⌜ (isSilent (refusal (typeOf (now body)) reason) ≡ false → headerWidth ≤ length (now body)) ⌝ }
     ensures { λ r. ⌜ (r .answer ≡ refusal (typeOf (now (body .entry))) reason)
         × (r .book ≡ withCounters book (now (body .entry)) (refusal (typeOf (now (body .entry))) reason))
-        × (now (out .exit) ≡ outputFor book (now (body .entry)) (refusal (typeOf (now (body .entry))) reason) time (now (out .entry))) ⌝ }
+        × (now (out .exit) ≡ outputFor book (now (body .entry)) (refusal (typeOf (now (body .entry))) reason) caller (now (out .entry))) ⌝ }
 {
     let kind = header::message_type(body);
     let number = header::arrived(body);
@@ -41,7 +42,7 @@ fn refuse(book: Book, body: &[u8], reason: Reason, time: [u8; 6], out: &mut [u8]
             answer: answer,
         };
     }
-    reply::put_reply(book, body, number, answer, time, &mut *out);
+    reply::put_reply(book, body, number, answer, caller, &mut *out);
     Stepped {
         book: after,
         answer: answer,
@@ -67,8 +68,8 @@ fn moved_trades(
 
 // Moves the table by the marks of a decision.
 fn move_by(
-    numbers: &mut [[u64; 6]],
-    keys: &mut [[u8; 22]],
+    numbers: &mut [[u64; rows::NUMBERS]],
+    keys: &mut [[u8; rows::KEY_WIDTH]],
     live: usize,
     body: &[u8],
     marks: [u8; book::RECORDS_MAX],
@@ -94,15 +95,15 @@ fn move_by(
 // An accepted frame: the table and the trades move, then the answer goes out.
 fn accept(
     book: Book,
-    numbers: &mut [[u64; 6]],
-    keys: &mut [[u8; 22]],
+    numbers: &mut [[u64; rows::NUMBERS]],
+    keys: &mut [[u8; rows::KEY_WIDTH]],
     body: &[u8],
     decision: Decision,
-    time: [u8; 6],
+    caller: Caller,
     out: &mut [u8],
 ) -> Stepped
-    requires { ⌜ Acceptable book (now numbers) (now keys) (now body) (length (now out)) decision ⌝ }
-    ensures { λ r. ⌜ Steps book (now (numbers .entry)) (now (keys .entry)) (now (body .entry)) time (now (out .entry)) r (now (numbers .exit)) (now (keys .exit)) (now (out .exit)) ⌝ }
+    requires { ⌜ Acceptable book (now numbers) (now keys) (now body) (askedBy caller (length (now out))) decision ⌝ }
+    ensures { λ r. ⌜ Steps book (now (numbers .entry)) (now (keys .entry)) (now (body .entry)) caller (now (out .entry)) r (now (numbers .exit)) (now (keys .exit)) (now (out .exit)) ⌝ }
 {
     let values = book.values;
     let trades = values.trades;
@@ -122,7 +123,7 @@ fn accept(
         message,
         trade as u64,
     );
-    reply::put_reply(book, body, number, answer, time, &mut *out);
+    reply::put_reply(book, body, number, answer, caller, &mut *out);
     let line = counted.line;
     let mut after = counted.values;
     after.trades = moved;
@@ -140,52 +141,52 @@ fn accept(
 // A frame that 42 and the sender's checks let pass.
 fn step_on(
     book: Book,
-    numbers: &mut [[u64; 6]],
-    keys: &mut [[u8; 22]],
+    numbers: &mut [[u64; rows::NUMBERS]],
+    keys: &mut [[u8; rows::KEY_WIDTH]],
     body: &[u8],
-    time: [u8; 6],
+    caller: Caller,
     out: &mut [u8],
 ) -> Stepped
     requires { ⌜ Ready book (now numbers) (now keys) (now body) ⌝ }
-    requires { ⌜ firstFailing senderChecks (callOn book (now numbers) (now keys) (now body) (length (now out))) ≡ Passes ⌝ }
-    ensures { λ r. ⌜ Steps book (now (numbers .entry)) (now (keys .entry)) (now (body .entry)) time (now (out .entry)) r (now (numbers .exit)) (now (keys .exit)) (now (out .exit)) ⌝ }
+    requires { ⌜ firstFailing senderChecks (callOn book (now numbers) (now keys) (now body) (askedBy caller (length (now out)))) ≡ Passes ⌝ }
+    ensures { λ r. ⌜ Steps book (now (numbers .entry)) (now (keys .entry)) (now (body .entry)) caller (now (out .entry)) r (now (numbers .exit)) (now (keys .exit)) (now (out .exit)) ⌝ }
 {
     let decision = check_trader::decide(book, &*numbers, &*keys, body);
     let verdict = decision.verdict;
     match verdict {
-        Verdict::Fails(reason) => refuse(book, body, reason, time, &mut *out),
+        Verdict::Fails(reason) => refuse(book, body, reason, caller, &mut *out),
         Verdict::Passes => accept(
             book,
             &mut *numbers,
             &mut *keys,
             body,
             decision,
-            time,
+            caller,
             &mut *out,
         ),
     }
 }
 
-// The frame call, on any book, table, body, time bytes and output.
+// The frame call, on any book, table, body, caller and output.
 pub fn step(
     book: Book,
-    numbers: &mut [[u64; 6]],
-    keys: &mut [[u8; 22]],
+    numbers: &mut [[u64; rows::NUMBERS]],
+    keys: &mut [[u8; rows::KEY_WIDTH]],
     body: &[u8],
-    time: [u8; 6],
+    caller: Caller,
     out: &mut [u8],
 ) -> Stepped
-    ensures { λ r. ⌜ Frames book (now (numbers .entry)) (now (keys .entry)) (now (body .entry)) time (now (out .entry)) r (now (numbers .exit)) (now (keys .exit)) (now (out .exit)) ⌝ }
+    ensures { λ r. ⌜ Frames book (now (numbers .entry)) (now (keys .entry)) (now (body .entry)) caller (now (out .entry)) r (now (numbers .exit)) (now (keys .exit)) (now (out .exit)) ⌝ }
 {
     if !check_soundness::is_sound(book, &*numbers, &*keys) {
         return Stepped {
             book: book,
-            answer: Answer::Rejected(Reason::Unsound),
+            answer: Answer::Rejected(Reason::Operator(42, book::SILENT)),
         };
     }
     let first = check_sender::first_of_sender(book, body, out.len());
     match first {
-        Verdict::Fails(reason) => refuse(book, body, reason, time, &mut *out),
-        Verdict::Passes => step_on(book, &mut *numbers, &mut *keys, body, time, &mut *out),
+        Verdict::Fails(reason) => refuse(book, body, reason, caller, &mut *out),
+        Verdict::Passes => step_on(book, &mut *numbers, &mut *keys, body, caller, &mut *out),
     }
 }

@@ -46,13 +46,14 @@ use denote.Triple.Spec.{tripleOf}
 use denote.Triple.Walked.{says, Stays, stay-dropped, gave-slice, walkOf, AllGo, goes-dropped, goes-gave-slice, ends-at}
 use denote.Exit.{yes}
 use Rattle.lists.specs.Lists.{part}
+use Rattle.book.specs.declared.Caller.{Caller}
 use Rattle.book.specs.declared.Book.{Book}
 use Rattle.book.specs.declared.Pool.{Pool}
 use Rattle.calls.specs.declared.Stepped.{Stepped}
 use Rattle.calls.proofs.Stepped.Laws as S′
 use Rattle.table_load.proofs.Row.{R}
 use Rattle.calls.specs.Calls.{Framed}
-use Rattle.table_rows.proofs.Values.{BookR, bookVal, bookVals, book-value, SteppedR, stepped-value, TimeR, timeVal, timeVals, time-tells, time-makes}
+use Rattle.table_rows.proofs.Values.{BookR, bookVal, bookVals, book-value, SteppedR, stepped-value, CallerR, callerVal, callerVals, caller-value}
 use Rattle.table_step.proofs.step_with as sw
 use Rattle.table_step.proofs.step_with.Symbol.{name as #table-step·step-with}
 use Rattle.slice_laws.proofs.Blanks.{blanks, length-blanks, RowR, zeros, rowVal, rows-typed, rows-out}
@@ -64,7 +65,7 @@ abbrev Rows : Type 0
 Rows = List (List ℕ)
 
 abbrev pub Arg : Type 0
-Arg = Book × (RefT (List Pool) × (RefT (List ℕ) × (ℕ × (ℕ × (List ℕ × (RefT (List ℕ) × Unit {0}))))))
+Arg = Book × (RefT (List Pool) × (RefT (List ℕ) × (ℕ × (ℕ × (Caller × (RefT (List ℕ) × Unit {0}))))))
 
 -- the last values that `step_with` says
 abbrev Lasts : Type 0
@@ -95,7 +96,7 @@ stayed = (
         (
           stay-dropped (plain (λ _. usize)) yes,
           (
-            stay-dropped (plain (λ _. TimeR)) yes,
+            stay-dropped (plain (λ _. CallerR)) yes,
             (gave-slice (2 ∷ []) tt (plain (λ _. u8)), tt),
           ),
         ),
@@ -105,10 +106,10 @@ stayed = (
 )
 
 abbrev pub all-vals : (κs : Lfts 3) → Spells (typesAt (f.signature .params) κs)
-all-vals κs = (bookVals, (slice-vals, (slice-vals, (uint-vals w64, (uint-vals w64, (timeVals, (slice-vals, tt)))))))
+all-vals κs = (bookVals, (slice-vals, (slice-vals, (uint-vals w64, (uint-vals w64, (callerVals, (slice-vals, tt)))))))
 
 pub all-tell : (κs : Lfts 3) → Tellss (typesAt (f.signature .params) κs) (Ises (typesAt (f.signature .params) κs)) (all-vals κs)
-all-tell κs = (book-value .tells, (mut-slice-tells (named 0) (κs .0) R, (shr-slice-tells (named 1) (κs .1 .0) u8, (uint-tells w64, (uint-tells w64, (time-tells, (mut-slice-tells (named 2) (κs .1 .1 .0) u8, tt)))))))
+all-tell κs = (book-value .tells, (mut-slice-tells (named 0) (κs .0) R, (shr-slice-tells (named 1) (κs .1 .0) u8, (uint-tells w64, (uint-tells w64, (caller-value .tells, (mut-slice-tells (named 2) (κs .1 .1 .0) u8, tt)))))))
 
 pub all-go : {M : Type 1} (𝓤 : URA M) (H : Heap 𝓤) (A : Atoms 𝓤) (W : Given 𝓤 H A) → AllGo 𝓤 H A W 3 (f.ended .signature .params) (f.ended .kept) stayed
 all-go 𝓤 H A W = (
@@ -122,7 +123,7 @@ all-go 𝓤 H A W = (
         (
           goes-dropped 𝓤 H A W 3 (plain (λ _. usize)) yes (λ κs x f. refl),
           (
-            goes-dropped 𝓤 H A W 3 (plain (λ _. TimeR)) yes (λ κs x f. refl),
+            goes-dropped 𝓤 H A W 3 (plain (λ _. CallerR)) yes (λ κs x f. refl),
             (goes-gave-slice 𝓤 H A W 3 2 tt (plain (λ _. u8)), tt),
           ),
         ),
@@ -182,8 +183,8 @@ module _ {M : Type 1} (𝓤 : URA M) (H : Heap 𝓤) (A : Atoms 𝓤) (W : Given
   abbrev past : ℕ
   past = a .1 .1 .1 .1 .0
 
-  abbrev time : List ℕ
-  time = a .1 .1 .1 .1 .1 .0
+  abbrev caller : Caller
+  caller = a .1 .1 .1 .1 .1 .0
 
   abbrev out : RefT (List ℕ)
   out = a .1 .1 .1 .1 .1 .1 .0
@@ -211,10 +212,10 @@ module _ {M : Type 1} (𝓤 : URA M) (H : Heap 𝓤) (A : Atoms 𝓤) (W : Given
   s₃ = sliceVal (out .ptr) (length os)
 
   abbrev pub at : Vals f.signature κs
-  at = (bookVals k, (s ∷ [], (s₂ ∷ [], (vint w64 start ∷ [], (vint w64 past ∷ [], (timeVals time, (s₃ ∷ [], tt)))))))
+  at = (bookVals k, (s ∷ [], (s₂ ∷ [], (vint w64 start ∷ [], (vint w64 past ∷ [], (callerVals caller, (s₃ ∷ [], tt)))))))
 
   abbrev pub given : List Val
-  given = bookVal k ∷ s ∷ s₂ ∷ vint w64 start ∷ vint w64 past ∷ timeVal time ∷ s₃ ∷ []
+  given = bookVal k ∷ s ∷ s₂ ∷ vint w64 start ∷ vint w64 past ∷ callerVal caller ∷ s₃ ∷ []
 
   abbrev bound : walkOf 𝓤 H A f.ended stayed (f.clauses 𝓤 H A mem run) .Ghost
   bound = ((κs, qs, tt, a, at), tt)
@@ -238,7 +239,7 @@ module _ {M : Type 1} (𝓤 : URA M) (H : Heap 𝓤) (A : Atoms 𝓤) (W : Given
   abbrev pub Left : List Pool → List ℕ → List (Item 𝓤)
   Left ps ws = Rest ∷ ‵ (flft (κs .0) (qs .0)) ∷ ‵ (finally u8 (out .name) ws) ∷ ‵ (finally R (x .name) ps) ∷ []
 
-  pub exits : (r : Stepped) (w : Val) (ps : List Pool) (ws : List ℕ) → Is SteppedR r (w ∷ []) → length ps ≡ length ys → length ws ≡ length os → Framed k ys frame-body time os r ps ws → ent 𝓤 (⋆ 𝓤 H A (Left ps ws)) (Post w)
+  pub exits : (r : Stepped) (w : Val) (ps : List Pool) (ws : List ℕ) → Is SteppedR r (w ∷ []) → length ps ≡ length ys → length ws ≡ length os → Framed k ys frame-body caller os r ps ws → ent 𝓤 (⋆ 𝓤 H A (Left ps ws)) (Post w)
   exits r w ps ws gr lp lw e =
       qed W (Left ps ws) ∵ suffices ! _ (ends-at 𝓤 H A f.ended stayed (f.clauses 𝓤 H A mem run) W bound w r (tt, (ps, (tt, (tt, (tt, (tt, (ws, tt))))))) (tt, (lp, (tt, (tt, (tt, (tt, (lw, tt)))))))) $ says ! e $
       move ! (1 ∷ 0 ∷ []) $ join ! $ frame ! $ nothing ! $ move ! (1 ∷ 0 ∷ []) $ fjoin ! $ nothing ! $ fjoin ! $ nothing ! $ fjoin ! $ nothing ! $ fjoin ! $ nothing ! $ fjoin ! $ move ! (1 ∷ 0 ∷ []) $ fjoin ! $ nothing ! $ fjoin ! $ frame ! $
@@ -251,8 +252,8 @@ module _ {M : Type 1} (𝓤 : URA M) (H : Heap 𝓤) (A : Atoms 𝓤) (W : Given
 
     -- what the triple of `step_with` binds outside: the arrays l and l′ are lent for ν and ν₂, all else is handed on
     module _ (l l′ ν : ℕ) (δ : GName) (ν₂ : ℕ) (δ₂ : GName) where
-      abbrev with-args : Book × (RefT (List Pool) × (RefT Rows × (RefT Rows × (RefT (List ℕ) × (ℕ × (ℕ × (List ℕ × (RefT (List ℕ) × Unit {0}))))))))
-      with-args = (k, (x, (y l δ (numbers m), (y l′ δ₂ (keys m), (tape, (start, (past, (time, (out, tt)))))))))
+      abbrev with-args : Book × (RefT (List Pool) × (RefT Rows × (RefT Rows × (RefT (List ℕ) × (ℕ × (ℕ × (Caller × (RefT (List ℕ) × Unit {0}))))))))
+      with-args = (k, (x, (y l δ (numbers m), (y l′ δ₂ (keys m), (tape, (start, (past, (caller, (out, tt)))))))))
 
       abbrev to-with : With 𝓤 H A mem run .Ghost
       to-with = (
@@ -261,7 +262,7 @@ module _ {M : Type 1} (𝓤 : URA M) (H : Heap 𝓤) (A : Atoms 𝓤) (W : Given
           (qs .0, (fullShare, (fullShare, qs .1))),
           tt,
           with-args,
-          (bookVals k, (s ∷ [], (sliceVal (l, 0) m ∷ [], (sliceVal (l′, 0) m ∷ [], (s₂ ∷ [], (vint w64 start ∷ [], (vint w64 past ∷ [], (timeVals time, (s₃ ∷ [], tt))))))))),
+          (bookVals k, (s ∷ [], (sliceVal (l, 0) m ∷ [], (sliceVal (l′, 0) m ∷ [], (s₂ ∷ [], (vint w64 start ∷ [], (vint w64 past ∷ [], (callerVals caller, (s₃ ∷ [], tt))))))))),
         ),
         tt,
       )
@@ -278,21 +279,21 @@ module _ {M : Type 1} (𝓤 : URA M) (H : Heap 𝓤) (A : Atoms 𝓤) (W : Given
       abbrev ToWith : List (Item 𝓤)
       ToWith = Tokens ∷ (Pools ⊛ Numbers m ⊛ Keys m ⊛ Tape ⊛ Output) ∷ []
 
-      goes : Is BookR k (bookVals k) → start < 2 ^ 64 → past < 2 ^ 64 → Is TimeR time (timeVals time)
+      goes : Is BookR k (bookVals k) → start < 2 ^ 64 → past < 2 ^ 64 → Is CallerR caller (callerVals caller)
           → (rowsOf (length ys) (wanted (k .live) (past - start)) ≤ length (numbers m)) × (rowsOf (length ys) (wanted (k .live) (past - start)) ≤ length (keys m)) × (start ≤ past) × (past ≤ length ts) → ent 𝓤 (⋆ 𝓤 H A ToWith) (With 𝓤 H A mem run .pre to-with)
       goes gk gs gp gt within =
           qed W ToWith ∵ says ! within $ frame ! $ split ! $ move ! (1 ∷ []) $ split ! $ move ! (1 ∷ []) $ split ! $ move ! (1 ∷ []) $ split ! $
           -- [tape; output; keys; numbers; pools]
-          nothing ! $ move ! (2 ∷ 0 ∷ []) $ fjoin ! $ owned ! TimeR (Is TimeR) (time-makes 𝓤 H A W) time _ gt $ fjoin ! $ owned ! usize (Is usize) (uint-makes 𝓤 H A W w64) past _ (refl, gp) $ fjoin ! $
+          nothing ! $ move ! (2 ∷ 0 ∷ []) $ fjoin ! $ owned ! CallerR (Is CallerR) (caller-value .makes 𝓤 H A) caller _ gt $ fjoin ! $ owned ! usize (Is usize) (uint-makes 𝓤 H A W w64) past _ (refl, gp) $ fjoin ! $
           owned ! usize (Is usize) (uint-makes 𝓤 H A W w64) start _ (refl, gs) $ fjoin ! $ move ! (1 ∷ 0 ∷ []) $ fjoin ! $ move ! (1 ∷ 0 ∷ []) $ fjoin ! $ move ! (1 ∷ 0 ∷ []) $ fjoin ! $ move ! (1 ∷ 0 ∷ []) $ fjoin ! $
           owned ! BookR (Is BookR) (book-value .makes 𝓤 H A) k _ gk $ fjoin ! $ done !
 
     -- what `step_with` says
     abbrev Stepping : Stepped → Lasts → Type 0
-    Stepping r zs = Framed k ys frame-body time os r (zs .1 .0) (zs .1 .1 .1 .1 .1 .1 .1 .1 .0)
+    Stepping r zs = Framed k ys frame-body caller os r (zs .1 .0) (zs .1 .1 .1 .1 .1 .1 .1 .1 .0)
 
     module _ (𝓣 : Tables 𝓤 H) (known : Triple 𝓤 (𝓣 .C #table-step·step-with) (With 𝓤 H A mem run))
-        (gk : Is BookR k (bookVals k)) (gs : start < 2 ^ 64) (gp : past < 2 ^ 64) (gt : Is TimeR time (timeVals time)) (enough : rowsOf (length ys) (wanted (k .live) (past - start)) ≤ m) (within : (start ≤ past) × (past ≤ length ts)) (room-numbers : Room N m) (room-keys : Room K m)
+        (gk : Is BookR k (bookVals k)) (gs : start < 2 ^ 64) (gp : past < 2 ^ 64) (gt : Is CallerR caller (callerVals caller)) (enough : rowsOf (length ys) (wanted (k .live) (past - start)) ≤ m) (within : (start ≤ past) × (past ≤ length ts)) (room-numbers : Room N m) (room-keys : Room K m)
         (τ : ℕ → Ty) (is-stepped : steppedTy ≡ τ 0) (is-numbers : numbersTy m ≡ τ 8) (is-keys : keysTy m ≡ τ 9) (l₀ l₁ l₂ l₃ l₄ l₅ l₆ l₇ l₈ l₉ l₁₀ l₁₁ l₁₂ l₁₃ l₁₄ l₁₅ l₁₆ l₁₇ l₁₈ l₁₉ : ℕ) where
       many-numbers : length (numbers m) ≡ m
       many-numbers = length-blanks m (zeros w64 6)
@@ -309,7 +310,7 @@ module _ {M : Type 1} (𝓤 : URA M) (H : Heap 𝓤) (A : Atoms 𝓤) (W : Given
           ∷ ‵ (fat fullShare (τ 19) l₁₉ 0 s₃) ∷ ‵ (fdies (τ 19) l₁₉) ∷ ‵ (froom (τ 18) l₁₈ 0) ∷ ‵ (fdies (τ 18) l₁₈) ∷ ‵ (fat fullShare (τ 17) l₁₇ 0 (sliceVal (l₉, 0) m)) ∷ ‵ (fdies (τ 17) l₁₇) ∷ ‵ (froom (τ 16) l₁₆ 0) ∷ ‵ (fdies (τ 16) l₁₆)
           ∷ ‵ (fat fullShare (τ 15) l₁₅ 0 (sliceVal (l₈, 0) m)) ∷ ‵ (fdies (τ 15) l₁₅) ∷ ‵ (froom (τ 14) l₁₄ 0) ∷ ‵ (fdies (τ 14) l₁₄) ∷ ‵ (fat fullShare (τ 13) l₁₃ 0 s) ∷ ‵ (fdies (τ 13) l₁₃) ∷ ‵ (froom (τ 12) l₁₂ 0) ∷ ‵ (fdies (τ 12) l₁₂)
           ∷ ‵ (froom (τ 11) l₁₁ 0) ∷ ‵ (fdies (τ 11) l₁₁) ∷ ‵ (froom (τ 10) l₁₀ 0) ∷ ‵ (fdies (τ 10) l₁₀) ∷ ‵ (fdies (τ 9) l₉) ∷ ‵ (fdies (τ 8) l₈) ∷ ‵ (fat fullShare (τ 7) l₇ 0 s₃) ∷ ‵ (fdies (τ 7) l₇)
-          ∷ ‵ (fat fullShare (τ 6) l₆ 0 (timeVal time)) ∷ ‵ (fdies (τ 6) l₆) ∷ ‵ (fat fullShare (τ 5) l₅ 0 (vint w64 past)) ∷ ‵ (fdies (τ 5) l₅) ∷ ‵ (fat fullShare (τ 4) l₄ 0 (vint w64 start)) ∷ ‵ (fdies (τ 4) l₄)
+          ∷ ‵ (fat fullShare (τ 6) l₆ 0 (callerVal caller)) ∷ ‵ (fdies (τ 6) l₆) ∷ ‵ (fat fullShare (τ 5) l₅ 0 (vint w64 past)) ∷ ‵ (fdies (τ 5) l₅) ∷ ‵ (fat fullShare (τ 4) l₄ 0 (vint w64 start)) ∷ ‵ (fdies (τ 4) l₄)
           ∷ ‵ (fat fullShare (τ 3) l₃ 0 s₂) ∷ ‵ (fdies (τ 3) l₃) ∷ ‵ (fat fullShare (τ 2) l₂ 0 s) ∷ ‵ (fdies (τ 2) l₂) ∷ ‵ (fat fullShare (τ 1) l₁ 0 (bookVal k)) ∷ ‵ (fdies (τ 1) l₁) ∷ ‵ (froom (τ 0) l₀ 0) ∷ ‵ (fdies (τ 0) l₀) ∷ []
 
       call-meets : ent 𝓤 (⋆ 𝓤 H A AtCall) (Wp 𝓤 H (𝓣 .C) (𝓣 .Λ) En call-with (atReturn 𝓤 H En Post))

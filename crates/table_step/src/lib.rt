@@ -1,5 +1,6 @@
 // The public calls on a lent table of pool records: a call's rows are its own, so the caller lends the table alone.
 use book::Book;
+use book::Caller;
 use book::Pool;
 use calls::Stepped;
 use rows_enough::Moved;
@@ -33,11 +34,11 @@ fn step_part_rows(
     tape: &[u8],
     from: usize,
     to: usize,
-    time: [u8; 6],
+    caller: Caller,
     out: &mut [u8],
 ) -> Moved
     requires { ⌜ (rowsOf records (wanted (book .live) (to - from)) ≤ length (now numbers)) × (rowsOf records (wanted (book .live) (to - from)) ≤ length (now keys)) × (from ≤ to) × (to ≤ length (now tape)) ⌝ }
-    ensures { λ r. ⌜ StepsRows book (now (numbers .entry)) (now (keys .entry)) records rest (part (now (tape .entry)) from (to - from)) time (now (out .entry)) r (now (numbers .exit)) (now (keys .exit)) (now (out .exit)) ⌝ }
+    ensures { λ r. ⌜ StepsRows book (now (numbers .entry)) (now (keys .entry)) records rest (part (now (tape .entry)) from (to - from)) caller (now (out .entry)) r (now (numbers .exit)) (now (keys .exit)) (now (out .exit)) ⌝ }
 {
     rows_enough::step_rows(
         book,
@@ -46,7 +47,7 @@ fn step_part_rows(
         records,
         rest,
         &tape[from..to],
-        time,
+        caller,
         &mut *out,
     )
 }
@@ -81,11 +82,11 @@ fn step_with(
     tape: &[u8],
     from: usize,
     to: usize,
-    time: [u8; 6],
+    caller: Caller,
     out: &mut [u8],
 ) -> Stepped
     requires { ⌜ (rowsOf (length (now pools)) (wanted (book .live) (to - from)) ≤ length (now numbers)) × (rowsOf (length (now pools)) (wanted (book .live) (to - from)) ≤ length (now keys)) × (from ≤ to) × (to ≤ length (now tape)) ⌝ }
-    ensures { λ r. ⌜ Framed book (now (pools .entry)) (part (now (tape .entry)) from (to - from)) time (now (out .entry)) r (now (pools .exit)) (now (out .exit)) ⌝ }
+    ensures { λ r. ⌜ Framed book (now (pools .entry)) (part (now (tape .entry)) from (to - from)) caller (now (out .entry)) r (now (pools .exit)) (now (out .exit)) ⌝ }
 {
     let rest = table_rows::load_rows(
         pools,
@@ -102,7 +103,7 @@ fn step_with(
         tape,
         from,
         to,
-        time,
+        caller,
         out,
     );
     let first = changed_from(moved);
@@ -118,11 +119,11 @@ fn step_few(
     tape: &[u8],
     from: usize,
     to: usize,
-    time: [u8; 6],
+    caller: Caller,
     out: &mut [u8],
 ) -> Stepped
     requires { ⌜ (rowsOf (length (now pools)) (wanted (book .live) (to - from)) ≤ fewRows) × (from ≤ to) × (to ≤ length (now tape)) ⌝ }
-    ensures { λ stepped. ⌜ Framed book (now (pools .entry)) (part (now (tape .entry)) from (to - from)) time (now (out .entry)) stepped (now (pools .exit)) (now (out .exit)) ⌝ }
+    ensures { λ stepped. ⌜ Framed book (now (pools .entry)) (part (now (tape .entry)) from (to - from)) caller (now (out .entry)) stepped (now (pools .exit)) (now (out .exit)) ⌝ }
 {
     let mut numbers = [[0u64; rows::NUMBERS]; FEW];
     let mut keys = [[0u8; rows::KEY_WIDTH]; FEW];
@@ -134,7 +135,7 @@ fn step_few(
         tape,
         from,
         to,
-        time,
+        caller,
         out,
     )
 }
@@ -146,11 +147,11 @@ fn step_many(
     tape: &[u8],
     from: usize,
     to: usize,
-    time: [u8; 6],
+    caller: Caller,
     out: &mut [u8],
 ) -> Stepped
     requires { ⌜ (from ≤ to) × (to ≤ length (now tape)) ⌝ }
-    ensures { λ stepped. ⌜ Framed book (now (pools .entry)) (part (now (tape .entry)) from (to - from)) time (now (out .entry)) stepped (now (pools .exit)) (now (out .exit)) ⌝ }
+    ensures { λ stepped. ⌜ Framed book (now (pools .entry)) (part (now (tape .entry)) from (to - from)) caller (now (out .entry)) stepped (now (pools .exit)) (now (out .exit)) ⌝ }
 {
     let mut numbers = [[0u64; rows::NUMBERS]; book::RECORDS_MAX];
     let mut keys = [[0u8; rows::KEY_WIDTH]; book::RECORDS_MAX];
@@ -162,7 +163,7 @@ fn step_many(
         tape,
         from,
         to,
-        time,
+        caller,
         out,
     )
 }
@@ -174,21 +175,21 @@ pub fn step_part(
     tape: &[u8],
     from: usize,
     to: usize,
-    time: [u8; 6],
+    caller: Caller,
     out: &mut [u8],
 ) -> Stepped
     requires { ⌜ (from ≤ to) × (to ≤ length (now tape)) ⌝ }
-    ensures { λ r. ⌜ Framed book (now (pools .entry)) (part (now (tape .entry)) from (to - from)) time (now (out .entry)) r (now (pools .exit)) (now (out .exit)) ⌝ }
+    ensures { λ r. ⌜ Framed book (now (pools .entry)) (part (now (tape .entry)) from (to - from)) caller (now (out .entry)) r (now (pools .exit)) (now (out .exit)) ⌝ }
 {
     if few_enough(book, pools.len(), from, to) {
-        return step_few(book, pools, tape, from, to, time, out);
+        return step_few(book, pools, tape, from, to, caller, out);
     }
-    step_many(book, pools, tape, from, to, time, out)
+    step_many(book, pools, tape, from, to, caller, out)
 }
 
-// The frame call, on any book, table, body, time bytes and output.
-pub fn step(book: Book, pools: &mut [Pool], body: &[u8], time: [u8; 6], out: &mut [u8]) -> Stepped
-    ensures { λ r. ⌜ Framed book (now (pools .entry)) (now (body .entry)) time (now (out .entry)) r (now (pools .exit)) (now (out .exit)) ⌝ }
+// The frame call, on any book, table, body, caller and output.
+pub fn step(book: Book, pools: &mut [Pool], body: &[u8], caller: Caller, out: &mut [u8]) -> Stepped
+    ensures { λ r. ⌜ Framed book (now (pools .entry)) (now (body .entry)) caller (now (out .entry)) r (now (pools .exit)) (now (out .exit)) ⌝ }
 {
-    step_part(book, pools, body, 0, body.len(), time, out)
+    step_part(book, pools, body, 0, body.len(), caller, out)
 }

@@ -1,7 +1,8 @@
 use mathlib.Core.Path.{refl, sym, _∙_}
 use Rattle.rows.specs.Rows.{tableOf}
-use Rattle.check_trader.specs.Decisions.{traderChecks, callOn}
-use Rattle.check_trader.proofs.Firsts.{first-early}
+use Rattle.check_trader.specs.Decisions.{callOn}
+use Rattle.book.specs.Checks.{termsChecks, movesChecks, traderChecks}
+use Rattle.book.proofs.Firsts.{first-early}
 use Rattle.check_trader.proofs.Deciding.{refused-by, within, run-stop, there-is, target-is, decided-late}
 use borrow.Author.Needs.{needs}
 use Rattle.check_trader.proofs.decide.Statement.{statement}
@@ -29,10 +30,10 @@ decide-moves-requires : tie.Need-decide-moves-requires
 decide-moves-requires c κs = (c .before .before .before .before .before .before .before .before .pre, target-is (c .before .before .before .before .before .before .before .before .args .book) (c .before .before .before .before .before .before .before .before .args .numbers .now) (c .before .before .before .before .before .before .before .before .args .keys .now) (c .before .before .before .before .before .before .before .before .args .body .now) (c .before .before .before .before .before .before .before .before .pre) _ (c .before .before .before .before .before .target-run .ensures) ∙ sym (c .before .before .before .target-trade .ensures))
 
 returns : tie.Need-returns
-returns c = λ room. refused-by traderChecks (c .before .before .before .before .before .before .before .before .before .before .args .book) (c .before .before .before .before .before .before .before .before .before .before .args .numbers .now) (c .before .before .before .before .before .before .before .before .before .before .args .keys .now) (c .before .before .before .before .before .before .before .before .before .before .args .body .now) room _ _ (c .refused .ensures) (sym (first-early (callOn (c .before .before .before .before .before .before .before .before .before .before .args .book) (c .before .before .before .before .before .before .before .before .before .before .args .numbers .now) (c .before .before .before .before .before .before .before .before .before .before .args .keys .now) (c .before .before .before .before .before .before .before .before .before .before .args .body .now) room) 7 traderChecks _ (sym (c .before .before .before .before .first-of-terms .ensures (c .before .before .before .before .before .before .before .before .before .before .args .book) (tableOf (c .before .before .before .before .before .before .before .before .before .before .args .numbers .now) (c .before .before .before .before .before .before .before .before .before .before .args .keys .now)) room refl (there-is (c .before .before .before .before .before .before .before .before .before .before .args .book) (c .before .before .before .before .before .before .before .before .before .before .args .numbers .now) (c .before .before .before .before .before .before .before .before .before .before .args .keys .now) (c .before .before .before .before .before .before .before .before .before .before .args .body .now) (c .before .before .before .before .before .before .before .before .before .before .pre) _ (c .before .before .before .before .before .before .before .target-run .ensures)) (target-is (c .before .before .before .before .before .before .before .before .before .before .args .book) (c .before .before .before .before .before .before .before .before .before .before .args .numbers .now) (c .before .before .before .before .before .before .before .before .before .before .args .keys .now) (c .before .before .before .before .before .before .before .before .before .before .args .body .now) (c .before .before .before .before .before .before .before .before .before .before .pre) _ (c .before .before .before .before .before .before .before .target-run .ensures) ∙ sym (c .before .before .before .before .before .target-trade .ensures))) ∙ c .before .before .terms .given .1)))
+returns c = λ asked. refused-by traderChecks (c .before .before .before .before .before .before .before .before .before .before .args .book) (c .before .before .before .before .before .before .before .before .before .before .args .numbers .now) (c .before .before .before .before .before .before .before .before .before .before .args .keys .now) (c .before .before .before .before .before .before .before .before .before .before .args .body .now) asked _ _ (c .refused .ensures) (sym (first-early (callOn (c .before .before .before .before .before .before .before .before .before .before .args .book) (c .before .before .before .before .before .before .before .before .before .before .args .numbers .now) (c .before .before .before .before .before .before .before .before .before .before .args .keys .now) (c .before .before .before .before .before .before .before .before .before .before .args .body .now) asked) termsChecks movesChecks _ (sym (c .before .before .before .before .first-of-terms .ensures (c .before .before .before .before .before .before .before .before .before .before .args .book) (tableOf (c .before .before .before .before .before .before .before .before .before .before .args .numbers .now) (c .before .before .before .before .before .before .before .before .before .before .args .keys .now)) asked refl (there-is (c .before .before .before .before .before .before .before .before .before .before .args .book) (c .before .before .before .before .before .before .before .before .before .before .args .numbers .now) (c .before .before .before .before .before .before .before .before .before .before .args .keys .now) (c .before .before .before .before .before .before .before .before .before .before .args .body .now) (c .before .before .before .before .before .before .before .before .before .before .pre) _ (c .before .before .before .before .before .before .before .target-run .ensures)) (target-is (c .before .before .before .before .before .before .before .before .before .before .args .book) (c .before .before .before .before .before .before .before .before .before .before .args .numbers .now) (c .before .before .before .before .before .before .before .before .before .before .args .keys .now) (c .before .before .before .before .before .before .before .before .before .before .args .body .now) (c .before .before .before .before .before .before .before .before .before .before .pre) _ (c .before .before .before .before .before .before .before .target-run .ensures) ∙ sym (c .before .before .before .before .before .target-trade .ensures))) ∙ c .before .before .terms .given .1)))
 
 returns-2 : tie.Need-returns-2
-returns-2 c = λ room. decided-late (c .before .before .before .before .before .before .before .before .before .args .book) (c .before .before .before .before .before .before .before .before .before .args .numbers .now) (c .before .before .before .before .before .before .before .before .before .args .keys .now) (c .before .before .before .before .before .before .before .before .before .args .body .now) room _ (sym (c .before .enum-told .given .1) ∙ c .before .before .before .first-of-terms .ensures (c .before .before .before .before .before .before .before .before .before .args .book) (tableOf (c .before .before .before .before .before .before .before .before .before .args .numbers .now) (c .before .before .before .before .before .before .before .before .before .args .keys .now)) room refl (there-is (c .before .before .before .before .before .before .before .before .before .args .book) (c .before .before .before .before .before .before .before .before .before .args .numbers .now) (c .before .before .before .before .before .before .before .before .before .args .keys .now) (c .before .before .before .before .before .before .before .before .before .args .body .now) (c .before .before .before .before .before .before .before .before .before .pre) _ (c .before .before .before .before .before .before .target-run .ensures)) (target-is (c .before .before .before .before .before .before .before .before .before .args .book) (c .before .before .before .before .before .before .before .before .before .args .numbers .now) (c .before .before .before .before .before .before .before .before .before .args .keys .now) (c .before .before .before .before .before .before .before .before .before .args .body .now) (c .before .before .before .before .before .before .before .before .before .pre) _ (c .before .before .before .before .before .before .target-run .ensures) ∙ sym (c .before .before .before .before .target-trade .ensures))) (c .decide-moves .ensures room)
+returns-2 c = λ asked. decided-late (c .before .before .before .before .before .before .before .before .before .args .book) (c .before .before .before .before .before .before .before .before .before .args .numbers .now) (c .before .before .before .before .before .before .before .before .before .args .keys .now) (c .before .before .before .before .before .before .before .before .before .args .body .now) asked _ (sym (c .before .enum-told .given .1) ∙ c .before .before .before .first-of-terms .ensures (c .before .before .before .before .before .before .before .before .before .args .book) (tableOf (c .before .before .before .before .before .before .before .before .before .args .numbers .now) (c .before .before .before .before .before .before .before .before .before .args .keys .now)) asked refl (there-is (c .before .before .before .before .before .before .before .before .before .args .book) (c .before .before .before .before .before .before .before .before .before .args .numbers .now) (c .before .before .before .before .before .before .before .before .before .args .keys .now) (c .before .before .before .before .before .before .before .before .before .args .body .now) (c .before .before .before .before .before .before .before .before .before .pre) _ (c .before .before .before .before .before .before .target-run .ensures)) (target-is (c .before .before .before .before .before .before .before .before .before .args .book) (c .before .before .before .before .before .before .before .before .before .args .numbers .now) (c .before .before .before .before .before .before .before .before .before .args .keys .now) (c .before .before .before .before .before .before .before .before .before .args .body .now) (c .before .before .before .before .before .before .before .before .before .pre) _ (c .before .before .before .before .before .before .target-run .ensures) ∙ sym (c .before .before .before .before .target-trade .ensures))) (c .decide-moves .ensures asked)
 
 pub decide-spec : {M : Type 1} → statement M
 decide-spec =

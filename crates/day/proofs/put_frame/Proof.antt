@@ -45,6 +45,8 @@ use denote.Exit.{yes}
 use Rattle.slice_laws.proofs.Count.{tyOf}
 use Rattle.slice_laws.proofs.Scratch.{repeatVal, repeat-typed, repeat-out, elems-room}
 use Rattle.lists.specs.Lists.{part}
+use Rattle.day.specs.Tape.{midnight}
+use Rattle.book.specs.declared.Caller.{Caller}
 use Rattle.book.specs.declared.Book.{Book}
 use Rattle.book.specs.declared.Pool.{Pool}
 use Rattle.book.specs.Reasons.{isAccepted}
@@ -55,8 +57,8 @@ use Rattle.day.specs.declared.Going.{Going}
 use Rattle.day.specs.declared.Place.{Place}
 use Rattle.day.specs.Turns.{placeAfter, countedOf, turn}
 use Rattle.day.proofs.Turning.{outgoing, outgoing-are, outgoing-long, turned}
-use Rattle.table_rows.proofs.Values.{BookR, bookVals, book-value, SteppedR, steppedVals, stepped-value, TimeR, timeVals, time-makes, time-typed}
-use Rattle.day.proofs.Values.{midnight, midnight-is, GoingR, goingVal, goingVals, going-value, PlaceR, placeVals, place-value}
+use Rattle.table_rows.proofs.Values.{BookR, bookVals, book-value, SteppedR, steppedVals, stepped-value, CallerR, callerVals, caller-value}
+use Rattle.day.proofs.Values.{GoingR, goingVal, goingVals, going-value, PlaceR, placeVals, place-value}
 use Rattle.day.proofs.frame_after as fa
 use Rattle.day.proofs.frame_after.Symbol as after-def
 use Rattle.day.proofs.frame_after.Symbol.{name as #day·frame-after}
@@ -65,6 +67,10 @@ use Rattle.day.proofs.book_of as bo
 use Rattle.day.proofs.book_of.Symbol as book-def
 use Rattle.day.proofs.book_of.Symbol.{name as #day·book-of}
 use Rattle.day.proofs.book_of.Met as book-thm
+use Rattle.day.proofs.at_midnight as am
+use Rattle.day.proofs.at_midnight.Symbol as midnight-def
+use Rattle.day.proofs.at_midnight.Symbol.{name as #day·at-midnight}
+use Rattle.day.proofs.at_midnight.Met as midnight-thm
 use Rattle.day.proofs.start_of as so
 use Rattle.day.proofs.start_of.Symbol as start-def
 use Rattle.day.proofs.start_of.Symbol.{name as #day·start-of}
@@ -103,6 +109,9 @@ module _ {M : Type 1} (𝓤 : URA M) (H : Heap 𝓤) (A : Atoms 𝓤) (mem : Mem
 
   abbrev BookOf : Contract 𝓤
   BookOf = tripleOf 𝓤 H A bo.signature (bo.spec 𝓤 H A mem run)
+
+  abbrev AtMidnight : Contract 𝓤
+  AtMidnight = tripleOf 𝓤 H A am.signature (am.spec 𝓤 H A mem run)
 
   abbrev StartOf : Contract 𝓤
   StartOf = tripleOf 𝓤 H A so.signature (so.spec 𝓤 H A mem run)
@@ -212,6 +221,15 @@ module _ {M : Type 1} (𝓤 : URA M) (H : Heap 𝓤) (A : Atoms 𝓤) (W : Given
   said-book : (r : Book) → ent 𝓤 (ensured 𝓤 H A bo.ended (bo.clauses 𝓤 H A mem run) tt (g, tt) tt r) (fact 𝓤 (r ≡ bk))
   said-book r = exE 𝓤 _ (λ zs. snd∗ 𝓤 (sem 𝓤 H A (lasts bo.ended tt (g, tt) zs)) (fact 𝓤 (r ≡ bk)))
 
+  abbrev to-midnight : AtMidnight 𝓤 H A mem run .Ghost
+  to-midnight = ((tt, tt, tt, tt, tt), tt)
+
+  goes-midnight : ent 𝓤 (emp 𝓤) (AtMidnight 𝓤 H A mem run .pre to-midnight)
+  goes-midnight = qed W [] ∵ nothing ! $ nothing ! $ join ! $ frame ! $ done !
+
+  said-midnight : (r : Caller) → ent 𝓤 (ensured 𝓤 H A am.ended (am.clauses 𝓤 H A mem run) tt tt tt r) (fact 𝓤 (r ≡ midnight))
+  said-midnight r = exE 𝓤 _ (λ zs. snd∗ 𝓤 (sem 𝓤 H A (lasts am.ended tt tt zs)) (fact 𝓤 (r ≡ midnight)))
+
   abbrev to-start : StartOf 𝓤 H A mem run .Ghost
   to-start = ((tt, tt, tt, (place, tt), (placeVals place, tt)), tt)
 
@@ -237,17 +255,17 @@ module _ {M : Type 1} (𝓤 : URA M) (H : Heap 𝓤) (A : Atoms 𝓤) (W : Given
       (q, (q₂, (fullShare, tt))),
       tt,
       (bk, (x, (t, (place .start, (place .end, (midnight, (y l₈ δ, tt))))))),
-      (bookVals bk, (s ∷ [], (s₂ ∷ [], (vint w64 (place .start) ∷ [], (vint w64 (place .end) ∷ [], (timeVals midnight, (sliceVal (l₈, 0) 217 ∷ [], tt))))))),
+      (bookVals bk, (s ∷ [], (s₂ ∷ [], (vint w64 (place .start) ∷ [], (vint w64 (place .end) ∷ [], (callerVals midnight, (sliceVal (l₈, 0) 217 ∷ [], tt))))))),
     ),
     tt,
   )
 
-  goes-step : (l₈ ν : ℕ) (δ : GName) → Is BookR bk (bookVals bk) → place .start < 2 ^ 64 → place .end < 2 ^ 64 → (place .start ≤ place .end) × (place .end ≤ length (t .now))
+  goes-step : (l₈ ν : ℕ) (δ : GName) → Is BookR bk (bookVals bk) → Is CallerR midnight (callerVals midnight) → place .start < 2 ^ 64 → place .end < 2 ^ 64 → (place .start ≤ place .end) × (place .end ≤ length (t .now))
       → ent 𝓤 (⋆ 𝓤 H A (‵ (flft κ q) ∷ (Token ⊛ ‵ (flft (ν ∷ []) fullShare)) ∷ (Table ⊛ (Tape ⊛ Lent l₈ ν δ 217)) ∷ [])) (Step 𝓤 H A mem run .pre (to-step l₈ ν δ))
-  goes-step l₈ ν δ gb gs ge within =
+  goes-step l₈ ν δ gb gm gs ge within =
       qed W (‵ (flft κ q) ∷ (Token ⊛ ‵ (flft (ν ∷ []) fullShare)) ∷ (Table ⊛ (Tape ⊛ Lent l₈ ν δ 217)) ∷ []) ∵ says ! within $
       move ! (1 ∷ []) $ split ! $ split ! $ move ! (2 ∷ 1 ∷ []) $ join ! $ move ! (1 ∷ 0 ∷ []) $ join ! $ move ! (1 ∷ 0 ∷ []) $ join ! $ frame ! $
-      split ! $ move ! (1 ∷ []) $ split ! $ nothing ! $ move ! (2 ∷ 0 ∷ []) $ fjoin ! $ owned ! TimeR (Is TimeR) (time-makes 𝓤 H A W) midnight _ midnight-is $ fjoin ! $
+      split ! $ move ! (1 ∷ []) $ split ! $ nothing ! $ move ! (2 ∷ 0 ∷ []) $ fjoin ! $ owned ! CallerR (Is CallerR) (caller-value .makes 𝓤 H A) midnight _ gm $ fjoin ! $
       owned ! usize (Is usize) (uint-makes 𝓤 H A W w64) (place .end) _ (refl, ge) $ fjoin ! $ owned ! usize (Is usize) (uint-makes 𝓤 H A W w64) (place .start) _ (refl, gs) $ fjoin ! $
       move ! (1 ∷ 0 ∷ []) $ fjoin ! $ move ! (1 ∷ 0 ∷ []) $ fjoin ! $ owned ! BookR (Is BookR) (book-value .makes 𝓤 H A) bk _ gb $ fjoin ! $ done !
 
@@ -272,7 +290,7 @@ module _ {M : Type 1} (𝓤 : URA M) (H : Heap 𝓤) (A : Atoms 𝓤) (W : Given
   abbrev Stepping : Stepped → Lasts → Type 0
   Stepping r zs = Framed bk ys (part (t .now) (place .start) (place .end - place .start)) midnight zeros r (zs .1 .0) (zs .1 .1 .1 .1 .1 .1 .0)
 
-  module _ (𝓣 : Tables 𝓤 H) (known-after : Triple 𝓤 (𝓣 .C #day·frame-after) (After 𝓤 H A mem run)) (known-book : Triple 𝓤 (𝓣 .C #day·book-of) (BookOf 𝓤 H A mem run)) (known-start : Triple 𝓤 (𝓣 .C #day·start-of) (StartOf 𝓤 H A mem run)) (known-end : Triple 𝓤 (𝓣 .C #day·end-of) (EndOf 𝓤 H A mem run)) (known-step : Triple 𝓤 (𝓣 .C #table-step·step-part) (Step 𝓤 H A mem run)) (known-counted : Triple 𝓤 (𝓣 .C #day·counted) (Counted 𝓤 H A mem run)) where
+  module _ (𝓣 : Tables 𝓤 H) (known-after : Triple 𝓤 (𝓣 .C #day·frame-after) (After 𝓤 H A mem run)) (known-book : Triple 𝓤 (𝓣 .C #day·book-of) (BookOf 𝓤 H A mem run)) (known-midnight : Triple 𝓤 (𝓣 .C #day·at-midnight) (AtMidnight 𝓤 H A mem run)) (known-start : Triple 𝓤 (𝓣 .C #day·start-of) (StartOf 𝓤 H A mem run)) (known-end : Triple 𝓤 (𝓣 .C #day·end-of) (EndOf 𝓤 H A mem run)) (known-step : Triple 𝓤 (𝓣 .C #table-step·step-part) (Step 𝓤 H A mem run)) (known-counted : Triple 𝓤 (𝓣 .C #day·counted) (Counted 𝓤 H A mem run)) where
     walk : Room R (length ys) → Room u8 (length (t .now)) → (g .day .accepted < 2 ^ 63) × (g .day .others < 2 ^ 63)
         → ent 𝓤 (onEntry 𝓤 H A f.signature (κ, (κ₂, tt)) (q, (q₂, tt)) a at) (WpFn 𝓤 H (𝓣 .C) (𝓣 .Λ) code.function (goingVal g ∷ s ∷ s₂ ∷ []) Post)
     walk room room₂ small =
@@ -308,7 +326,11 @@ module _ {M : Type 1} (𝓤 : URA M) (H : Heap 𝓤) (A : Atoms 𝓤) (W : Given
         assigns ! (rep ! 217 (lit ! tt)) (from ! (stop !)) (init ! 16 refl (typed-zeros 𝓤 H A W 217)) $
         assigns ! (addr ! (from ! (fld ! refl (hop ! (look-in ! 28 (sub ! 0 refl (whole !))) (stop !))))) (from ! (stop !)) (init ! 12 refl (tt, tt)) $
         assigns ! (agg ! (and-then ! (load ! (from ! (stop !)) (look ! 12 refl)) (and-then ! (load ! (from ! (fld ! refl (stop !))) (look-in ! 28 (sub ! 1 refl (whole !)))) (no-more !)))) (from ! (stop !)) (init ! 10 refl (tt, (tt, (record { fits = room .0 }, tt)))) $
-        assigns ! (rep ! 6 (lit ! tt)) (from ! (stop !)) (init ! 8 refl (time-typed 𝓤 H A W midnight _ midnight-is)) $
+        use0 W (raw (AtMidnight 𝓤 H A mem run .pre to-midnight)) goes-midnight $
+        calls-at ! (fmOf 𝓤 H (W .laws) 𝓣) (AtMidnight 𝓤 H A mem run) known-midnight to-midnight (no-more !) (λ w₇.
+        use1 W (later (some (λ (r : Caller). (‵ ftrue ⊛ ‵ (CallerR .own r (w₇ ∷ []))) ⊛ raw (ensured 𝓤 H A am.ended (am.clauses 𝓤 H A mem run) tt tt tt r)))) (id⊢ 𝓤 _) $ await ! tt $ pick ! (λ r₇.
+        split ! $ move ! (1 ∷ []) $ use1 W (raw (fact 𝓤 (r₇ ≡ midnight))) (said-midnight r₇) $ heard ! (r₇ ≡ midnight) (λ e₇. split ! $ drop ! $ rewrite ! 0 (λ (z : Caller). ‵ (CallerR .own z (w₇ ∷ []))) e₇ refl $
+        peeks ! CallerR (Is CallerR) (shows 𝓤 H A CallerR) midnight (w₇ ∷ []) (λ gm. land ! (from ! (stop !)) (init ! 9 refl (caller-value .typed 𝓤 H A W midnight w₇ gm)) $ rewrite ! 9 (λ (u : Val). ‵ (fat fullShare (τ 12) l₁₂ 0 u)) (caller-value .is midnight w₇ gm) refl $ drop ! $
         assigns ! (addr ! (from ! (stop !))) (from ! (stop !)) (init ! 6 refl (tt, tt)) $
         assigns ! (agg ! (and-then ! (load ! (from ! (stop !)) (look ! 6 refl)) (and-then ! (lit ! tt) (no-more !)))) (from ! (stop !)) (init ! 4 refl (tt, (tt, (record { fits = lit< tt }, tt)))) $
         -- the array's elements are lent, for ν
@@ -318,7 +340,7 @@ module _ {M : Type 1} (𝓤 : URA M) (H : Heap 𝓤) (A : Atoms 𝓤) (W : Given
         -- [the array, lent; the lender's part; its token; the tape's token; tape; the table's token; pools; _14 at 7; …]
         move ! (4 ∷ []) $ use1 W (Tape ⊛ Tape) (shr-slice-copy 𝓤 H A W (named 1) κ₂ u8 .twice t (s₂ ∷ [])) $ split ! $
         move ! (0 ∷ 2 ∷ []) $ join ! $ move ! (6 ∷ 0 ∷ []) $ join ! $ move ! (4 ∷ 3 ∷ []) $ join ! $ move ! (4 ∷ 0 ∷ 1 ∷ []) $
-        use3 W (raw (Step 𝓤 H A mem run .pre (to-step l₈ ν δ))) (goes-step l₈ ν δ (book-value .its bk w₁ gb) (is₅ .1) (is₆ .1) (subst (λ (z : Place). (z .start ≤ z .end) × (z .end ≤ length (t .now))) (e .0) (e .1, e .2))) $
+        use3 W (raw (Step 𝓤 H A mem run .pre (to-step l₈ ν δ))) (goes-step l₈ ν δ (book-value .its bk w₁ gb) (caller-value .its midnight w₇ gm) (is₅ .1) (is₆ .1) (subst (λ (z : Place). (z .start ≤ z .end) × (z .end ≤ length (t .now))) (e .0) (e .1, e .2))) $
         -- [what the frame call asks; tape; the lender's part; _14 at 3; …; _12 at 7; _11 at 9; …; _9 at 13; that _8 dies at 15; _7 at 16; _6 at 18; _5 at 20; _4 at 22; _3 at 24; _2 at 26; _1 at 28; _0 at 30]
         calls-at ! (fmOf 𝓤 H (W .laws) 𝓣) (Step 𝓤 H A mem run) known-step (to-step l₈ ν δ)
         (and-then ! (load ! (from ! (stop !)) (look ! 20 refl)) (and-then ! (load ! (from ! (stop !)) (look ! 9 refl)) (and-then ! (load ! (from ! (stop !)) (look ! 24 refl)) (and-then ! (load ! (from ! (stop !)) (look ! 18 refl))
@@ -347,24 +369,24 @@ module _ {M : Type 1} (𝓤 : URA M) (H : Heap 𝓤) (A : Atoms 𝓤) (W : Given
         returns ! (look ! 34 refl) $ forget ! 7 refl $ forget ! 9 refl $ forget ! 11 refl $ forget ! 13 refl $ forget ! 15 refl $ forget ! 17 refl $ forget ! 20 refl $ forget ! 22 refl $ forget ! 24 refl $ forget ! 26 refl $ forget ! 28 refl $ forget ! 30 refl $ forget ! 32 refl $ forget ! 34 refl $
         move ! (34 ∷ 35 ∷ []) $ free1 ! $ move ! (32 ∷ 33 ∷ []) $ free1 ! $ move ! (30 ∷ 31 ∷ []) $ free1 ! $ move ! (28 ∷ 29 ∷ []) $ free1 ! $ move ! (26 ∷ 27 ∷ []) $ free1 ! $ move ! (24 ∷ 25 ∷ []) $ free1 ! $ move ! (22 ∷ 23 ∷ []) $ free1 ! $ move ! (20 ∷ 21 ∷ []) $ free1 ! $ move ! (0 ∷ 19 ∷ []) $ free1 ! $
         move ! (16 ∷ 17 ∷ []) $ free1 ! $ move ! (14 ∷ 15 ∷ []) $ free1 ! $ move ! (12 ∷ 13 ∷ []) $ free1 ! $ move ! (10 ∷ 11 ∷ []) $ free1 ! $ move ! (8 ∷ 9 ∷ []) $ free1 ! $ move ! (6 ∷ 7 ∷ []) $ free1 ! $ free0 ! $
-        by ! (exits r₃ (zs .1 .0) (turned (t .now) g ys midnight zeros r₂ (zs .1 .0) (zs .1 .1 .1 .1 .1 .1 .0) long e₂ r₃ e₃) (going-value .its r₃ w₃ gr) lp)))))))))))))))))))))))))))))))))))))))))))))
+        by ! (exits r₃ (zs .1 .0) (turned (t .now) g ys zeros r₂ (zs .1 .0) (zs .1 .1 .1 .1 .1 .1 .0) long e₂ r₃ e₃) (going-value .its r₃ w₃ gr) lp)))))))))))))))))))))))))))))))))))))))))))))))))
 
 module _ {M : Type 1} (𝓤 : URA M) (H : Heap 𝓤) (A : Atoms 𝓤) (W : Given 𝓤 H A) (mem : Memory → SProp 𝓤) (run : Routine → Fun 𝓤) where
-  put-frame-walks : (𝓣 : Tables 𝓤 H) → Triple 𝓤 (𝓣 .C #day·frame-after) (After 𝓤 H A mem run) → Triple 𝓤 (𝓣 .C #day·book-of) (BookOf 𝓤 H A mem run) → Triple 𝓤 (𝓣 .C #day·start-of) (StartOf 𝓤 H A mem run) → Triple 𝓤 (𝓣 .C #day·end-of) (EndOf 𝓤 H A mem run) → Triple 𝓤 (𝓣 .C #table-step·step-part) (Step 𝓤 H A mem run) → Triple 𝓤 (𝓣 .C #day·counted) (Counted 𝓤 H A mem run)
+  put-frame-walks : (𝓣 : Tables 𝓤 H) → Triple 𝓤 (𝓣 .C #day·frame-after) (After 𝓤 H A mem run) → Triple 𝓤 (𝓣 .C #day·book-of) (BookOf 𝓤 H A mem run) → Triple 𝓤 (𝓣 .C #day·at-midnight) (AtMidnight 𝓤 H A mem run) → Triple 𝓤 (𝓣 .C #day·start-of) (StartOf 𝓤 H A mem run) → Triple 𝓤 (𝓣 .C #day·end-of) (EndOf 𝓤 H A mem run) → Triple 𝓤 (𝓣 .C #table-step·step-part) (Step 𝓤 H A mem run) → Triple 𝓤 (𝓣 .C #day·counted) (Counted 𝓤 H A mem run)
       → Walks 𝓤 H A f.ended stayed (WpFn 𝓤 H (𝓣 .C) (𝓣 .Λ) code.function) (f.clauses 𝓤 H A mem run)
-  put-frame-walks 𝓣 known-after known-book known-start known-end known-step known-counted = walked 𝓤 H A f.ended stayed (f.clauses 𝓤 H A mem run) (WpFn 𝓤 H (𝓣 .C) (𝓣 .Λ) code.function)
+  put-frame-walks 𝓣 known-after known-book known-midnight known-start known-end known-step known-counted = walked 𝓤 H A f.ended stayed (f.clauses 𝓤 H A mem run) (WpFn 𝓤 H (𝓣 .C) (𝓣 .Λ) code.function)
       (λ κs. (goingVals, (slice-vals, (slice-vals, tt)))) (λ κs. (going-value .tells, (mut-slice-tells (named 0) (κs .0) R, (shr-slice-tells (named 1) (κs .1 .0) u8, tt))))
       (λ κs qs bounds a g are. needs 𝓤 ((a .0 .day .accepted < 2 ^ 63) × (a .0 .day .others < 2 ^ 63)) _
       (walk 𝓤 H A W mem run (κs .0) (κs .1 .0) (qs .0) (qs .1 .0) (a .0) (are .0) (a .1 .0 .ptr .0) (a .1 .0 .ptr .1) (a .1 .0 .name) (a .1 .0 .now) (a .1 .1 .0)
-      𝓣 known-after known-book known-start known-end known-step known-counted (are .1 .0 .0 .1) (are .1 .1 .0 .0 .1)))
+      𝓣 known-after known-book known-midnight known-start known-end known-step known-counted (are .1 .0 .0 .1) (are .1 .1 .0 .0 .1)))
 
 put-frame-meets : {M : Type 1} (𝓤 : URA M) (H : Heap 𝓤) (A : Atoms 𝓤) → Given 𝓤 H A → (mem : Memory → SProp 𝓤) (run : Routine → Fun 𝓤) (𝓣 : Tables 𝓤 H)
-    → Triple 𝓤 (𝓣 .C #day·frame-after) (After 𝓤 H A mem run) → Triple 𝓤 (𝓣 .C #day·book-of) (BookOf 𝓤 H A mem run) → Triple 𝓤 (𝓣 .C #day·start-of) (StartOf 𝓤 H A mem run) → Triple 𝓤 (𝓣 .C #day·end-of) (EndOf 𝓤 H A mem run) → Triple 𝓤 (𝓣 .C #table-step·step-part) (Step 𝓤 H A mem run) → Triple 𝓤 (𝓣 .C #day·counted) (Counted 𝓤 H A mem run)
+    → Triple 𝓤 (𝓣 .C #day·frame-after) (After 𝓤 H A mem run) → Triple 𝓤 (𝓣 .C #day·book-of) (BookOf 𝓤 H A mem run) → Triple 𝓤 (𝓣 .C #day·at-midnight) (AtMidnight 𝓤 H A mem run) → Triple 𝓤 (𝓣 .C #day·start-of) (StartOf 𝓤 H A mem run) → Triple 𝓤 (𝓣 .C #day·end-of) (EndOf 𝓤 H A mem run) → Triple 𝓤 (𝓣 .C #table-step·step-part) (Step 𝓤 H A mem run) → Triple 𝓤 (𝓣 .C #day·counted) (Counted 𝓤 H A mem run)
     → Meets 𝓤 H A f.signature (WpFn 𝓤 H (𝓣 .C) (𝓣 .Λ) code.function) (f.spec 𝓤 H A mem run)
-put-frame-meets 𝓤 H A W mem run 𝓣 known-after known-book known-start known-end known-step known-counted =
+put-frame-meets 𝓤 H A W mem run 𝓣 known-after known-book known-midnight known-start known-end known-step known-counted =
     walk-meets 𝓤 H A f.ended stayed W
     (goes-none 𝓤 H A W 2 (λ _. GoingR) yes (λ κs x f. refl), (goes-gave-slice 𝓤 H A W 2 0 tt (plain (λ _. R)), (goes-none-slice 𝓤 H A W 2 (1 ∷ []) tt (plain (λ _. u8)) yes, tt))) (f.clauses 𝓤 H A mem run)
-    (WpFn 𝓤 H (𝓣 .C) (𝓣 .Λ) code.function) (WpFn-mono 𝓤 H (W .laws) 𝓣 code.function) (put-frame-walks 𝓤 H A W mem run 𝓣 known-after known-book known-start known-end known-step known-counted)
+    (WpFn 𝓤 H (𝓣 .C) (𝓣 .Λ) code.function) (WpFn-mono 𝓤 H (W .laws) 𝓣 code.function) (put-frame-walks 𝓤 H A W mem run 𝓣 known-after known-book known-midnight known-start known-end known-step known-counted)
 
 pub put-frame-spec : {M : Type 1} → stated.statement M
 unfolding code.routine tablesOf
@@ -374,6 +396,7 @@ put-frame-spec 𝓤 H 𝓜 𝓖 𝓡 =
     (put-frame-meets 𝓤 H (𝓖 .A) (givenOf 𝓤 H 𝓜 𝓖) (𝓜 .mem) (𝓡 .run) (tablesOf 𝓤 H 𝓜 (tables 𝓤 H 𝓜 𝓡 code.env))
     (cited 𝓤 H (After 𝓤 H (𝓖 .A) (𝓜 .mem) (𝓡 .run)) 𝓜 𝓡 code.env #day·frame-after after-def.routine code.calls-day·frame-after (after-thm.met 𝓤 H 𝓜 𝓖 𝓡))
     (cited 𝓤 H (BookOf 𝓤 H (𝓖 .A) (𝓜 .mem) (𝓡 .run)) 𝓜 𝓡 code.env #day·book-of book-def.routine code.calls-day·book-of (book-thm.met 𝓤 H 𝓜 𝓖 𝓡))
+    (cited 𝓤 H (AtMidnight 𝓤 H (𝓖 .A) (𝓜 .mem) (𝓡 .run)) 𝓜 𝓡 code.env #day·at-midnight midnight-def.routine code.calls-day·at-midnight (midnight-thm.met 𝓤 H 𝓜 𝓖 𝓡))
     (cited 𝓤 H (StartOf 𝓤 H (𝓖 .A) (𝓜 .mem) (𝓡 .run)) 𝓜 𝓡 code.env #day·start-of start-def.routine code.calls-day·start-of (start-thm.met 𝓤 H 𝓜 𝓖 𝓡))
     (cited 𝓤 H (EndOf 𝓤 H (𝓖 .A) (𝓜 .mem) (𝓡 .run)) 𝓜 𝓡 code.env #day·end-of end-def.routine code.calls-day·end-of (end-thm.met 𝓤 H 𝓜 𝓖 𝓡))
     (cited 𝓤 H (Step 𝓤 H (𝓖 .A) (𝓜 .mem) (𝓡 .run)) 𝓜 𝓡 code.env #table-step·step-part step-def.routine code.calls-table-step·step-part (step-thm.met 𝓤 H 𝓜 𝓖 𝓡))

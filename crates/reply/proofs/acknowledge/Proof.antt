@@ -22,7 +22,7 @@ code-of-requires : tie.Need-code-of-requires
 code-of-requires c κs = search needs
 
 returns : tie.Need-returns
-returns c = acknowledged-is (c .before .before .before .before .before .before .before .before .before .args .body .now) _ _ (c .before .before .before .before .before .before .before .before .before .args .answer) (c .before .before .before .before .before .before .before .before .before .args .time) _ _ (c .before .before .before .before .before .before .before .before .before .pre) (c .before .before .before .before .before .before .put-part .ensures) (c .before .before .before .put-part2 .ensures) (c .before .id-of .ensures) (c .code-of .ensures)
+returns c = acknowledged-is (c .before .before .before .before .before .before .before .before .before .before .args .body .now) _ _ (c .before .before .before .before .before .before .before .before .before .before .args .answer) (c .before .before .before .before .before .before .before .before .before .before .args .caller) _ _ (c .before .before .before .before .before .before .before .before .before .before .pre) (c .before .before .before .before .before .before .before .put-part .ensures) (c .before .before .before .before .put-part2 .ensures) (c .before .id-of .ensures) (c .code-of .ensures)
 
 pub acknowledge-spec : {M : Type 1} → statement M
 acknowledge-spec =

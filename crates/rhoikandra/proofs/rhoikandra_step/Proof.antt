@@ -37,24 +37,25 @@ use denote.Triple.Table.{entered, cited}
 use denote.Triple.Walked.{says, Stays, stay-none-slice, gave-slice, walkOf, goes-none-slice, goes-gave-slice, Walks, ends-at, walked, walk-meets}
 use denote.Exit.{yes}
 use Rattle.slice_laws.proofs.Lent.{LentShared, lends-shared, shared-back}
+use Rattle.book.specs.declared.Caller.{Caller}
 use Rattle.book.specs.declared.Book.{Book}
 use Rattle.book.specs.declared.Pool.{Pool}
 use Rattle.calls.specs.declared.Stepped.{Stepped}
 use Rattle.table_load.proofs.Row.{R}
 use Rattle.calls.specs.Calls.{Framed}
-use Rattle.exports_book.specs.Reading.{timeWidth, callable, Reads}
+use Rattle.exports_book.specs.Reading.{timeWidth, callerOf, callable, Reads}
 use Rattle.exports_book.specs.Writing.{Finishes}
 use Rattle.rhoikandra.specs.Calls.{Calls}
-use Rattle.table_rows.proofs.Values.{BookR, SteppedR, TimeR, book-value, stepped-value, time-makes, time-typed}
+use Rattle.table_rows.proofs.Values.{BookR, SteppedR, CallerR, book-value, stepped-value, caller-value}
 use Rattle.rhoikandra.proofs.Calling.{called}
 use Rattle.exports_book.proofs.start as sa
 use Rattle.exports_book.proofs.start.Symbol as start-def
 use Rattle.exports_book.proofs.start.Symbol.{name as #start}
 use Rattle.exports_book.proofs.start.Met as start-thm
-use Rattle.exports_book.proofs.six_of as so
-use Rattle.exports_book.proofs.six_of.Symbol as six-def
-use Rattle.exports_book.proofs.six_of.Symbol.{name as #six-of}
-use Rattle.exports_book.proofs.six_of.Met as six-thm
+use Rattle.exports_book.proofs.caller_of as so
+use Rattle.exports_book.proofs.caller_of.Symbol as caller-def
+use Rattle.exports_book.proofs.caller_of.Symbol.{name as #caller-of}
+use Rattle.exports_book.proofs.caller_of.Met as caller-thm
 use Rattle.table_step.proofs.step as st
 use Rattle.table_step.proofs.step.Symbol as step-def
 use Rattle.table_step.proofs.step.Symbol.{name as #step}
@@ -88,8 +89,8 @@ module _ {M : Type 1} (𝓤 : URA M) (H : Heap 𝓤) (A : Atoms 𝓤) (mem : Mem
   abbrev Start : Contract 𝓤
   Start = tripleOf 𝓤 H A sa.signature (sa.spec 𝓤 H A mem run)
 
-  abbrev SixOf : Contract 𝓤
-  SixOf = tripleOf 𝓤 H A so.signature (so.spec 𝓤 H A mem run)
+  abbrev CallerOf : Contract 𝓤
+  CallerOf = tripleOf 𝓤 H A so.signature (so.spec 𝓤 H A mem run)
 
   abbrev Step : Contract 𝓤
   Step = tripleOf 𝓤 H A st.signature (st.spec 𝓤 H A mem run)
@@ -219,27 +220,27 @@ module _ {M : Type 1} (𝓤 : URA M) (H : Heap 𝓤) (A : Atoms 𝓤) (W : Given
     said-start : (k : Book) → ent 𝓤 (ensured 𝓤 H A sa.ended (sa.clauses 𝓤 H A mem run) (ν ∷ [], (κ₄, tt)) (x₁ δ, (x₄, tt)) tt k) (fact 𝓤 (Reads (callable ws ts) ws k))
     said-start k = exE 𝓤 _ (λ zs. snd∗ 𝓤 (sem 𝓤 H A (lasts sa.ended (ν ∷ [], (κ₄, tt)) (x₁ δ, (x₄, tt)) zs)) (fact 𝓤 (Reads (callable ws ts) ws k)))
 
-  -- what `six_of` says
-  abbrev Sixes : List ℕ → Type 0
-  Sixes six = length ts ≡ timeWidth → six ≡ ts
+  -- what `caller_of` says
+  abbrev Timed : Caller → Type 0
+  Timed caller = length ts ≡ timeWidth → caller ≡ callerOf ts
 
-  abbrev to-six : SixOf 𝓤 H A mem run .Ghost
-  to-six = (((κ₄, tt), (q₄, tt), tt, (x₄, tt), (s₄ ∷ [], tt)), tt)
+  abbrev to-caller : CallerOf 𝓤 H A mem run .Ghost
+  to-caller = (((κ₄, tt), (q₄, tt), tt, (x₄, tt), (s₄ ∷ [], tt)), tt)
 
-  goes-six : ent 𝓤 (⋆ 𝓤 H A ((K₄ ⊛ ‵ ftrue) ∷ Time ∷ [])) (SixOf 𝓤 H A mem run .pre to-six)
-  goes-six = qed W ((K₄ ⊛ ‵ ftrue) ∷ Time ∷ []) ∵ nothing ! $ move ! (2 ∷ 0 ∷ []) $ fjoin ! $ move ! (1 ∷ 0 ∷ []) $ join ! $ frame ! $ done !
+  goes-caller : ent 𝓤 (⋆ 𝓤 H A ((K₄ ⊛ ‵ ftrue) ∷ Time ∷ [])) (CallerOf 𝓤 H A mem run .pre to-caller)
+  goes-caller = qed W ((K₄ ⊛ ‵ ftrue) ∷ Time ∷ []) ∵ nothing ! $ move ! (2 ∷ 0 ∷ []) $ fjoin ! $ move ! (1 ∷ 0 ∷ []) $ join ! $ frame ! $ done !
 
-  said-six : (six : List ℕ) → ent 𝓤 (ensured 𝓤 H A so.ended (so.clauses 𝓤 H A mem run) (κ₄, tt) (x₄, tt) tt six) (fact 𝓤 (Sixes six))
-  said-six six = exE 𝓤 _ (λ zs. snd∗ 𝓤 (sem 𝓤 H A (lasts so.ended (κ₄, tt) (x₄, tt) zs)) (fact 𝓤 (Sixes six)))
+  said-caller : (caller : Caller) → ent 𝓤 (ensured 𝓤 H A so.ended (so.clauses 𝓤 H A mem run) (κ₄, tt) (x₄, tt) tt caller) (fact 𝓤 (Timed caller))
+  said-caller caller = exE 𝓤 _ (λ zs. snd∗ 𝓤 (sem 𝓤 H A (lasts so.ended (κ₄, tt) (x₄, tt) zs)) (fact 𝓤 (Timed caller)))
 
-  module _ (k : Book) (w : Val) (six : List ℕ) (w₂ : Val) where
+  module _ (k : Book) (w : Val) (caller : Caller) (w₂ : Val) where
     abbrev to-step : Step 𝓤 H A mem run .Ghost
-    to-step = (((κ₂, (κ₃, (κ₅, tt))), (q₂, (q₃, (q₅, tt))), tt, (k, (x₂, (x₃, (six, (x₅, tt))))), (w ∷ [], (s₂ ∷ [], (s₃ ∷ [], (w₂ ∷ [], (s₅ ∷ [], tt)))))), tt)
+    to-step = (((κ₂, (κ₃, (κ₅, tt))), (q₂, (q₃, (q₅, tt))), tt, (k, (x₂, (x₃, (caller, (x₅, tt))))), (w ∷ [], (s₂ ∷ [], (s₃ ∷ [], (w₂ ∷ [], (s₅ ∷ [], tt)))))), tt)
 
-    goes-step : Is BookR k (w ∷ []) → Is TimeR six (w₂ ∷ []) → ent 𝓤 (⋆ 𝓤 H A ((K₂ ⊛ K₃ ⊛ K₅) ∷ (Pools ⊛ Body ⊛ Out) ∷ [])) (Step 𝓤 H A mem run .pre to-step)
+    goes-step : Is BookR k (w ∷ []) → Is CallerR caller (w₂ ∷ []) → ent 𝓤 (⋆ 𝓤 H A ((K₂ ⊛ K₃ ⊛ K₅) ∷ (Pools ⊛ Body ⊛ Out) ∷ [])) (Step 𝓤 H A mem run .pre to-step)
     goes-step is is₂ =
         qed W ((K₂ ⊛ K₃ ⊛ K₅) ∷ (Pools ⊛ Body ⊛ Out) ∷ []) ∵ split ! $ move ! (1 ∷ []) $ split ! $ nothing ! $ move ! (2 ∷ 0 ∷ []) $ join ! $ move ! (1 ∷ 0 ∷ []) $ join ! $ move ! (1 ∷ 0 ∷ []) $ join ! $
-        move ! (1 ∷ []) $ split ! $ move ! (1 ∷ []) $ split ! $ nothing ! $ move ! (2 ∷ 0 ∷ []) $ fjoin ! $ owned ! TimeR (Is TimeR) (time-makes 𝓤 H A W) six _ is₂ $ fjoin ! $ move ! (1 ∷ 0 ∷ []) $ fjoin ! $ move ! (1 ∷ 0 ∷ []) $ fjoin ! $
+        move ! (1 ∷ []) $ split ! $ move ! (1 ∷ []) $ split ! $ nothing ! $ move ! (2 ∷ 0 ∷ []) $ fjoin ! $ owned ! CallerR (Is CallerR) (caller-value .makes 𝓤 H A) caller _ is₂ $ fjoin ! $ move ! (1 ∷ 0 ∷ []) $ fjoin ! $ move ! (1 ∷ 0 ∷ []) $ fjoin ! $
         owned ! BookR (Is BookR) (book-value .makes 𝓤 H A) k _ is $ fjoin ! $ move ! (1 ∷ 0 ∷ []) $ join ! $ frame ! $ done !
 
   module _ (r : Stepped) (w : Val) where
@@ -251,7 +252,7 @@ module _ {M : Type 1} (𝓤 : URA M) (H : Heap 𝓤) (A : Atoms 𝓤) (W : Given
         qed W ((K₁ ⊛ K₆) ∷ (Image ⊛ Said) ∷ []) ∵ split ! $ nothing ! $ move ! (2 ∷ 0 ∷ []) $ join ! $ move ! (1 ∷ 0 ∷ []) $ join ! $ move ! (1 ∷ []) $ split ! $
         nothing ! $ owned ! SteppedR (Is SteppedR) (stepped-value .makes 𝓤 H A) r _ is $ fjoin ! $ move ! (2 ∷ 0 ∷ []) $ fjoin ! $ move ! (1 ∷ 0 ∷ []) $ fjoin ! $ move ! (1 ∷ 0 ∷ []) $ join ! $ frame ! $ done !
 
-  module _ (𝓣 : Tables 𝓤 H) (known-start : Triple 𝓤 (𝓣 .C #start) (Start 𝓤 H A mem run)) (known-six : Triple 𝓤 (𝓣 .C #six-of) (SixOf 𝓤 H A mem run)) (known-step : Triple 𝓤 (𝓣 .C #step) (Step 𝓤 H A mem run)) (known-finish : Triple 𝓤 (𝓣 .C #finish) (Finish 𝓤 H A mem run)) where
+  module _ (𝓣 : Tables 𝓤 H) (known-start : Triple 𝓤 (𝓣 .C #start) (Start 𝓤 H A mem run)) (known-caller : Triple 𝓤 (𝓣 .C #caller-of) (CallerOf 𝓤 H A mem run)) (known-step : Triple 𝓤 (𝓣 .C #step) (Step 𝓤 H A mem run)) (known-finish : Triple 𝓤 (𝓣 .C #finish) (Finish 𝓤 H A mem run)) where
     walk : Room u64 (length ws) → Room R (length ys) → Room u8 (length bs) → Room u8 (length ts) → Room u8 (length us) → Room u64 (length ns)
         → ent 𝓤 (onEntry 𝓤 H A f.signature (κ₁, (κ₂, (κ₃, (κ₄, (κ₅, (κ₆, tt)))))) (q₁, (q₂, (q₃, (q₄, (q₅, (q₆, tt)))))) a at) (WpFn 𝓤 H (𝓣 .C) (𝓣 .Λ) code.function (s₁ ∷ s₂ ∷ s₃ ∷ s₄ ∷ s₅ ∷ s₆ ∷ []) Post)
     walk room₁ room₂ room₃ room₄ room₅ room₆ =
@@ -275,13 +276,13 @@ module _ {M : Type 1} (𝓤 : URA M) (H : Heap 𝓤) (A : Atoms 𝓤) (W : Given
         split ! $ move ! (1 ∷ []) $ use1 W (raw (fact 𝓤 (Reads (callable ws ts) ws k))) (said-start ν δ k) $ heard ! (Reads (callable ws ts) ws k) (λ e. split ! $ move ! (1 ∷ []) $
         peeks ! BookR (Is BookR) (shows 𝓤 H A BookR) k (w ∷ []) (λ is. land ! (from ! (stop !)) (init ! 38 refl (book-value .typed 𝓤 H A W k w is)) $ drop ! $
         split ! $ lft-end ! tt $ move ! (0 ∷ 3 ∷ []) $ use2 W (later (Image ⊛ K₁)) (shared-back u64 κ₁ (ν ∷ []) q₁ γ₁ b₁ o₁ 𝓤 H A W (named 0) (named 0) ws room₁) $ await ! tt $ split ! $
-        -- [image; token 1; token 4; time; tokens 2, 3, 5, 6; pools; body; out; said; _20 at 12; …]: `six_of` has a copy of the time bytes
-        move ! (3 ∷ []) $ use1 W (Time ⊛ Time) (shr-slice-copy 𝓤 H A W (named 3) κ₄ u8 .twice x₄ (s₄ ∷ [])) $ split ! $ move ! (4 ∷ 0 ∷ []) $ use2 W (raw (SixOf 𝓤 H A mem run .pre to-six)) goes-six $
-        -- [what `six_of` asks; time; image; tokens 1, 2, 3, 5, 6; pools; body; out; said; _20 at 12; …]
-        calls-at ! (fmOf 𝓤 H (W .laws) 𝓣) (SixOf 𝓤 H A mem run) known-six to-six (and-then ! (load ! (from ! (stop !)) (look ! 44 refl)) (no-more !)) (λ w₂.
-        use1 W (later (some (λ (six : List ℕ). ((K₄ ⊛ ‵ ftrue) ⊛ ‵ (TimeR .own six (w₂ ∷ []))) ⊛ raw (ensured 𝓤 H A so.ended (so.clauses 𝓤 H A mem run) (κ₄, tt) (x₄, tt) tt six)))) (id⊢ 𝓤 _) $ await ! tt $ pick ! (λ six.
-        split ! $ move ! (1 ∷ []) $ use1 W (raw (fact 𝓤 (Sixes six))) (said-six six) $ heard ! (Sixes six) (λ e₂. split ! $ move ! (1 ∷ []) $
-        peeks ! TimeR (Is TimeR) (shows 𝓤 H A TimeR) six (w₂ ∷ []) (λ is₂. land ! (from ! (stop !)) (init ! 37 refl (time-typed 𝓤 H A W six w₂ is₂)) $ drop ! $
+        -- [image; token 1; token 4; time; tokens 2, 3, 5, 6; pools; body; out; said; _20 at 12; …]: `caller_of` has a copy of the time bytes
+        move ! (3 ∷ []) $ use1 W (Time ⊛ Time) (shr-slice-copy 𝓤 H A W (named 3) κ₄ u8 .twice x₄ (s₄ ∷ [])) $ split ! $ move ! (4 ∷ 0 ∷ []) $ use2 W (raw (CallerOf 𝓤 H A mem run .pre to-caller)) goes-caller $
+        -- [what `caller_of` asks; time; image; tokens 1, 2, 3, 5, 6; pools; body; out; said; _20 at 12; …]
+        calls-at ! (fmOf 𝓤 H (W .laws) 𝓣) (CallerOf 𝓤 H A mem run) known-caller to-caller (and-then ! (load ! (from ! (stop !)) (look ! 44 refl)) (no-more !)) (λ w₂.
+        use1 W (later (some (λ (caller : Caller). ((K₄ ⊛ ‵ ftrue) ⊛ ‵ (CallerR .own caller (w₂ ∷ []))) ⊛ raw (ensured 𝓤 H A so.ended (so.clauses 𝓤 H A mem run) (κ₄, tt) (x₄, tt) tt caller)))) (id⊢ 𝓤 _) $ await ! tt $ pick ! (λ caller.
+        split ! $ move ! (1 ∷ []) $ use1 W (raw (fact 𝓤 (Timed caller))) (said-caller caller) $ heard ! (Timed caller) (λ e₂. split ! $ move ! (1 ∷ []) $
+        peeks ! CallerR (Is CallerR) (shows 𝓤 H A CallerR) caller (w₂ ∷ []) (λ is₂. land ! (from ! (stop !)) (init ! 37 refl (caller-value .typed 𝓤 H A W caller w₂ is₂)) $ drop ! $
         -- [token 4; time; image; tokens 1, 2, 3, 5, 6; pools; body; out; said; _20 at 12; …]
         assigns ! (addr ! (from ! (fld ! refl (hop ! (look-in ! 48 (sub ! 0 refl (whole !))) (stop !))))) (from ! (stop !)) (init ! 28 refl (tt, tt)) $
         assigns ! (agg ! (and-then ! (load ! (from ! (stop !)) (look ! 28 refl)) (and-then ! (load ! (from ! (fld ! refl (stop !))) (look-in ! 48 (sub ! 1 refl (whole !)))) (no-more !)))) (from ! (stop !)) (init ! 26 refl (tt, (tt, (record { fits = room₂ .0 }, tt)))) $
@@ -289,13 +290,13 @@ module _ {M : Type 1} (𝓤 : URA M) (H : Heap 𝓤) (A : Atoms 𝓤) (W : Given
         assigns ! (agg ! (and-then ! (load ! (from ! (stop !)) (look ! 24 refl)) (and-then ! (load ! (from ! (fld ! refl (stop !))) (look-in ! 42 (sub ! 1 refl (whole !)))) (no-more !)))) (from ! (stop !)) (init ! 22 refl (tt, (tt, (record { fits = room₅ .0 }, tt)))) $
         -- the frame call has a copy of the body, and the records and the output for good
         move ! (9 ∷ []) $ use1 W (Body ⊛ Body) (shr-slice-copy 𝓤 H A W (named 2) κ₃ u8 .twice x₃ (s₃ ∷ [])) $ split ! $ move ! (0 ∷ 11 ∷ []) $ join ! $ move ! (10 ∷ 0 ∷ []) $ join ! $
-        move ! (7 ∷ 8 ∷ []) $ join ! $ move ! (7 ∷ 0 ∷ []) $ join ! $ use2 W (raw (Step 𝓤 H A mem run .pre (to-step k w six w₂))) (goes-step k w six w₂ is is₂) $
+        move ! (7 ∷ 8 ∷ []) $ join ! $ move ! (7 ∷ 0 ∷ []) $ join ! $ use2 W (raw (Step 𝓤 H A mem run .pre (to-step k w caller w₂))) (goes-step k w caller w₂ is is₂) $
         -- [what the call asks; body; token 4; time; image; tokens 1, 6; said; _20 at 8; …]
-        calls-at ! (fmOf 𝓤 H (W .laws) 𝓣) (Step 𝓤 H A mem run) known-step (to-step k w six w₂)
+        calls-at ! (fmOf 𝓤 H (W .laws) 𝓣) (Step 𝓤 H A mem run) known-step (to-step k w caller w₂)
         (and-then ! (load ! (from ! (stop !)) (look ! 34 refl)) (and-then ! (load ! (from ! (stop !)) (look ! 22 refl)) (and-then ! (load ! (from ! (stop !)) (look ! 42 refl)) (and-then ! (load ! (from ! (stop !)) (look ! 32 refl)) (and-then ! (load ! (from ! (stop !)) (look ! 18 refl)) (no-more !)))))) (λ w₃.
-        use1 W (later (some (λ (r : Stepped). ((K₂ ⊛ K₃ ⊛ K₅ ⊛ ‵ ftrue) ⊛ ‵ (SteppedR .own r (w₃ ∷ []))) ⊛ raw (ensured 𝓤 H A st.ended (st.clauses 𝓤 H A mem run) (κ₂, (κ₃, (κ₅, tt))) (k, (x₂, (x₃, (six, (x₅, tt))))) tt r)))) (id⊢ 𝓤 _) $ await ! tt $ pick ! (λ r.
-        split ! $ move ! (1 ∷ []) $ use1 W (some (λ (zs : Unit {0} × (List Pool × (Unit {0} × (Unit {0} × (List ℕ × Unit {0}))))). ‵ (lasts st.ended (κ₂, (κ₃, (κ₅, tt))) (k, (x₂, (x₃, (six, (x₅, tt))))) zs) ⊛ raw (fact 𝓤 (Framed k ys bs six us r (zs .1 .0) (zs .1 .1 .1 .1 .0))))) (id⊢ 𝓤 _) $ pick ! (λ zs.
-        split ! $ move ! (1 ∷ []) $ heard ! (Framed k ys bs six us r (zs .1 .0) (zs .1 .1 .1 .1 .0)) (λ e₃. fsplit ! $ drop ! $ fsplit ! $ fsplit ! $ move ! (1 ∷ []) $ feqL ! (λ len₂.
+        use1 W (later (some (λ (r : Stepped). ((K₂ ⊛ K₃ ⊛ K₅ ⊛ ‵ ftrue) ⊛ ‵ (SteppedR .own r (w₃ ∷ []))) ⊛ raw (ensured 𝓤 H A st.ended (st.clauses 𝓤 H A mem run) (κ₂, (κ₃, (κ₅, tt))) (k, (x₂, (x₃, (caller, (x₅, tt))))) tt r)))) (id⊢ 𝓤 _) $ await ! tt $ pick ! (λ r.
+        split ! $ move ! (1 ∷ []) $ use1 W (some (λ (zs : Unit {0} × (List Pool × (Unit {0} × (Unit {0} × (List ℕ × Unit {0}))))). ‵ (lasts st.ended (κ₂, (κ₃, (κ₅, tt))) (k, (x₂, (x₃, (caller, (x₅, tt))))) zs) ⊛ raw (fact 𝓤 (Framed k ys bs caller us r (zs .1 .0) (zs .1 .1 .1 .1 .0))))) (id⊢ 𝓤 _) $ pick ! (λ zs.
+        split ! $ move ! (1 ∷ []) $ heard ! (Framed k ys bs caller us r (zs .1 .0) (zs .1 .1 .1 .1 .0)) (λ e₃. fsplit ! $ drop ! $ fsplit ! $ fsplit ! $ move ! (1 ∷ []) $ feqL ! (λ len₂.
         move ! (1 ∷ []) $ fsplit ! $ drop ! $ fsplit ! $ drop ! $ fsplit ! $ fsplit ! $ move ! (1 ∷ []) $ feqL ! (λ len₅. move ! (1 ∷ []) $ drop ! $
         -- [the last output; the last records; the tokens and the result; body; token 4; time; image; tokens 1, 6; said; _20 at 10; …]
         move ! (2 ∷ []) $ split ! $ move ! (1 ∷ []) $ peeks ! SteppedR (Is SteppedR) (shows 𝓤 H A SteppedR) r (w₃ ∷ []) (λ is₃. land ! (from ! (stop !)) (init ! 33 refl (stepped-value .typed 𝓤 H A W r w₃ is₃)) $ drop ! $
@@ -319,23 +320,23 @@ module _ {M : Type 1} (𝓤 : URA M) (H : Heap 𝓤) (A : Atoms 𝓤) (W : Given
         move ! (49 ∷ 50 ∷ []) $ free1 ! $ move ! (47 ∷ 48 ∷ []) $ free1 ! $ move ! (45 ∷ 46 ∷ []) $ free1 ! $ move ! (43 ∷ 44 ∷ []) $ free1 ! $ move ! (41 ∷ 42 ∷ []) $ free1 ! $ move ! (39 ∷ 40 ∷ []) $ free1 ! $ move ! (37 ∷ 38 ∷ []) $ free1 ! $
         move ! (35 ∷ 36 ∷ []) $ free1 ! $ move ! (33 ∷ 34 ∷ []) $ free1 ! $ move ! (31 ∷ 32 ∷ []) $ free1 ! $ move ! (29 ∷ 30 ∷ []) $ free1 ! $ move ! (27 ∷ 28 ∷ []) $ free1 ! $ move ! (25 ∷ 26 ∷ []) $ free1 ! $ move ! (23 ∷ 24 ∷ []) $ free1 ! $
         move ! (21 ∷ 22 ∷ []) $ free1 ! $ move ! (19 ∷ 20 ∷ []) $ free1 ! $ move ! (17 ∷ 18 ∷ []) $ free1 ! $ move ! (15 ∷ 16 ∷ []) $ free1 ! $ move ! (13 ∷ 14 ∷ []) $ free1 ! $ move ! (11 ∷ 12 ∷ []) $ free1 ! $ move ! (9 ∷ 10 ∷ []) $ free1 ! $ free0 ! $
-        by ! (exits (ls .0) (zs .1 .0) (zs .1 .1 .1 .1 .0) (ls .1 .0) len₁ len₂ len₅ len₆ (called ws ys bs ts us ns k six r (ls .0) (zs .1 .0) (zs .1 .1 .1 .1 .0) (ls .1 .0) e e₂ e₃ e₄)))))))))))))))))))))))))))))))))))))))))))))))
+        by ! (exits (ls .0) (zs .1 .0) (zs .1 .1 .1 .1 .0) (ls .1 .0) len₁ len₂ len₅ len₆ (called ws ys bs ts us ns k caller r (ls .0) (zs .1 .0) (zs .1 .1 .1 .1 .0) (ls .1 .0) e e₂ e₃ e₄)))))))))))))))))))))))))))))))))))))))))))))))
 
 module _ {M : Type 1} (𝓤 : URA M) (H : Heap 𝓤) (A : Atoms 𝓤) (W : Given 𝓤 H A) (mem : Memory → SProp 𝓤) (run : Routine → Fun 𝓤) where
-  step-walks : (𝓣 : Tables 𝓤 H) → Triple 𝓤 (𝓣 .C #start) (Start 𝓤 H A mem run) → Triple 𝓤 (𝓣 .C #six-of) (SixOf 𝓤 H A mem run) → Triple 𝓤 (𝓣 .C #step) (Step 𝓤 H A mem run) → Triple 𝓤 (𝓣 .C #finish) (Finish 𝓤 H A mem run)
+  step-walks : (𝓣 : Tables 𝓤 H) → Triple 𝓤 (𝓣 .C #start) (Start 𝓤 H A mem run) → Triple 𝓤 (𝓣 .C #caller-of) (CallerOf 𝓤 H A mem run) → Triple 𝓤 (𝓣 .C #step) (Step 𝓤 H A mem run) → Triple 𝓤 (𝓣 .C #finish) (Finish 𝓤 H A mem run)
       → Walks 𝓤 H A f.ended stayed (WpFn 𝓤 H (𝓣 .C) (𝓣 .Λ) code.function) (f.clauses 𝓤 H A mem run)
-  step-walks 𝓣 known-start known-six known-step known-finish = walked 𝓤 H A f.ended stayed (f.clauses 𝓤 H A mem run) (WpFn 𝓤 H (𝓣 .C) (𝓣 .Λ) code.function)
+  step-walks 𝓣 known-start known-caller known-step known-finish = walked 𝓤 H A f.ended stayed (f.clauses 𝓤 H A mem run) (WpFn 𝓤 H (𝓣 .C) (𝓣 .Λ) code.function)
       (λ κs. (slice-vals, (slice-vals, (slice-vals, (slice-vals, (slice-vals, (slice-vals, tt)))))))
       (λ κs. (mut-slice-tells (named 0) (κs .0) u64, (mut-slice-tells (named 1) (κs .1 .0) R, (shr-slice-tells (named 2) (κs .1 .1 .0) u8, (shr-slice-tells (named 3) (κs .1 .1 .1 .0) u8, (mut-slice-tells (named 4) (κs .1 .1 .1 .1 .0) u8, (mut-slice-tells (named 5) (κs .1 .1 .1 .1 .1 .0) u64, tt)))))))
       (λ κs qs bounds a g are. via 𝓤 _ (fst∗ 𝓤 _ (emp 𝓤))
       (walk 𝓤 H A W mem run (κs .0) (κs .1 .0) (κs .1 .1 .0) (κs .1 .1 .1 .0) (κs .1 .1 .1 .1 .0) (κs .1 .1 .1 .1 .1 .0) (qs .0) (qs .1 .0) (qs .1 .1 .0) (qs .1 .1 .1 .0) (qs .1 .1 .1 .1 .0) (qs .1 .1 .1 .1 .1 .0)
       (a .0 .ptr .0) (a .0 .ptr .1) (a .0 .name) (a .0 .now) (a .1 .0 .ptr .0) (a .1 .0 .ptr .1) (a .1 .0 .name) (a .1 .0 .now) (a .1 .1 .0 .ptr .0) (a .1 .1 .0 .ptr .1) (a .1 .1 .0 .name) (a .1 .1 .0 .now) (a .1 .1 .1 .0 .ptr .0) (a .1 .1 .1 .0 .ptr .1) (a .1 .1 .1 .0 .name) (a .1 .1 .1 .0 .now) (a .1 .1 .1 .1 .0 .ptr .0) (a .1 .1 .1 .1 .0 .ptr .1) (a .1 .1 .1 .1 .0 .name) (a .1 .1 .1 .1 .0 .now) (a .1 .1 .1 .1 .1 .0 .ptr .0) (a .1 .1 .1 .1 .1 .0 .ptr .1) (a .1 .1 .1 .1 .1 .0 .name) (a .1 .1 .1 .1 .1 .0 .now)
-      𝓣 known-start known-six known-step known-finish (are .0 .0 .1) (are .1 .0 .0 .1) (are .1 .1 .0 .0 .1) (are .1 .1 .1 .0 .0 .1) (are .1 .1 .1 .1 .0 .0 .1) (are .1 .1 .1 .1 .1 .0 .0 .1)))
+      𝓣 known-start known-caller known-step known-finish (are .0 .0 .1) (are .1 .0 .0 .1) (are .1 .1 .0 .0 .1) (are .1 .1 .1 .0 .0 .1) (are .1 .1 .1 .1 .0 .0 .1) (are .1 .1 .1 .1 .1 .0 .0 .1)))
 
 step-meets : {M : Type 1} (𝓤 : URA M) (H : Heap 𝓤) (A : Atoms 𝓤) → Given 𝓤 H A → (mem : Memory → SProp 𝓤) (run : Routine → Fun 𝓤) (𝓣 : Tables 𝓤 H)
-    → Triple 𝓤 (𝓣 .C #start) (Start 𝓤 H A mem run) → Triple 𝓤 (𝓣 .C #six-of) (SixOf 𝓤 H A mem run) → Triple 𝓤 (𝓣 .C #step) (Step 𝓤 H A mem run) → Triple 𝓤 (𝓣 .C #finish) (Finish 𝓤 H A mem run)
+    → Triple 𝓤 (𝓣 .C #start) (Start 𝓤 H A mem run) → Triple 𝓤 (𝓣 .C #caller-of) (CallerOf 𝓤 H A mem run) → Triple 𝓤 (𝓣 .C #step) (Step 𝓤 H A mem run) → Triple 𝓤 (𝓣 .C #finish) (Finish 𝓤 H A mem run)
     → Meets 𝓤 H A f.signature (WpFn 𝓤 H (𝓣 .C) (𝓣 .Λ) code.function) (f.spec 𝓤 H A mem run)
-step-meets 𝓤 H A W mem run 𝓣 known-start known-six known-step known-finish =
+step-meets 𝓤 H A W mem run 𝓣 known-start known-caller known-step known-finish =
     walk-meets 𝓤 H A f.ended stayed W (
       goes-gave-slice 𝓤 H A W 6 0 tt (plain (λ _. u64)),
       (
@@ -346,7 +347,7 @@ step-meets 𝓤 H A W mem run 𝓣 known-start known-six known-step known-finish
         ),
       ),
     ) (f.clauses 𝓤 H A mem run)
-    (WpFn 𝓤 H (𝓣 .C) (𝓣 .Λ) code.function) (WpFn-mono 𝓤 H (W .laws) 𝓣 code.function) (step-walks 𝓤 H A W mem run 𝓣 known-start known-six known-step known-finish)
+    (WpFn 𝓤 H (𝓣 .C) (𝓣 .Λ) code.function) (WpFn-mono 𝓤 H (W .laws) 𝓣 code.function) (step-walks 𝓤 H A W mem run 𝓣 known-start known-caller known-step known-finish)
 
 pub rhoikandra-step-spec : {M : Type 1} → stated.statement M
 unfolding code.routine tablesOf
@@ -355,6 +356,6 @@ rhoikandra-step-spec 𝓤 H 𝓜 𝓖 𝓡 =
     (tables 𝓤 H 𝓜 𝓡 code.env .C) (tables 𝓤 H 𝓜 𝓡 code.env .Λ) #rhoikandra-step code.function (code.unfolded 𝓤 H 𝓜 𝓡)
     (step-meets 𝓤 H (𝓖 .A) (givenOf 𝓤 H 𝓜 𝓖) (𝓜 .mem) (𝓡 .run) (tablesOf 𝓤 H 𝓜 (tables 𝓤 H 𝓜 𝓡 code.env))
     (cited 𝓤 H (Start 𝓤 H (𝓖 .A) (𝓜 .mem) (𝓡 .run)) 𝓜 𝓡 code.env #start start-def.routine code.calls-exports-book·start (start-thm.met 𝓤 H 𝓜 𝓖 𝓡))
-    (cited 𝓤 H (SixOf 𝓤 H (𝓖 .A) (𝓜 .mem) (𝓡 .run)) 𝓜 𝓡 code.env #six-of six-def.routine code.calls-exports-book·six-of (six-thm.met 𝓤 H 𝓜 𝓖 𝓡))
+    (cited 𝓤 H (CallerOf 𝓤 H (𝓖 .A) (𝓜 .mem) (𝓡 .run)) 𝓜 𝓡 code.env #caller-of caller-def.routine code.calls-exports-book·caller-of (caller-thm.met 𝓤 H 𝓜 𝓖 𝓡))
     (cited 𝓤 H (Step 𝓤 H (𝓖 .A) (𝓜 .mem) (𝓡 .run)) 𝓜 𝓡 code.env #step step-def.routine code.calls-table-step·step (step-thm.met 𝓤 H 𝓜 𝓖 𝓡))
     (cited 𝓤 H (Finish 𝓤 H (𝓖 .A) (𝓜 .mem) (𝓡 .run)) 𝓜 𝓡 code.env #finish finish-def.routine code.calls-exports-book·finish (finish-thm.met 𝓤 H 𝓜 𝓖 𝓡)))

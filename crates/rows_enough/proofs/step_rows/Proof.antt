@@ -6,7 +6,7 @@ use Rattle.rows_enough.proofs.step_rows.Statement.{statement}
 use Rattle.rows_enough.proofs.step_rows.Tie as tie
 
 returns : tie.Need-returns
-returns c = unsound-rows (c .before .before .before .args .book) (c .before .before .before .args .body .now) (c .before .before .before .args .time) (c .before .before .before .args .out .now) (c .before .before .before .args .numbers .now) (c .before .before .before .args .keys .now) (c .before .before .before .args .records) (c .before .before .before .args .rest) (c .if1 .taken)
+returns c = unsound-rows (c .before .before .before .args .book) (c .before .before .before .args .body .now) (c .before .before .before .args .caller) (c .before .before .before .args .out .now) (c .before .before .before .args .numbers .now) (c .before .before .before .args .keys .now) (c .before .before .before .args .records) (c .before .before .before .args .rest) (c .if1 .taken)
 
 rows-wanted-requires : tie.Need-rows-wanted-requires
 rows-wanted-requires c κs = search needs
@@ -48,7 +48,7 @@ same-length-3 : tie.Need-same-length-3
 same-length-3 c = search needs
 
 returns-2 : tie.Need-returns-2
-returns-2 c = rows-step (c .before .before .before .before .before .before .before .before .before .before .before .before .before .before .before .before .args .book) (c .before .before .before .before .before .before .before .before .before .before .before .before .before .before .before .before .args .body .now) (c .before .before .before .before .before .before .before .before .before .before .before .before .before .before .before .before .args .time) (c .before .before .before .before .before .before .before .before .before .before .before .before .before .before .before .before .args .out .now) (c .before .before .before .before .before .before .before .before .before .before .before .before .before .before .before .before .args .numbers .now) (c .before .before .before .before .before .before .before .before .before .before .before .before .before .before .before .before .args .keys .now) (c .before .before .before .before .before .before .before .before .before .before .before .before .before .before .before .before .args .records) (c .before .before .before .before .before .before .before .before .before .before .before .before .before .before .before .before .args .rest) (c .before .before .before .before .before .before .before .before .before .before .before .before .before .if1 .left) (c .before .before .before .before .before .before .before .before .before .before .before .rows-of .result) (wanted-rows (c .before .before .before .before .before .before .before .before .before .before .before .before .before .before .before .before .args .records) (c .before .before .before .before .before .before .before .before .before .before .before .before .before .before .before .before .args .book .live) _ (c .before .before .before .before .before .before .before .before .before .before .before .before .rows-wanted .result) (c .before .before .before .before .before .before .before .before .before .before .before .rows-of .result) (c .before .before .before .before .before .before .before .before .before .before .before .before .rows-wanted .ensures) (c .before .before .before .before .before .before .before .before .before .before .before .rows-of .ensures)) (c .before .before .before .before .before .before .before .before .before .before .before .before .before .before .before .before .pre .0) (c .before .before .before .before .before .before .before .before .before .before .before .before .before .before .before .before .pre .1) (c .before .before .before .before .before .before .before .step .result) (c .before .before .before .before .before .before .before .step .last .1 .0) (c .before .before .before .before .before .before .before .step .last .1 .1 .0) (c .before .before .before .before .before .before .before .step .last .1 .1 .1 .1 .1 .0) (c .before .before .before .before .before .before .before .step .kept .1 .0) (c .before .before .before .before .before .before .before .step .kept .1 .1 .0) (c .before .before .before .before .before .before .before .step .ensures) (c .before .before .message-type .result) (c .before .before .message-type .ensures) (c .before .from-of .result) (c .to-of .result) (c .before .from-of .ensures) (c .to-of .ensures)
+returns-2 c = rows-step (c .before .before .before .before .before .before .before .before .before .before .before .before .before .before .before .before .args .book) (c .before .before .before .before .before .before .before .before .before .before .before .before .before .before .before .before .args .body .now) (c .before .before .before .before .before .before .before .before .before .before .before .before .before .before .before .before .args .caller) (c .before .before .before .before .before .before .before .before .before .before .before .before .before .before .before .before .args .out .now) (c .before .before .before .before .before .before .before .before .before .before .before .before .before .before .before .before .args .numbers .now) (c .before .before .before .before .before .before .before .before .before .before .before .before .before .before .before .before .args .keys .now) (c .before .before .before .before .before .before .before .before .before .before .before .before .before .before .before .before .args .records) (c .before .before .before .before .before .before .before .before .before .before .before .before .before .before .before .before .args .rest) (c .before .before .before .before .before .before .before .before .before .before .before .before .before .if1 .left) (c .before .before .before .before .before .before .before .before .before .before .before .rows-of .result) (wanted-rows (c .before .before .before .before .before .before .before .before .before .before .before .before .before .before .before .before .args .records) (c .before .before .before .before .before .before .before .before .before .before .before .before .before .before .before .before .args .book .live) _ (c .before .before .before .before .before .before .before .before .before .before .before .before .rows-wanted .result) (c .before .before .before .before .before .before .before .before .before .before .before .rows-of .result) (c .before .before .before .before .before .before .before .before .before .before .before .before .rows-wanted .ensures) (c .before .before .before .before .before .before .before .before .before .before .before .rows-of .ensures)) (c .before .before .before .before .before .before .before .before .before .before .before .before .before .before .before .before .pre .0) (c .before .before .before .before .before .before .before .before .before .before .before .before .before .before .before .before .pre .1) (c .before .before .before .before .before .before .before .step .result) (c .before .before .before .before .before .before .before .step .last .1 .0) (c .before .before .before .before .before .before .before .step .last .1 .1 .0) (c .before .before .before .before .before .before .before .step .last .1 .1 .1 .1 .1 .0) (c .before .before .before .before .before .before .before .step .kept .1 .0) (c .before .before .before .before .before .before .before .step .kept .1 .1 .0) (c .before .before .before .before .before .before .before .step .ensures) (c .before .before .message-type .result) (c .before .before .message-type .ensures) (c .before .from-of .result) (c .to-of .result) (c .before .from-of .ensures) (c .to-of .ensures)
 
 pub step-rows-spec : {M : Type 1} → statement M
 step-rows-spec =

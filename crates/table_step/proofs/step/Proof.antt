@@ -38,12 +38,13 @@ use denote.Triple.Table.{entered, cited}
 use denote.Triple.Walked.{says, Stays, stay-dropped, gave-slice, walkOf, goes-dropped, goes-gave-slice, Walks, ends-at, walked, walk-meets}
 use denote.Exit.{yes}
 use Rattle.lists.specs.Lists.{part}
+use Rattle.book.specs.declared.Caller.{Caller}
 use Rattle.book.specs.declared.Book.{Book}
 use Rattle.book.specs.declared.Pool.{Pool}
 use Rattle.calls.specs.declared.Stepped.{Stepped}
 use Rattle.table_load.proofs.Row.{R}
 use Rattle.calls.specs.Calls.{Framed}
-use Rattle.table_rows.proofs.Values.{BookR, bookVal, bookVals, book-value, SteppedR, stepped-value, TimeR, timeVal, timeVals, time-tells, time-makes, time-typed}
+use Rattle.table_rows.proofs.Values.{BookR, bookVal, bookVals, book-value, SteppedR, stepped-value, CallerR, callerVal, callerVals, caller-value}
 use Rattle.table_step.proofs.step_part as sp
 use Rattle.table_step.proofs.step_part.Symbol as part-def
 use Rattle.table_step.proofs.step_part.Symbol.{name as #table-step·step-part}
@@ -54,7 +55,7 @@ use Rattle.table_step.proofs.step.Statement as stated
 use Rattle.table_step.proofs.step.Code as code
 
 abbrev Arg : Type 0
-Arg = Book × (RefT (List Pool) × (RefT (List ℕ) × (List ℕ × (RefT (List ℕ) × Unit {0}))))
+Arg = Book × (RefT (List Pool) × (RefT (List ℕ) × (Caller × (RefT (List ℕ) × Unit {0}))))
 
 -- the last values that `step_part` says
 abbrev Lasts : Type 0
@@ -64,7 +65,7 @@ abbrev body-slot : Slot 3
 body-slot = shrSliceOf (1 ∷ []) tt (plain (λ _. u8))
 
 abbrev stayed : Stays (f.ended .signature .params) (f.ended .kept)
-stayed = (stay-dropped (plain (λ _. BookR)) yes, (gave-slice (0 ∷ []) tt (plain (λ _. R)), (stay-dropped body-slot yes, (stay-dropped (plain (λ _. TimeR)) yes, (gave-slice (2 ∷ []) tt (plain (λ _. u8)), tt)))))
+stayed = (stay-dropped (plain (λ _. BookR)) yes, (gave-slice (0 ∷ []) tt (plain (λ _. R)), (stay-dropped body-slot yes, (stay-dropped (plain (λ _. CallerR)) yes, (gave-slice (2 ∷ []) tt (plain (λ _. u8)), tt)))))
 
 -- the contract that the proof cites
 abbrev Part : {M : Type 1} (𝓤 : URA M) (H : Heap 𝓤) (A : Atoms 𝓤) (mem : Memory → SProp 𝓤) (run : Routine → Fun 𝓤) → Contract 𝓤
@@ -75,7 +76,7 @@ all-of-it : (s : List ℕ) → part s 0 (length s - 0) ≡ s
 unfolding part
 all-of-it s = take-all (length s - 0) s (omega arith)
 
-module _ {M : Type 1} (𝓤 : URA M) (H : Heap 𝓤) (A : Atoms 𝓤) (W : Given 𝓤 H A) (mem : Memory → SProp 𝓤) (run : Routine → Fun 𝓤) (κ κ₂ κ₃ : Lft) (q q₂ q₃ : Share) (k : Book) (b o : ℕ) (γ : GName) (ys : List Pool) (b₂ o₂ : ℕ) (γ₂ : GName) (bs : List ℕ) (time : List ℕ) (b₃ o₃ : ℕ) (γ₃ : GName) (os : List ℕ) where
+module _ {M : Type 1} (𝓤 : URA M) (H : Heap 𝓤) (A : Atoms 𝓤) (W : Given 𝓤 H A) (mem : Memory → SProp 𝓤) (run : Routine → Fun 𝓤) (κ κ₂ κ₃ : Lft) (q q₂ q₃ : Share) (k : Book) (b o : ℕ) (γ : GName) (ys : List Pool) (b₂ o₂ : ℕ) (γ₂ : GName) (bs : List ℕ) (caller : Caller) (b₃ o₃ : ℕ) (γ₃ : GName) (os : List ℕ) where
   abbrev x : RefT (List Pool)
   x = record { ptr = (b, o); name = γ; now = ys }
 
@@ -86,7 +87,7 @@ module _ {M : Type 1} (𝓤 : URA M) (H : Heap 𝓤) (A : Atoms 𝓤) (W : Given
   out = record { ptr = (b₃, o₃); name = γ₃; now = os }
 
   abbrev a : Arg
-  a = (k, (x, (y, (time, (out, tt)))))
+  a = (k, (x, (y, (caller, (out, tt)))))
 
   -- the machine values of the slices
   abbrev s : Val
@@ -99,10 +100,10 @@ module _ {M : Type 1} (𝓤 : URA M) (H : Heap 𝓤) (A : Atoms 𝓤) (W : Given
   s₃ = sliceVal (b₃, o₃) (length os)
 
   abbrev at : Vals f.signature (κ, (κ₂, (κ₃, tt)))
-  at = (bookVals k, (s ∷ [], (s₂ ∷ [], (timeVals time, (s₃ ∷ [], tt)))))
+  at = (bookVals k, (s ∷ [], (s₂ ∷ [], (callerVals caller, (s₃ ∷ [], tt)))))
 
   abbrev given : List Val
-  given = bookVal k ∷ s ∷ s₂ ∷ timeVal time ∷ s₃ ∷ []
+  given = bookVal k ∷ s ∷ s₂ ∷ callerVal caller ∷ s₃ ∷ []
 
   abbrev bound : walkOf 𝓤 H A f.ended stayed (f.clauses 𝓤 H A mem run) .Ghost
   bound = (((κ, (κ₂, (κ₃, tt))), (q, (q₂, (q₃, tt))), tt, a, at), tt)
@@ -116,41 +117,41 @@ module _ {M : Type 1} (𝓤 : URA M) (H : Heap 𝓤) (A : Atoms 𝓤) (W : Given
   abbrev Left : List Pool → List ℕ → List (Item 𝓤)
   Left ps ws = Tokens ∷ ‵ (finally u8 γ₃ ws) ∷ ‵ (finally R γ ps) ∷ []
 
-  exits : (r : Stepped) (w : Val) (ps : List Pool) (ws : List ℕ) → Is SteppedR r (w ∷ []) → length ps ≡ length ys → length ws ≡ length os → Framed k ys bs time os r ps ws → ent 𝓤 (⋆ 𝓤 H A (Left ps ws)) (Post w)
+  exits : (r : Stepped) (w : Val) (ps : List Pool) (ws : List ℕ) → Is SteppedR r (w ∷ []) → length ps ≡ length ys → length ws ≡ length os → Framed k ys bs caller os r ps ws → ent 𝓤 (⋆ 𝓤 H A (Left ps ws)) (Post w)
   exits r w ps ws gr lp lw e =
       qed W (Left ps ws) ∵ suffices ! _ (ends-at 𝓤 H A f.ended stayed (f.clauses 𝓤 H A mem run) W bound w r (tt, (ps, (tt, (tt, (ws, tt))))) (tt, (lp, (tt, (tt, (lw, tt)))))) $ says ! e $
       frame ! $ nothing ! $ move ! (1 ∷ 0 ∷ []) $ fjoin ! $ nothing ! $ fjoin ! $ nothing ! $ fjoin ! $ move ! (1 ∷ 0 ∷ []) $ fjoin ! $ nothing ! $ fjoin ! $ frame ! $
       owned ! SteppedR (Is SteppedR) (stepped-value .makes 𝓤 H A) r _ gr $ done !
 
   -- what the triple of `step_part` binds outside: all is handed on
-  abbrev part-args : Book × (RefT (List Pool) × (RefT (List ℕ) × (ℕ × (ℕ × (List ℕ × (RefT (List ℕ) × Unit {0}))))))
-  part-args = (k, (x, (y, (0, (length bs, (time, (out, tt)))))))
+  abbrev part-args : Book × (RefT (List Pool) × (RefT (List ℕ) × (ℕ × (ℕ × (Caller × (RefT (List ℕ) × Unit {0}))))))
+  part-args = (k, (x, (y, (0, (length bs, (caller, (out, tt)))))))
 
   abbrev to-part : Part 𝓤 H A mem run .Ghost
-  to-part = (((κ, (κ₂, (κ₃, tt))), (q, (q₂, (q₃, tt))), tt, part-args, (bookVals k, (s ∷ [], (s₂ ∷ [], (vint w64 0 ∷ [], (vint w64 (length bs) ∷ [], (timeVals time, (s₃ ∷ [], tt)))))))), tt)
+  to-part = (((κ, (κ₂, (κ₃, tt))), (q, (q₂, (q₃, tt))), tt, part-args, (bookVals k, (s ∷ [], (s₂ ∷ [], (vint w64 0 ∷ [], (vint w64 (length bs) ∷ [], (callerVals caller, (s₃ ∷ [], tt)))))))), tt)
 
   abbrev ToPart : List (Item 𝓤)
   ToPart = Tokens ∷ (‵ (MutSlice (named 0) κ R .own x (s ∷ [])) ⊛ ‵ (ShrSlice (named 1) κ₂ u8 .own y (s₂ ∷ [])) ⊛ ‵ (MutSlice (named 2) κ₃ u8 .own out (s₃ ∷ []))) ∷ []
 
-  goes : Is BookR k (bookVals k) → length bs < 2 ^ 64 → Is TimeR time (timeVals time) → (0 ≤ length bs) × (length bs ≤ length bs) → ent 𝓤 (⋆ 𝓤 H A ToPart) (Part 𝓤 H A mem run .pre to-part)
+  goes : Is BookR k (bookVals k) → length bs < 2 ^ 64 → Is CallerR caller (callerVals caller) → (0 ≤ length bs) × (length bs ≤ length bs) → ent 𝓤 (⋆ 𝓤 H A ToPart) (Part 𝓤 H A mem run .pre to-part)
   goes gk gp gt within =
       qed W ToPart ∵ says ! within $ frame ! $ split ! $ move ! (1 ∷ []) $ split ! $
       -- [body; output; pools]
-      nothing ! $ move ! (2 ∷ 0 ∷ []) $ fjoin ! $ owned ! TimeR (Is TimeR) (time-makes 𝓤 H A W) time _ gt $ fjoin ! $ owned ! usize (Is usize) (uint-makes 𝓤 H A W w64) (length bs) _ (refl, gp) $ fjoin ! $
+      nothing ! $ move ! (2 ∷ 0 ∷ []) $ fjoin ! $ owned ! CallerR (Is CallerR) (caller-value .makes 𝓤 H A) caller _ gt $ fjoin ! $ owned ! usize (Is usize) (uint-makes 𝓤 H A W w64) (length bs) _ (refl, gp) $ fjoin ! $
       owned ! usize (Is usize) (uint-makes 𝓤 H A W w64) 0 _ (refl, lit< tt) $ fjoin ! $ move ! (1 ∷ 0 ∷ []) $ fjoin ! $ move ! (1 ∷ 0 ∷ []) $ fjoin ! $ owned ! BookR (Is BookR) (book-value .makes 𝓤 H A) k _ gk $ fjoin ! $ done !
 
   -- what `step_part` says
   abbrev Stepping : Stepped → Lasts → Type 0
-  Stepping r zs = Framed k ys (part bs 0 (length bs - 0)) time os r (zs .1 .0) (zs .1 .1 .1 .1 .1 .1 .0)
+  Stepping r zs = Framed k ys (part bs 0 (length bs - 0)) caller os r (zs .1 .0) (zs .1 .1 .1 .1 .1 .1 .0)
 
   module _ (𝓣 : Tables 𝓤 H) (known : Triple 𝓤 (𝓣 .C #table-step·step-part) (Part 𝓤 H A mem run)) where
-    walk : Is BookR k (bookVals k) → Room R (length ys) → Room u8 (length bs) → Is TimeR time (timeVals time) → Room u8 (length os)
+    walk : Is BookR k (bookVals k) → Room R (length ys) → Room u8 (length bs) → Is CallerR caller (callerVals caller) → Room u8 (length os)
         → ent 𝓤 (onEntry 𝓤 H A f.signature (κ, (κ₂, (κ₃, tt))) (q, (q₂, (q₃, tt))) a at) (WpFn 𝓤 H (𝓣 .C) (𝓣 .Λ) code.function given Post)
     walk gk room room₂ gt room₃ =
-        qed W (Tokens ∷ ‵ (owns (BookR ∷ MutSlice (named 0) κ R ∷ ShrSlice (named 1) κ₂ u8 ∷ TimeR ∷ MutSlice (named 2) κ₃ u8 ∷ []) a at) ∷ []) ∵ enter ! (𝓣 .C) (𝓣 .Λ) code.function given _ $
+        qed W (Tokens ∷ ‵ (owns (BookR ∷ MutSlice (named 0) κ R ∷ ShrSlice (named 1) κ₂ u8 ∷ CallerR ∷ MutSlice (named 2) κ₃ u8 ∷ []) a at) ∷ []) ∵ enter ! (𝓣 .C) (𝓣 .Λ) code.function given _ $
         alloc1 ! (λ l₀. alloc1 ! (λ l₁. alloc1 ! (λ l₂. alloc1 ! (λ l₃. alloc1 ! (λ l₄. alloc1 ! (λ l₅. alloc1 ! (λ l₆. alloc1 ! (λ l₇. alloc1 ! (λ l₈. alloc1 ! (λ l₉. alloc1 ! (λ l₁₀. alloc0 ! $ params1 ! $
         pass1 ! (init ! 18 refl (book-value .typed 𝓤 H A W k _ gk)) $ pass1 ! (init ! 16 refl (tt, (tt, (record { fits = room .0 }, tt)))) $ pass1 ! (init ! 14 refl (tt, (tt, (record { fits = room₂ .0 }, tt)))) $
-        pass1 ! (init ! 12 refl (time-typed 𝓤 H A W time _ gt)) $ pass1 ! (init ! 10 refl (tt, (tt, (record { fits = room₃ .0 }, tt)))) $ pass0 ! $
+        pass1 ! (init ! 12 refl (caller-value .typed 𝓤 H A W caller _ gt)) $ pass1 ! (init ! 10 refl (tt, (tt, (record { fits = room₃ .0 }, tt)))) $ pass0 ! $
         -- [_10; …; _0; …; the tokens; what the parameters own]
         move ! (23 ∷ []) $ fsplit ! $ drop ! $ fsplit ! $ move ! (1 ∷ []) $ fsplit ! $ move ! (1 ∷ []) $ fsplit ! $ drop ! $ fsplit ! $ move ! (1 ∷ []) $ drop ! $ move ! (25 ∷ 2 ∷ 1 ∷ 0 ∷ []) $
         -- [the tokens; pools; body; output; _10 at 4; …; _0 at 24]
@@ -172,13 +173,13 @@ module _ {M : Type 1} (𝓤 : URA M) (H : Heap 𝓤) (A : Atoms 𝓤) (W : Given
         -- [the tokens; the last output; the last table; _10 at 3; …; _0 at 23]
         returns ! (look ! 23 refl) $ forget ! 3 refl $ forget ! 5 refl $ forget ! 7 refl $ forget ! 9 refl $ forget ! 11 refl $ forget ! 13 refl $ forget ! 15 refl $ forget ! 17 refl $ forget ! 19 refl $ forget ! 21 refl $ forget ! 23 refl $
         move ! (23 ∷ 24 ∷ []) $ free1 ! $ move ! (21 ∷ 22 ∷ []) $ free1 ! $ move ! (19 ∷ 20 ∷ []) $ free1 ! $ move ! (17 ∷ 18 ∷ []) $ free1 ! $ move ! (15 ∷ 16 ∷ []) $ free1 ! $ move ! (13 ∷ 14 ∷ []) $ free1 ! $ move ! (11 ∷ 12 ∷ []) $ free1 ! $ move ! (9 ∷ 10 ∷ []) $ free1 ! $ move ! (7 ∷ 8 ∷ []) $ free1 ! $ move ! (5 ∷ 6 ∷ []) $ free1 ! $ move ! (3 ∷ 4 ∷ []) $ free1 ! $ free0 ! $
-        by ! (exits r w (zs .1 .0) (zs .1 .1 .1 .1 .1 .1 .0) gr lp lw (subst (λ (l : List ℕ). Framed k ys l time os r (zs .1 .0) (zs .1 .1 .1 .1 .1 .1 .0)) (all-of-it bs) e))))))))))))))))))))
+        by ! (exits r w (zs .1 .0) (zs .1 .1 .1 .1 .1 .1 .0) gr lp lw (subst (λ (l : List ℕ). Framed k ys l caller os r (zs .1 .0) (zs .1 .1 .1 .1 .1 .1 .0)) (all-of-it bs) e))))))))))))))))))))
 
 module _ {M : Type 1} (𝓤 : URA M) (H : Heap 𝓤) (A : Atoms 𝓤) (W : Given 𝓤 H A) (mem : Memory → SProp 𝓤) (run : Routine → Fun 𝓤) where
   step-walks : (𝓣 : Tables 𝓤 H) → Triple 𝓤 (𝓣 .C #table-step·step-part) (Part 𝓤 H A mem run) → Walks 𝓤 H A f.ended stayed (WpFn 𝓤 H (𝓣 .C) (𝓣 .Λ) code.function) (f.clauses 𝓤 H A mem run)
   step-walks 𝓣 known = walked 𝓤 H A f.ended stayed (f.clauses 𝓤 H A mem run) (WpFn 𝓤 H (𝓣 .C) (𝓣 .Λ) code.function)
-      (λ κs. (bookVals, (slice-vals, (slice-vals, (timeVals, (slice-vals, tt))))))
-      (λ κs. (book-value .tells, (mut-slice-tells (named 0) (κs .0) R, (shr-slice-tells (named 1) (κs .1 .0) u8, (time-tells, (mut-slice-tells (named 2) (κs .1 .1 .0) u8, tt))))))
+      (λ κs. (bookVals, (slice-vals, (slice-vals, (callerVals, (slice-vals, tt))))))
+      (λ κs. (book-value .tells, (mut-slice-tells (named 0) (κs .0) R, (shr-slice-tells (named 1) (κs .1 .0) u8, (caller-value .tells, (mut-slice-tells (named 2) (κs .1 .1 .0) u8, tt))))))
       (λ κs qs bounds a g are. via 𝓤 _ (fst∗ 𝓤 _ (emp 𝓤))
       (walk 𝓤 H A W mem run (κs .0) (κs .1 .0) (κs .1 .1 .0) (qs .0) (qs .1 .0) (qs .1 .1 .0) (a .0) (a .1 .0 .ptr .0) (a .1 .0 .ptr .1) (a .1 .0 .name) (a .1 .0 .now) (a .1 .1 .0 .ptr .0) (a .1 .1 .0 .ptr .1) (a .1 .1 .0 .name) (a .1 .1 .0 .now)
       (a .1 .1 .1 .0) (a .1 .1 .1 .1 .0 .ptr .0) (a .1 .1 .1 .1 .0 .ptr .1) (a .1 .1 .1 .1 .0 .name) (a .1 .1 .1 .1 .0 .now) 𝓣 known (are .0) (are .1 .0 .0 .1) (are .1 .1 .0 .0 .1) (are .1 .1 .1 .0) (are .1 .1 .1 .1 .0 .0 .1)))
@@ -192,7 +193,7 @@ step-meets 𝓤 H A W mem run 𝓣 known =
         goes-gave-slice 𝓤 H A W 3 0 tt (plain (λ _. R)),
         (
           goes-dropped 𝓤 H A W 3 body-slot yes (λ κs x f. refl),
-          (goes-dropped 𝓤 H A W 3 (plain (λ _. TimeR)) yes (λ κs x f. refl), (goes-gave-slice 𝓤 H A W 3 2 tt (plain (λ _. u8)), tt)),
+          (goes-dropped 𝓤 H A W 3 (plain (λ _. CallerR)) yes (λ κs x f. refl), (goes-gave-slice 𝓤 H A W 3 2 tt (plain (λ _. u8)), tt)),
         ),
       ),
     )

@@ -33,10 +33,11 @@ use denote.Triple.Table.{entered, cited}
 use denote.Triple.Walked.{needs, Walks, walked, walk-meets}
 use Rattle.slice_laws.proofs.Blanks.{RowR, row-typed}
 use Rattle.slice_laws.proofs.Count.{tyOf}
+use Rattle.book.specs.declared.Caller.{Caller}
 use Rattle.book.specs.declared.Pool.{Pool}
 use Rattle.table_load.proofs.Row.{R}
 use Rattle.rows_enough.specs.FirstRows.{wanted, rowsOf}
-use Rattle.table_rows.proofs.Values.{BookR, bookVals, book-value, TimeR, timeVals, time-typed}
+use Rattle.table_rows.proofs.Values.{BookR, bookVals, book-value, CallerR, callerVals, caller-value}
 use Rattle.table_step.proofs.step_with.Symbol as with-def
 use Rattle.table_step.proofs.step_with.Symbol.{name as #table-step·step-with}
 use Rattle.table_step.proofs.step_with.Met as with-thm
@@ -67,17 +68,17 @@ module _ {M : Type 1} (𝓤 : URA M) (H : Heap 𝓤) (A : Atoms 𝓤) (W : Given
     abbrev past : ℕ
     past = a .1 .1 .1 .1 .0
 
-    abbrev time : List ℕ
-    time = a .1 .1 .1 .1 .1 .0
+    abbrev caller : Caller
+    caller = a .1 .1 .1 .1 .1 .0
 
-    walk : Is BookR (a .0) (bookVals (a .0)) → Room R (length ys) → Room u8 (length ts) → start < 2 ^ 64 → past < 2 ^ 64 → Is TimeR time (timeVals time) → Room u8 (length os) → (rowsOf (length ys) (wanted (a .0 .live) (past - start)) ≤ 512) × (start ≤ past) × (past ≤ length ts)
+    walk : Is BookR (a .0) (bookVals (a .0)) → Room R (length ys) → Room u8 (length ts) → start < 2 ^ 64 → past < 2 ^ 64 → Is CallerR caller (callerVals caller) → Room u8 (length os) → (rowsOf (length ys) (wanted (a .0 .live) (past - start)) ≤ 512) × (start ≤ past) × (past ≤ length ts)
         → ent 𝓤 (onEntry 𝓤 H A f.signature κs qs a (at 𝓤 H A W mem run κs qs a)) (WpFn 𝓤 H (𝓣 .C) (𝓣 .Λ) code.function (given 𝓤 H A W mem run κs qs a) (Post 𝓤 H A W mem run κs qs a))
     walk gk room room₂ gs gp gt room₃ within =
-        qed W ((‵ (flft (κs .0) (qs .0)) ⊛ Rest 𝓤 H A W mem run κs qs a) ∷ ‵ (owns (BookR ∷ MutSlice (named 0) (κs .0) R ∷ ShrSlice (named 1) (κs .1 .0) u8 ∷ usize ∷ usize ∷ TimeR ∷ MutSlice (named 2) (κs .1 .1 .0) u8 ∷ []) a (at 𝓤 H A W mem run κs qs a)) ∷ []) ∵
+        qed W ((‵ (flft (κs .0) (qs .0)) ⊛ Rest 𝓤 H A W mem run κs qs a) ∷ ‵ (owns (BookR ∷ MutSlice (named 0) (κs .0) R ∷ ShrSlice (named 1) (κs .1 .0) u8 ∷ usize ∷ usize ∷ CallerR ∷ MutSlice (named 2) (κs .1 .1 .0) u8 ∷ []) a (at 𝓤 H A W mem run κs qs a)) ∷ []) ∵
         enter ! (𝓣 .C) (𝓣 .Λ) code.function (given 𝓤 H A W mem run κs qs a) _ $
         alloc1 ! (λ l₀. alloc1 ! (λ l₁. alloc1 ! (λ l₂. alloc1 ! (λ l₃. alloc1 ! (λ l₄. alloc1 ! (λ l₅. alloc1 ! (λ l₆. alloc1 ! (λ l₇. alloc1 ! (λ l₈. alloc1 ! (λ l₉. alloc1 ! (λ l₁₀. alloc1 ! (λ l₁₁. alloc1 ! (λ l₁₂. alloc1 ! (λ l₁₃. alloc1 ! (λ l₁₄. alloc1 ! (λ l₁₅. alloc1 ! (λ l₁₆. alloc1 ! (λ l₁₇. alloc1 ! (λ l₁₈. alloc1 ! (λ l₁₉. alloc0 ! $ params1 ! $
         pass1 ! (init ! 36 refl (book-value .typed 𝓤 H A W (a .0) _ gk)) $ pass1 ! (init ! 34 refl (tt, (tt, (record { fits = room .0 }, tt)))) $ pass1 ! (init ! 32 refl (tt, (tt, (record { fits = room₂ .0 }, tt)))) $ pass1 ! (init ! 30 refl (tt, record { fits = gs })) $
-        pass1 ! (init ! 28 refl (tt, record { fits = gp })) $ pass1 ! (init ! 26 refl (time-typed 𝓤 H A W time _ gt)) $ pass1 ! (init ! 24 refl (tt, (tt, (record { fits = room₃ .0 }, tt)))) $ pass0 ! $
+        pass1 ! (init ! 28 refl (tt, record { fits = gp })) $ pass1 ! (init ! 26 refl (caller-value .typed 𝓤 H A W caller _ gt)) $ pass1 ! (init ! 24 refl (tt, (tt, (record { fits = room₃ .0 }, tt)))) $ pass0 ! $
         -- [_19; …; _0; …; the tokens; what the parameters own]
         move ! (41 ∷ []) $ fsplit ! $ drop ! $ fsplit ! $ move ! (1 ∷ []) $ fsplit ! $ move ! (1 ∷ []) $ fsplit ! $ drop ! $ fsplit ! $ drop ! $ fsplit ! $ drop ! $ fsplit ! $ move ! (1 ∷ []) $ drop ! $ move ! (43 ∷ []) $ split ! $ move ! (4 ∷ 0 ∷ 3 ∷ 2 ∷ 1 ∷ []) $
         -- [pools; its token; tape; output; their tokens; _19 at 5; …; _0 at 43]

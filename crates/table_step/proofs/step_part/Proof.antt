@@ -39,12 +39,13 @@ use denote.Triple.Table.{entered, cited}
 use denote.Triple.Walked.{says, needs, Walks, walked, walk-meets}
 use Rattle.slice_laws.proofs.Count.{tyOf, holds}
 use Rattle.lists.specs.Lists.{part}
+use Rattle.book.specs.declared.Caller.{Caller}
 use Rattle.book.specs.declared.Pool.{Pool}
 use Rattle.calls.specs.declared.Stepped.{Stepped}
 use Rattle.table_load.proofs.Row.{R}
 use Rattle.rows_enough.specs.FirstRows.{wanted, rowsOf}
 use Rattle.calls.specs.Calls.{Framed}
-use Rattle.table_rows.proofs.Values.{BookR, bookVals, book-value, SteppedR, stepped-value, TimeR, timeVals, time-makes, time-typed}
+use Rattle.table_rows.proofs.Values.{BookR, bookVals, book-value, SteppedR, stepped-value, CallerR, callerVals, caller-value}
 use Rattle.table_step.proofs.Calling.{Arg, stayed, all-vals, all-tell, all-go, at, given, Post, Pools, Tape, Output, Rest, exits}
 use Rattle.table_step.proofs.few_enough as fe
 use Rattle.table_step.proofs.few_enough.Symbol as enough-def
@@ -100,8 +101,8 @@ module _ {M : Type 1} (𝓤 : URA M) (H : Heap 𝓤) (A : Atoms 𝓤) (W : Given
     abbrev past : ℕ
     past = a .1 .1 .1 .1 .0
 
-    abbrev time : List ℕ
-    time = a .1 .1 .1 .1 .1 .0
+    abbrev caller : Caller
+    caller = a .1 .1 .1 .1 .1 .0
 
     abbrev rows : ℕ
     rows = rowsOf (length ys) (wanted (a .0 .live) (past - start))
@@ -125,16 +126,16 @@ module _ {M : Type 1} (𝓤 : URA M) (H : Heap 𝓤) (A : Atoms 𝓤) (W : Given
     abbrev Handed : List (Item 𝓤)
     Handed = (Pools 𝓤 H A W mem run κs qs a ⊛ Tape 𝓤 H A W mem run κs qs a ⊛ Output 𝓤 H A W mem run κs qs a) ∷ []
 
-    handed : Is BookR (a .0) (bookVals (a .0)) → start < 2 ^ 64 → past < 2 ^ 64 → Is TimeR time (timeVals time)
-        → ent 𝓤 (⋆ 𝓤 H A Handed) (sem 𝓤 H A (owns (BookR ∷ MutSlice (named 0) (κs .0) R ∷ ShrSlice (named 1) (κs .1 .0) u8 ∷ usize ∷ usize ∷ TimeR ∷ MutSlice (named 2) (κs .1 .1 .0) u8 ∷ []) a (at 𝓤 H A W mem run κs qs a)))
+    handed : Is BookR (a .0) (bookVals (a .0)) → start < 2 ^ 64 → past < 2 ^ 64 → Is CallerR caller (callerVals caller)
+        → ent 𝓤 (⋆ 𝓤 H A Handed) (sem 𝓤 H A (owns (BookR ∷ MutSlice (named 0) (κs .0) R ∷ ShrSlice (named 1) (κs .1 .0) u8 ∷ usize ∷ usize ∷ CallerR ∷ MutSlice (named 2) (κs .1 .1 .0) u8 ∷ []) a (at 𝓤 H A W mem run κs qs a)))
     handed gk gs gp gt =
         qed W Handed ∵ split ! $ move ! (1 ∷ []) $ split ! $
         -- [tape; output; pools]
-        nothing ! $ move ! (2 ∷ 0 ∷ []) $ fjoin ! $ owned ! TimeR (Is TimeR) (time-makes 𝓤 H A W) time _ gt $ fjoin ! $ owned ! usize (Is usize) (uint-makes 𝓤 H A W w64) past _ (refl, gp) $ fjoin ! $
+        nothing ! $ move ! (2 ∷ 0 ∷ []) $ fjoin ! $ owned ! CallerR (Is CallerR) (caller-value .makes 𝓤 H A) caller _ gt $ fjoin ! $ owned ! usize (Is usize) (uint-makes 𝓤 H A W w64) past _ (refl, gp) $ fjoin ! $
         owned ! usize (Is usize) (uint-makes 𝓤 H A W w64) start _ (refl, gs) $ fjoin ! $ move ! (1 ∷ 0 ∷ []) $ fjoin ! $ move ! (1 ∷ 0 ∷ []) $ fjoin ! $ owned ! BookR (Is BookR) (book-value .makes 𝓤 H A) (a .0) _ gk $ fjoin ! $ done !
 
     abbrev All : Item 𝓤
-    All = ‵ (owns (BookR ∷ MutSlice (named 0) (κs .0) R ∷ ShrSlice (named 1) (κs .1 .0) u8 ∷ usize ∷ usize ∷ TimeR ∷ MutSlice (named 2) (κs .1 .1 .0) u8 ∷ []) a (at 𝓤 H A W mem run κs qs a))
+    All = ‵ (owns (BookR ∷ MutSlice (named 0) (κs .0) R ∷ ShrSlice (named 1) (κs .1 .0) u8 ∷ usize ∷ usize ∷ CallerR ∷ MutSlice (named 2) (κs .1 .1 .0) u8 ∷ []) a (at 𝓤 H A W mem run κs qs a))
 
     abbrev to-few : Few 𝓤 H A mem run .Ghost
     to-few = ((κs, qs, tt, a, at 𝓤 H A W mem run κs qs a), tt)
@@ -150,15 +151,15 @@ module _ {M : Type 1} (𝓤 : URA M) (H : Heap 𝓤) (A : Atoms 𝓤) (W : Given
 
     -- what either call says
     abbrev Stepping : Stepped → Lasts → Type 0
-    Stepping r zs = Framed (a .0) ys (part ts start (past - start)) time os r (zs .1 .0) (zs .1 .1 .1 .1 .1 .1 .0)
+    Stepping r zs = Framed (a .0) ys (part ts start (past - start)) caller os r (zs .1 .0) (zs .1 .1 .1 .1 .1 .1 .0)
 
-    walk : Is BookR (a .0) (bookVals (a .0)) → Room R (length ys) → Room u8 (length ts) → start < 2 ^ 64 → past < 2 ^ 64 → Is TimeR time (timeVals time) → Room u8 (length os) → (start ≤ past) × (past ≤ length ts)
+    walk : Is BookR (a .0) (bookVals (a .0)) → Room R (length ys) → Room u8 (length ts) → start < 2 ^ 64 → past < 2 ^ 64 → Is CallerR caller (callerVals caller) → Room u8 (length os) → (start ≤ past) × (past ≤ length ts)
         → ent 𝓤 (onEntry 𝓤 H A f.signature κs qs a (at 𝓤 H A W mem run κs qs a)) (WpFn 𝓤 H (𝓣 .C) (𝓣 .Λ) code.function (given 𝓤 H A W mem run κs qs a) (Post 𝓤 H A W mem run κs qs a))
     walk gk room room₂ gs gp gt room₃ within =
         qed W (Tokens ∷ All ∷ []) ∵ enter ! (𝓣 .C) (𝓣 .Λ) code.function (given 𝓤 H A W mem run κs qs a) _ $
         alloc1 ! (λ l₀. alloc1 ! (λ l₁. alloc1 ! (λ l₂. alloc1 ! (λ l₃. alloc1 ! (λ l₄. alloc1 ! (λ l₅. alloc1 ! (λ l₆. alloc1 ! (λ l₇. alloc1 ! (λ l₈. alloc1 ! (λ l₉. alloc1 ! (λ l₁₀. alloc1 ! (λ l₁₁. alloc1 ! (λ l₁₂. alloc1 ! (λ l₁₃. alloc1 ! (λ l₁₄. alloc1 ! (λ l₁₅. alloc1 ! (λ l₁₆. alloc1 ! (λ l₁₇. alloc0 ! $ params1 ! $
         pass1 ! (init ! 32 refl (book-value .typed 𝓤 H A W (a .0) _ gk)) $ pass1 ! (init ! 30 refl (tt, (tt, (record { fits = room .0 }, tt)))) $ pass1 ! (init ! 28 refl (tt, (tt, (record { fits = room₂ .0 }, tt)))) $ pass1 ! (init ! 26 refl (tt, record { fits = gs })) $
-        pass1 ! (init ! 24 refl (tt, record { fits = gp })) $ pass1 ! (init ! 22 refl (time-typed 𝓤 H A W time _ gt)) $ pass1 ! (init ! 20 refl (tt, (tt, (record { fits = room₃ .0 }, tt)))) $ pass0 ! $
+        pass1 ! (init ! 24 refl (tt, record { fits = gp })) $ pass1 ! (init ! 22 refl (caller-value .typed 𝓤 H A W caller _ gt)) $ pass1 ! (init ! 20 refl (tt, (tt, (record { fits = room₃ .0 }, tt)))) $ pass0 ! $
         -- [_17; …; _0; …; the tokens; what the parameters own]
         move ! (37 ∷ []) $ fsplit ! $ drop ! $ fsplit ! $ move ! (1 ∷ []) $ fsplit ! $ move ! (1 ∷ []) $ fsplit ! $ drop ! $ fsplit ! $ drop ! $ fsplit ! $ drop ! $ fsplit ! $ move ! (1 ∷ []) $ drop ! $ move ! (39 ∷ 2 ∷ 1 ∷ 0 ∷ []) $
         -- [the tokens; pools; tape; output; _17 at 4; …; _0 at 38]

@@ -42,6 +42,7 @@ use denote.Exit.{yes}
 use Rattle.slice_laws.proofs.Count.{tyOf}
 use Rattle.slice_laws.proofs.Lent.{LentMut, LentShared, lends-mut, mut-back, lends-shared, shared-back}
 use Rattle.lists.specs.Lists.{part}
+use Rattle.book.specs.declared.Caller.{Caller}
 use Rattle.book.specs.declared.Book.{Book}
 use Rattle.book.specs.declared.Pool.{Pool}
 use Rattle.calls.specs.declared.Stepped.{Stepped}
@@ -52,7 +53,7 @@ use Rattle.rows_enough.specs.Moving.{StepsRows}
 use Rattle.calls.specs.Calls.{Framed}
 use Rattle.table_rows.specs.LoadsRows.{LoadsRows}
 use Rattle.table_step.proofs.Framing.{part-size, storable, framed}
-use Rattle.table_rows.proofs.Values.{BookR, bookVal, bookVals, book-value, SteppedR, stepped-value, MovedR, moved-value, TimeR, timeVal, timeVals, time-tells, time-makes, time-typed}
+use Rattle.table_rows.proofs.Values.{BookR, bookVal, bookVals, book-value, SteppedR, stepped-value, MovedR, moved-value, CallerR, callerVal, callerVals, caller-value}
 use Rattle.rows_enough.proofs.rows_wanted as wa
 use Rattle.rows_enough.proofs.rows_wanted.Symbol as wanted-def
 use Rattle.rows_enough.proofs.rows_wanted.Symbol.{name as #rows-enough·rows-wanted}
@@ -94,7 +95,7 @@ abbrev Rows : Type 0
 Rows = List (List ℕ)
 
 abbrev Arg : Type 0
-Arg = Book × (RefT (List Pool) × (RefT Rows × (RefT Rows × (RefT (List ℕ) × (ℕ × (ℕ × (List ℕ × (RefT (List ℕ) × Unit {0}))))))))
+Arg = Book × (RefT (List Pool) × (RefT Rows × (RefT Rows × (RefT (List ℕ) × (ℕ × (ℕ × (Caller × (RefT (List ℕ) × Unit {0}))))))))
 
 -- the last values that each call says
 abbrev FirstRows : Type 0
@@ -138,7 +139,7 @@ stayed = (
             (
               stay-dropped (plain (λ _. usize)) yes,
               (
-                stay-dropped (plain (λ _. TimeR)) yes,
+                stay-dropped (plain (λ _. CallerR)) yes,
                 (gave-slice (4 ∷ []) tt (plain (λ _. u8)), tt),
               ),
             ),
@@ -177,7 +178,7 @@ module _ {M : Type 1} (𝓤 : URA M) (H : Heap 𝓤) (A : Atoms 𝓤) (mem : Mem
   Known 𝓣 = Triple 𝓤 (𝓣 .C #rows-enough·rows-wanted) Wanted × Triple 𝓤 (𝓣 .C #table-rows·load-rows) Stage × Triple 𝓤 (𝓣 .C #table-step·step-part-rows) Step × Triple 𝓤 (𝓣 .C #table-step·changed-from) ChangedFrom
       × Triple 𝓤 (𝓣 .C #table-step·changed-to) ChangedTo × Triple 𝓤 (𝓣 .C #table-store·store) Store × Triple 𝓤 (𝓣 .C #table-step·stepped-of) SteppedOf
 
-module _ {M : Type 1} (𝓤 : URA M) (H : Heap 𝓤) (A : Atoms 𝓤) (W : Given 𝓤 H A) (mem : Memory → SProp 𝓤) (run : Routine → Fun 𝓤) (κ κ₂ κ₃ κ₄ κ₅ : Lft) (q q₂ q₃ q₄ q₅ : Share) (k : Book) (b o : ℕ) (γ : GName) (ys : List Pool) (b₂ o₂ : ℕ) (γ₂ : GName) (us : Rows) (b₃ o₃ : ℕ) (γ₃ : GName) (vs : Rows) (b₄ o₄ : ℕ) (γ₄ : GName) (ts : List ℕ) (start past : ℕ) (time : List ℕ) (b₅ o₅ : ℕ) (γ₅ : GName) (os : List ℕ) where
+module _ {M : Type 1} (𝓤 : URA M) (H : Heap 𝓤) (A : Atoms 𝓤) (W : Given 𝓤 H A) (mem : Memory → SProp 𝓤) (run : Routine → Fun 𝓤) (κ κ₂ κ₃ κ₄ κ₅ : Lft) (q q₂ q₃ q₄ q₅ : Share) (k : Book) (b o : ℕ) (γ : GName) (ys : List Pool) (b₂ o₂ : ℕ) (γ₂ : GName) (us : Rows) (b₃ o₃ : ℕ) (γ₃ : GName) (vs : Rows) (b₄ o₄ : ℕ) (γ₄ : GName) (ts : List ℕ) (start past : ℕ) (caller : Caller) (b₅ o₅ : ℕ) (γ₅ : GName) (os : List ℕ) where
   -- the borrows of the table and of the rows, under a name at a list; those of the tape and of the output
   abbrev x : GName → List Pool → RefT (List Pool)
   x δ l = record { ptr = (b, o); name = δ; now = l }
@@ -195,7 +196,7 @@ module _ {M : Type 1} (𝓤 : URA M) (H : Heap 𝓤) (A : Atoms 𝓤) (W : Given
   out = record { ptr = (b₅, o₅); name = γ₅; now = os }
 
   abbrev a : Arg
-  a = (k, (x γ ys, (y γ₂ us, (z γ₃ vs, (tape, (start, (past, (time, (out, tt)))))))))
+  a = (k, (x γ ys, (y γ₂ us, (z γ₃ vs, (tape, (start, (past, (caller, (out, tt)))))))))
 
   -- the machine values of the slices
   abbrev s : Val
@@ -214,10 +215,10 @@ module _ {M : Type 1} (𝓤 : URA M) (H : Heap 𝓤) (A : Atoms 𝓤) (W : Given
   s₅ = sliceVal (b₅, o₅) (length os)
 
   abbrev at : Vals f.signature (κ, (κ₂, (κ₃, (κ₄, (κ₅, tt)))))
-  at = (bookVals k, (s ∷ [], (s₂ (length us) ∷ [], (s₃ (length vs) ∷ [], (s₄ ∷ [], (vint w64 start ∷ [], (vint w64 past ∷ [], (timeVals time, (s₅ ∷ [], tt)))))))))
+  at = (bookVals k, (s ∷ [], (s₂ (length us) ∷ [], (s₃ (length vs) ∷ [], (s₄ ∷ [], (vint w64 start ∷ [], (vint w64 past ∷ [], (callerVals caller, (s₅ ∷ [], tt)))))))))
 
   abbrev given : List Val
-  given = bookVal k ∷ s ∷ s₂ (length us) ∷ s₃ (length vs) ∷ s₄ ∷ vint w64 start ∷ vint w64 past ∷ timeVal time ∷ s₅ ∷ []
+  given = bookVal k ∷ s ∷ s₂ (length us) ∷ s₃ (length vs) ∷ s₄ ∷ vint w64 start ∷ vint w64 past ∷ callerVal caller ∷ s₅ ∷ []
 
   abbrev frame-body : List ℕ
   frame-body = part ts start (past - start)
@@ -255,7 +256,7 @@ module _ {M : Type 1} (𝓤 : URA M) (H : Heap 𝓤) (A : Atoms 𝓤) (W : Given
   abbrev Left : List Pool → Rows → Rows → List ℕ → List (Item 𝓤)
   Left ps ns ks ws = Keys ks (length vs) ∷ ‵ (flft κ₃ q₃) ∷ Numbers ns (length us) ∷ ‵ (flft κ₂ q₂) ∷ ‵ (flft κ q) ∷ ‵ (finally R γ ps) ∷ Rest ∷ ‵ (finally u8 γ₅ ws) ∷ []
 
-  exits : (r : Stepped) (w : Val) (ps : List Pool) (ns ks : Rows) (ws : List ℕ) → Is SteppedR r (w ∷ []) → length ps ≡ length ys → length ns ≡ length us → length ks ≡ length vs → length ws ≡ length os → Framed k ys frame-body time os r ps ws
+  exits : (r : Stepped) (w : Val) (ps : List Pool) (ns ks : Rows) (ws : List ℕ) → Is SteppedR r (w ∷ []) → length ps ≡ length ys → length ns ≡ length us → length ks ≡ length vs → length ws ≡ length os → Framed k ys frame-body caller os r ps ws
       → ent 𝓤 (⋆ 𝓤 H A (Left ps ns ks ws)) (Post w)
   exits r w ps ns ks ws gr lp ln lk lw e =
       qed W (Left ps ns ks ws) ∵
@@ -299,8 +300,8 @@ module _ {M : Type 1} (𝓤 : URA M) (H : Heap 𝓤) (A : Atoms 𝓤) (W : Given
 
   -- what the triple of the step on rows binds outside: the rows are lent for ν and ν₂
   module _ (rest : Bool) (ns ks : Rows) where
-    abbrev step-args : GName → GName → Book × (RefT Rows × (RefT Rows × (ℕ × (Bool × (RefT (List ℕ) × (ℕ × (ℕ × (List ℕ × (RefT (List ℕ) × Unit {0})))))))))
-    step-args δ δ₂ = (k, (y δ ns, (z δ₂ ks, (length ys, (rest, (tape, (start, (past, (time, (out, tt))))))))))
+    abbrev step-args : GName → GName → Book × (RefT Rows × (RefT Rows × (ℕ × (Bool × (RefT (List ℕ) × (ℕ × (ℕ × (Caller × (RefT (List ℕ) × Unit {0})))))))))
+    step-args δ δ₂ = (k, (y δ ns, (z δ₂ ks, (length ys, (rest, (tape, (start, (past, (caller, (out, tt))))))))))
 
     abbrev to-step : ℕ → GName → ℕ → GName → Step 𝓤 H A mem run .Ghost
     to-step ν δ ν₂ δ₂ = (
@@ -309,14 +310,14 @@ module _ {M : Type 1} (𝓤 : URA M) (H : Heap 𝓤) (A : Atoms 𝓤) (W : Given
         (fullShare, (fullShare, (q₄, (q₅, tt)))),
         tt,
         step-args δ δ₂,
-        (bookVals k, (s₂ (length us) ∷ [], (s₃ (length vs) ∷ [], (vint w64 (length ys) ∷ [], (vbool rest ∷ [], (s₄ ∷ [], (vint w64 start ∷ [], (vint w64 past ∷ [], (timeVals time, (s₅ ∷ [], tt)))))))))),
+        (bookVals k, (s₂ (length us) ∷ [], (s₃ (length vs) ∷ [], (vint w64 (length ys) ∷ [], (vbool rest ∷ [], (s₄ ∷ [], (vint w64 start ∷ [], (vint w64 past ∷ [], (callerVals caller, (s₅ ∷ [], tt)))))))))),
       ),
       tt,
     )
 
     -- what the step says
     abbrev Rowed : Moved → Stepping → Type 0
-    Rowed r zs = StepsRows k ns ks (length ys) rest frame-body time os r (zs .1 .0) (zs .1 .1 .0) (zs .1 .1 .1 .1 .1 .1 .1 .1 .1 .0)
+    Rowed r zs = StepsRows k ns ks (length ys) rest frame-body caller os r (zs .1 .0) (zs .1 .1 .0) (zs .1 .1 .1 .1 .1 .1 .1 .1 .1 .0)
 
     abbrev StepTokens : ℕ → ℕ → Item 𝓤
     StepTokens ν ν₂ = ‵ (flft (ν ∷ []) fullShare) ⊛ ‵ (flft (ν₂ ∷ []) fullShare) ⊛ Rest
@@ -330,12 +331,12 @@ module _ {M : Type 1} (𝓤 : URA M) (H : Heap 𝓤) (A : Atoms 𝓤) (W : Given
     abbrev ToStep : ℕ → GName → ℕ → GName → List (Item 𝓤)
     ToStep ν δ ν₂ δ₂ = StepTokens ν ν₂ ∷ (StepNumbers ν δ (length us) ⊛ StepKeys ν₂ δ₂ (length vs) ⊛ Tape ⊛ Output) ∷ []
 
-    goes-step : (ν : ℕ) (δ : GName) (ν₂ : ℕ) (δ₂ : GName) → Is BookR k (bookVals k) → length ys < 2 ^ 64 → start < 2 ^ 64 → past < 2 ^ 64 → Is TimeR time (timeVals time)
+    goes-step : (ν : ℕ) (δ : GName) (ν₂ : ℕ) (δ₂ : GName) → Is BookR k (bookVals k) → length ys < 2 ^ 64 → start < 2 ^ 64 → past < 2 ^ 64 → Is CallerR caller (callerVals caller)
         → (rowsOf (length ys) want ≤ length ns) × (rowsOf (length ys) want ≤ length ks) × (start ≤ past) × (past ≤ length ts) → ent 𝓤 (⋆ 𝓤 H A (ToStep ν δ ν₂ δ₂)) (Step 𝓤 H A mem run .pre (to-step ν δ ν₂ δ₂))
     goes-step ν δ ν₂ δ₂ gk gn gs gp gt within =
         qed W (ToStep ν δ ν₂ δ₂) ∵ says ! within $ frame ! $ split ! $ move ! (1 ∷ []) $ split ! $ move ! (1 ∷ []) $ split ! $
         -- [tape; output; keys; numbers]
-        nothing ! $ move ! (2 ∷ 0 ∷ []) $ fjoin ! $ owned ! TimeR (Is TimeR) (time-makes 𝓤 H A W) time _ gt $ fjoin ! $ owned ! usize (Is usize) (uint-makes 𝓤 H A W w64) past _ (refl, gp) $ fjoin ! $
+        nothing ! $ move ! (2 ∷ 0 ∷ []) $ fjoin ! $ owned ! CallerR (Is CallerR) (caller-value .makes 𝓤 H A) caller _ gt $ fjoin ! $ owned ! usize (Is usize) (uint-makes 𝓤 H A W w64) past _ (refl, gp) $ fjoin ! $
         owned ! usize (Is usize) (uint-makes 𝓤 H A W w64) start _ (refl, gs) $ fjoin ! $ move ! (1 ∷ 0 ∷ []) $ fjoin ! $ owned ! bool (Is bool) (bool-makes 𝓤 H A W) rest _ refl $ fjoin ! $
         owned ! usize (Is usize) (uint-makes 𝓤 H A W w64) (length ys) _ (refl, gn) $ fjoin ! $ move ! (1 ∷ 0 ∷ []) $ fjoin ! $ move ! (1 ∷ 0 ∷ []) $ fjoin ! $ owned ! BookR (Is BookR) (book-value .makes 𝓤 H A) k _ gk $ fjoin ! $ done !
 
@@ -384,7 +385,7 @@ module _ {M : Type 1} (𝓤 : URA M) (H : Heap 𝓤) (A : Atoms 𝓤) (W : Given
         owned ! usize (Is usize) (uint-makes 𝓤 H A W w64) (r .from) _ (refl, gs) $ fjoin ! $ move ! (1 ∷ 0 ∷ []) $ fjoin ! $ done !
 
   module _ (𝓣 : Tables 𝓤 H) (known : Known 𝓤 H A mem run 𝓣)
-      (gk : Is BookR k (bookVals k)) (room : Room R (length ys)) (room₂ : Room N (length us)) (room₃ : Room K (length vs)) (room₄ : Room u8 (length ts)) (gs : start < 2 ^ 64) (gp : past < 2 ^ 64) (gt : Is TimeR time (timeVals time)) (room₅ : Room u8 (length os))
+      (gk : Is BookR k (bookVals k)) (room : Room R (length ys)) (room₂ : Room N (length us)) (room₃ : Room K (length vs)) (room₄ : Room u8 (length ts)) (gs : start < 2 ^ 64) (gp : past < 2 ^ 64) (gt : Is CallerR caller (callerVals caller)) (room₅ : Room u8 (length os))
       (within : (rowsOf (length ys) want ≤ length us) × (rowsOf (length ys) want ≤ length vs) × (start ≤ past) × (past ≤ length ts)) where
     size : length frame-body ≡ past - start
     size = part-size ts start past (within .2) (within .3)
@@ -395,10 +396,10 @@ module _ {M : Type 1} (𝓤 : URA M) (H : Heap 𝓤) (A : Atoms 𝓤) (W : Given
 
       -- the parameters, and room for the result
       abbrev Lasting : List (Item 𝓤)
-      Lasting = ‵ (fat fullShare (τ 9) l₉ 0 s₅) ∷ ‵ (fdies (τ 9) l₉) ∷ ‵ (fat fullShare (τ 8) l₈ 0 (timeVal time)) ∷ ‵ (fdies (τ 8) l₈) ∷ ‵ (fat fullShare (τ 7) l₇ 0 (vint w64 past)) ∷ ‵ (fdies (τ 7) l₇) ∷ ‵ (fat fullShare (τ 6) l₆ 0 (vint w64 start)) ∷ ‵ (fdies (τ 6) l₆) ∷ ‵ (fat fullShare (τ 5) l₅ 0 s₄) ∷ ‵ (fdies (τ 5) l₅) ∷ ‵ (fat fullShare (τ 4) l₄ 0 (s₃ (length vs))) ∷ ‵ (fdies (τ 4) l₄) ∷ ‵ (fat fullShare (τ 3) l₃ 0 (s₂ (length us))) ∷ ‵ (fdies (τ 3) l₃) ∷ ‵ (fat fullShare (τ 2) l₂ 0 s) ∷ ‵ (fdies (τ 2) l₂) ∷ ‵ (fat fullShare (τ 1) l₁ 0 (bookVal k)) ∷ ‵ (fdies (τ 1) l₁) ∷ ‵ (froom (τ 0) l₀ 0) ∷ ‵ (fdies (τ 0) l₀) ∷ []
+      Lasting = ‵ (fat fullShare (τ 9) l₉ 0 s₅) ∷ ‵ (fdies (τ 9) l₉) ∷ ‵ (fat fullShare (τ 8) l₈ 0 (callerVal caller)) ∷ ‵ (fdies (τ 8) l₈) ∷ ‵ (fat fullShare (τ 7) l₇ 0 (vint w64 past)) ∷ ‵ (fdies (τ 7) l₇) ∷ ‵ (fat fullShare (τ 6) l₆ 0 (vint w64 start)) ∷ ‵ (fdies (τ 6) l₆) ∷ ‵ (fat fullShare (τ 5) l₅ 0 s₄) ∷ ‵ (fdies (τ 5) l₅) ∷ ‵ (fat fullShare (τ 4) l₄ 0 (s₃ (length vs))) ∷ ‵ (fdies (τ 4) l₄) ∷ ‵ (fat fullShare (τ 3) l₃ 0 (s₂ (length us))) ∷ ‵ (fdies (τ 3) l₃) ∷ ‵ (fat fullShare (τ 2) l₂ 0 s) ∷ ‵ (fdies (τ 2) l₂) ∷ ‵ (fat fullShare (τ 1) l₁ 0 (bookVal k)) ∷ ‵ (fdies (τ 1) l₁) ∷ ‵ (froom (τ 0) l₀ 0) ∷ ‵ (fdies (τ 0) l₀) ∷ []
 
       module _ (rest : Bool) (ns ks : Rows) (staged : LoadsRows ys want us vs rest ns ks) (ln : length ns ≡ length us) (lk : length ks ≡ length vs) where
-        module _ (r : Moved) (v : Val) (gr : Is MovedR r (v ∷ [])) (ns₂ ks₂ : Rows) (ws : List ℕ) (stepped : StepsRows k ns ks (length ys) rest frame-body time os r ns₂ ks₂ ws) (ln₂ : length ns₂ ≡ length ns) (lk₂ : length ks₂ ≡ length ks) (lw : length ws ≡ length os) where
+        module _ (r : Moved) (v : Val) (gr : Is MovedR r (v ∷ [])) (ns₂ ks₂ : Rows) (ws : List ℕ) (stepped : StepsRows k ns ks (length ys) rest frame-body caller os r ns₂ ks₂ ws) (ln₂ : length ns₂ ≡ length ns) (lk₂ : length ks₂ ≡ length ks) (lw : length ws ≡ length os) where
           -- the context where the records that moved are written back
           abbrev AtStore : List (Item 𝓤)
           AtStore = Pools ∷ ‵ (flft κ q) ∷ Numbers ns₂ (length ns) ∷ ‵ (flft κ₂ q₂) ∷ Keys ks₂ (length ks) ∷ ‵ (flft κ₃ q₃) ∷ Rest ∷ ‵ (finally u8 γ₅ ws)
@@ -433,7 +434,7 @@ module _ {M : Type 1} (𝓤 : URA M) (H : Heap 𝓤) (A : Atoms 𝓤) (W : Given
               -- [keys lent; what is kept; the token of ν₂; numbers lent; what is kept; the token of ν; pools; its token; the other tokens; the last output; _33 at 10; …]
               nothing ! $ move ! (3 ∷ 0 ∷ []) $ join ! $ move ! (5 ∷ 0 ∷ []) $ join ! $ move ! (6 ∷ 0 ∷ []) $ join ! $ move ! (3 ∷ 1 ∷ []) $ join ! $ move ! (4 ∷ 0 ∷ []) $ join ! $ move ! (1 ∷ 0 ∷ []) $
               use2 W (raw (Store 𝓤 H A mem run .pre (to-store ns₂ ks₂ r ν δ ν₂ δ₂)))
-              (goes-store ns₂ ks₂ r ν δ ν₂ δ₂ (g₁ .1) (g₂ .1) (storable k ys us vs ns ks ns₂ ks₂ rest frame-body time os r ws (past - start) size staged stepped)) $
+              (goes-store ns₂ ks₂ r ν δ ν₂ δ₂ (g₁ .1) (g₂ .1) (storable k ys us vs ns ks ns₂ ks₂ rest frame-body caller os r ws (past - start) size staged stepped)) $
               -- [what `store` asks; what is kept of keys, of numbers; the other tokens; the last output; _33 at 5; …]
               calls-at ! (fmOf 𝓤 H (W .laws) 𝓣) (Store 𝓤 H A mem run) (known .5) (to-store ns₂ ks₂ r ν δ ν₂ δ₂)
               (and-then ! (load ! (from ! (stop !)) (look ! 13 refl)) (and-then ! (load ! (from ! (stop !)) (look ! 47 refl)) (and-then ! (load ! (from ! (stop !)) (look ! 45 refl)) (and-then ! (load ! (from ! (stop !)) (look ! 9 refl)) (and-then ! (load ! (from ! (stop !)) (look ! 5 refl)) (no-more !)))))) (λ w.
@@ -455,7 +456,7 @@ module _ {M : Type 1} (𝓤 : URA M) (H : Heap 𝓤) (A : Atoms 𝓤) (W : Given
               peeks ! SteppedR (Is SteppedR) (shows 𝓤 H A SteppedR) (r .stepped) (w₃ ∷ []) (λ g₃. land ! (from ! (stop !)) (init ! 75 refl (stepped-value .typed 𝓤 H A W (r .stepped) w₃ g₃)) $ drop ! $
               returns ! (look ! 74 refl) $ forget ! 8 refl $ forget ! 10 refl $ forget ! 12 refl $ forget ! 14 refl $ forget ! 16 refl $ forget ! 18 refl $ forget ! 20 refl $ forget ! 48 refl $ forget ! 50 refl $ forget ! 52 refl $ forget ! 54 refl $ forget ! 56 refl $ forget ! 58 refl $ forget ! 60 refl $ forget ! 62 refl $ forget ! 64 refl $ forget ! 66 refl $ forget ! 68 refl $ forget ! 70 refl $ forget ! 72 refl $ forget ! 74 refl $
               move ! (74 ∷ 75 ∷ []) $ free1 ! $ move ! (72 ∷ 73 ∷ []) $ free1 ! $ move ! (70 ∷ 71 ∷ []) $ free1 ! $ move ! (68 ∷ 69 ∷ []) $ free1 ! $ move ! (66 ∷ 67 ∷ []) $ free1 ! $ move ! (64 ∷ 65 ∷ []) $ free1 ! $ move ! (62 ∷ 63 ∷ []) $ free1 ! $ move ! (60 ∷ 61 ∷ []) $ free1 ! $ move ! (58 ∷ 59 ∷ []) $ free1 ! $ move ! (56 ∷ 57 ∷ []) $ free1 ! $ move ! (54 ∷ 55 ∷ []) $ free1 ! $ move ! (52 ∷ 53 ∷ []) $ free1 ! $ move ! (50 ∷ 51 ∷ []) $ free1 ! $ move ! (48 ∷ 49 ∷ []) $ free1 ! $ move ! (46 ∷ 47 ∷ []) $ free1 ! $ move ! (44 ∷ 45 ∷ []) $ free1 ! $ move ! (42 ∷ 43 ∷ []) $ free1 ! $ move ! (40 ∷ 41 ∷ []) $ free1 ! $ move ! (38 ∷ 39 ∷ []) $ free1 ! $ move ! (36 ∷ 37 ∷ []) $ free1 ! $ move ! (34 ∷ 35 ∷ []) $ free1 ! $ move ! (32 ∷ 33 ∷ []) $ free1 ! $ move ! (30 ∷ 31 ∷ []) $ free1 ! $ move ! (28 ∷ 29 ∷ []) $ free1 ! $ move ! (26 ∷ 27 ∷ []) $ free1 ! $ move ! (24 ∷ 25 ∷ []) $ free1 ! $ move ! (22 ∷ 23 ∷ []) $ free1 ! $ move ! (20 ∷ 21 ∷ []) $ free1 ! $ move ! (18 ∷ 19 ∷ []) $ free1 ! $ move ! (16 ∷ 17 ∷ []) $ free1 ! $ move ! (14 ∷ 15 ∷ []) $ free1 ! $ move ! (12 ∷ 13 ∷ []) $ free1 ! $ move ! (10 ∷ 11 ∷ []) $ free1 ! $ move ! (8 ∷ 9 ∷ []) $ free1 ! $ free0 ! $
-              by ! (exits (r .stepped) w₃ (ps .0) ns₂ ks₂ ws g₃ lp (ln₂ ∙ ln) (lk₂ ∙ lk) lw (framed k ys us vs ns ks ns₂ ks₂ rest frame-body time os r ws (past - start) size staged stepped (ps .0) e))))))))))))))))))))))))
+              by ! (exits (r .stepped) w₃ (ps .0) ns₂ ks₂ ws g₃ lp (ln₂ ∙ ln) (lk₂ ∙ lk) lw (framed k ys us vs ns ks ns₂ ks₂ rest frame-body caller os r ws (past - start) size staged stepped (ps .0) e))))))))))))))))))))))))
 
         -- the context where the engine steps on the rows
         abbrev AtStep : List (Item 𝓤)
@@ -504,12 +505,12 @@ module _ {M : Type 1} (𝓤 : URA M) (H : Heap 𝓤) (A : Atoms 𝓤) (W : Given
 
     walk : ent 𝓤 (onEntry 𝓤 H A f.signature (κ, (κ₂, (κ₃, (κ₄, (κ₅, tt))))) (q, (q₂, (q₃, (q₄, (q₅, tt))))) a at) (WpFn 𝓤 H (𝓣 .C) (𝓣 .Λ) code.function given Post)
     walk =
-        qed W ((‵ (flft κ q) ⊛ ‵ (flft κ₂ q₂) ⊛ ‵ (flft κ₃ q₃) ⊛ Rest) ∷ ‵ (owns (BookR ∷ MutSlice (named 0) κ R ∷ MutSlice (named 1) κ₂ N ∷ MutSlice (named 2) κ₃ K ∷ ShrSlice (named 3) κ₄ u8 ∷ usize ∷ usize ∷ TimeR ∷ MutSlice (named 4) κ₅ u8 ∷ []) a at) ∷ []) ∵
+        qed W ((‵ (flft κ q) ⊛ ‵ (flft κ₂ q₂) ⊛ ‵ (flft κ₃ q₃) ⊛ Rest) ∷ ‵ (owns (BookR ∷ MutSlice (named 0) κ R ∷ MutSlice (named 1) κ₂ N ∷ MutSlice (named 2) κ₃ K ∷ ShrSlice (named 3) κ₄ u8 ∷ usize ∷ usize ∷ CallerR ∷ MutSlice (named 4) κ₅ u8 ∷ []) a at) ∷ []) ∵
         enter ! (𝓣 .C) (𝓣 .Λ) code.function given _ $
         alloc1 ! (λ l₀. alloc1 ! (λ l₁. alloc1 ! (λ l₂. alloc1 ! (λ l₃. alloc1 ! (λ l₄. alloc1 ! (λ l₅. alloc1 ! (λ l₆. alloc1 ! (λ l₇. alloc1 ! (λ l₈. alloc1 ! (λ l₉. alloc1 ! (λ l₁₀. alloc1 ! (λ l₁₁. alloc1 ! (λ l₁₂. alloc1 ! (λ l₁₃. alloc1 ! (λ l₁₄. alloc1 ! (λ l₁₅. alloc1 ! (λ l₁₆. alloc1 ! (λ l₁₇. alloc1 ! (λ l₁₈. alloc1 ! (λ l₁₉. alloc1 ! (λ l₂₀. alloc1 ! (λ l₂₁. alloc1 ! (λ l₂₂. alloc1 ! (λ l₂₃. alloc1 ! (λ l₂₄. alloc1 ! (λ l₂₅. alloc1 ! (λ l₂₆. alloc1 ! (λ l₂₇. alloc1 ! (λ l₂₈. alloc1 ! (λ l₂₉. alloc1 ! (λ l₃₀. alloc1 ! (λ l₃₁. alloc1 ! (λ l₃₂. alloc1 ! (λ l₃₃. alloc0 ! $ params1 ! $
         pass1 ! (init ! 64 refl (book-value .typed 𝓤 H A W k _ gk)) $ pass1 ! (init ! 62 refl (tt, (tt, (record { fits = room .0 }, tt)))) $ pass1 ! (init ! 60 refl (tt, (tt, (record { fits = room₂ .0 }, tt)))) $
         pass1 ! (init ! 58 refl (tt, (tt, (record { fits = room₃ .0 }, tt)))) $ pass1 ! (init ! 56 refl (tt, (tt, (record { fits = room₄ .0 }, tt)))) $ pass1 ! (init ! 54 refl (tt, record { fits = gs })) $ pass1 ! (init ! 52 refl (tt, record { fits = gp })) $
-        pass1 ! (init ! 50 refl (time-typed 𝓤 H A W time _ gt)) $ pass1 ! (init ! 48 refl (tt, (tt, (record { fits = room₅ .0 }, tt)))) $ pass0 ! $
+        pass1 ! (init ! 50 refl (caller-value .typed 𝓤 H A W caller _ gt)) $ pass1 ! (init ! 48 refl (tt, (tt, (record { fits = room₅ .0 }, tt)))) $ pass0 ! $
         -- [_33; …; _0; …; the tokens; what the parameters own]
         move ! (69 ∷ []) $ fsplit ! $ drop ! $ fsplit ! $ move ! (1 ∷ []) $ fsplit ! $ move ! (1 ∷ []) $ fsplit ! $ move ! (1 ∷ []) $ fsplit ! $ move ! (1 ∷ []) $ fsplit ! $ drop ! $ fsplit ! $ drop ! $ fsplit ! $ drop ! $ fsplit ! $ move ! (1 ∷ []) $ drop ! $
         -- [output; tape; keys; numbers; pools; _33 at 5; …; the tokens at 73]
@@ -558,8 +559,8 @@ module _ {M : Type 1} (𝓤 : URA M) (H : Heap 𝓤) (A : Atoms 𝓤) (W : Given
 module _ {M : Type 1} (𝓤 : URA M) (H : Heap 𝓤) (A : Atoms 𝓤) (W : Given 𝓤 H A) (mem : Memory → SProp 𝓤) (run : Routine → Fun 𝓤) where
   step-with-walks : (𝓣 : Tables 𝓤 H) → Known 𝓤 H A mem run 𝓣 → Walks 𝓤 H A f.ended stayed (WpFn 𝓤 H (𝓣 .C) (𝓣 .Λ) code.function) (f.clauses 𝓤 H A mem run)
   step-with-walks 𝓣 known = walked 𝓤 H A f.ended stayed (f.clauses 𝓤 H A mem run) (WpFn 𝓤 H (𝓣 .C) (𝓣 .Λ) code.function)
-      (λ κs. (bookVals, (slice-vals, (slice-vals, (slice-vals, (slice-vals, (uint-vals w64, (uint-vals w64, (timeVals, (slice-vals, tt))))))))))
-      (λ κs. (book-value .tells, (mut-slice-tells (named 0) (κs .0) R, (mut-slice-tells (named 1) (κs .1 .0) N, (mut-slice-tells (named 2) (κs .1 .1 .0) K, (shr-slice-tells (named 3) (κs .1 .1 .1 .0) u8, (uint-tells w64, (uint-tells w64, (time-tells, (mut-slice-tells (named 4) (κs .1 .1 .1 .1 .0) u8, tt))))))))))
+      (λ κs. (bookVals, (slice-vals, (slice-vals, (slice-vals, (slice-vals, (uint-vals w64, (uint-vals w64, (callerVals, (slice-vals, tt))))))))))
+      (λ κs. (book-value .tells, (mut-slice-tells (named 0) (κs .0) R, (mut-slice-tells (named 1) (κs .1 .0) N, (mut-slice-tells (named 2) (κs .1 .1 .0) K, (shr-slice-tells (named 3) (κs .1 .1 .1 .0) u8, (uint-tells w64, (uint-tells w64, (caller-value .tells, (mut-slice-tells (named 4) (κs .1 .1 .1 .1 .0) u8, tt))))))))))
       (λ κs qs bounds a g are. needs 𝓤 ((rowsOf (length (now (a .1 .0))) (wanted (a .0 .live) (a .1 .1 .1 .1 .1 .1 .0 - a .1 .1 .1 .1 .1 .0)) ≤ length (now (a .1 .1 .0))) × (rowsOf (length (now (a .1 .0))) (wanted (a .0 .live) (a .1 .1 .1 .1 .1 .1 .0 - a .1 .1 .1 .1 .1 .0)) ≤ length (now (a .1 .1 .1 .0))) × (a .1 .1 .1 .1 .1 .0 ≤ a .1 .1 .1 .1 .1 .1 .0) × (a .1 .1 .1 .1 .1 .1 .0 ≤ length (now (a .1 .1 .1 .1 .0)))) _
       (walk 𝓤 H A W mem run (κs .0) (κs .1 .0) (κs .1 .1 .0) (κs .1 .1 .1 .0) (κs .1 .1 .1 .1 .0) (qs .0) (qs .1 .0) (qs .1 .1 .0) (qs .1 .1 .1 .0) (qs .1 .1 .1 .1 .0) (a .0)
       (a .1 .0 .ptr .0) (a .1 .0 .ptr .1) (a .1 .0 .name) (a .1 .0 .now) (a .1 .1 .0 .ptr .0) (a .1 .1 .0 .ptr .1) (a .1 .1 .0 .name) (a .1 .1 .0 .now)
@@ -585,7 +586,7 @@ step-with-meets 𝓤 H A W mem run 𝓣 known =
                 (
                   goes-dropped 𝓤 H A W 5 (plain (λ _. usize)) yes (λ κs x f. refl),
                   (
-                    goes-dropped 𝓤 H A W 5 (plain (λ _. TimeR)) yes (λ κs x f. refl),
+                    goes-dropped 𝓤 H A W 5 (plain (λ _. CallerR)) yes (λ κs x f. refl),
                     (goes-gave-slice 𝓤 H A W 5 4 tt (plain (λ _. u8)), tt),
                   ),
                 ),
