@@ -134,12 +134,12 @@ abbrev newTrade : Call → Trade
 newTrade c = withOpenPar (tradeAt (trades c) (concerned c)) ((tradeAt (trades c) (concerned c) .openPar + weightOfRecords (taken c)) - broughtWeight (c .body))
 
 moved : (v : Values) (c : Call) (h : History) → Beside v (c .book .values .lastMessageId) (trades c) (live c) h → isAccepted (answerOf c) ≡ true
-    → Beside v (c .book .values .lastMessageId + 1) (take (c .book .values .tradeCount) (set (c .book .values .trades) (concerned c) (newTrade c))) (liveMoved c)
+    → Beside v (c .book .values .lastMessageId + 1) (take (c .book .values .lent .tradeCount) (set (c .book .values .trades) (concerned c) (newTrade c))) (liveMoved c)
     (record { lastMessageId = h .lastMessageId + 1; lots = lotsAfter (typeOf (c .body)) v (h .lastMessageId + 1) (c .body) (h .lots) })
 unfolding liveMoved broughtWeight
 moved v c h w a =
     let (byOn, (byDk, m)) = accepted-moves v c h w a in
-    rw (take-set-lt (c .book .values .tradeCount) (c .book .values .trades) (concerned c) (newTrade c) (take-bound (concerned c) (c .book .values .tradeCount) (c .book .values .trades) (m .moves .range)))
+    rw (take-set-lt (c .book .values .lent .tradeCount) (c .book .values .trades) (concerned c) (newTrade c) (take-bound (concerned c) (c .book .values .lent .tradeCount) (c .book .values .trades) (m .moves .range)))
     (carry v (c .book .values .lastMessageId + 1) (movedTrades (trades c) (live c) (concerned c) (targetOf (c .body)) (listed (c .body)) (brought (c .body)))
     (movedRecords (c .book .values .lastMessageId) (live c) (concerned c) (targetOf (c .body)) (listed (c .body)) (brought (c .body))) (h .lastMessageId + 1)
     (movedLots (h .lastMessageId) (h .lots) (concerned c) (targetOf (c .body)) (listed (c .body)) (brought (c .body)) byOn byDk)
@@ -153,7 +153,7 @@ call-in-step v c h w = go (isAccepted (answerOf c)) refl
   where
     go : (a : Bool) → isAccepted (answerOf c) ≡ a
         → Beside v (cond a (c .book .values .lastMessageId + 1) (c .book .values .lastMessageId))
-        (take (c .book .values .tradeCount) (cond a (set (c .book .values .trades) (concerned c) (newTrade c)) (c .book .values .trades)))
+        (take (c .book .values .lent .tradeCount) (cond a (set (c .book .values .trades) (concerned c) (newTrade c)) (c .book .values .trades)))
         (take (cond a (length (liveMoved c)) (c .book .live)) (cond a (liveMoved c ++ replicate (length (c .table) - length (liveMoved c)) noPool) (c .table)))
         (cond a (record { lastMessageId = h .lastMessageId + 1; lots = lotsAfter (typeOf (c .body)) v (h .lastMessageId + 1) (c .body) (h .lots) }) h)
     go true e = rw (take-append-seam (liveMoved c) (replicate (length (c .table) - length (liveMoved c)) noPool)) (moved v c h w e)
@@ -167,8 +167,8 @@ opened-in-step v table =
     record {
       last = refl;
       table = refl;
-      terms = rw (take-map atPar (v .tradeCount) (v .trades)) (at-par-blind atPar (λ t. refl) (tradesOf v));
-      pars = λ t lt. rw (take-map atPar (v .tradeCount) (v .trades)) (omega (arith, ap (λ (x : Trade). x .openPar) (List·getD-map atPar (tradesOf v) t noTrade)));
+      terms = rw (take-map atPar (v .lent .tradeCount) (v .trades)) (at-par-blind atPar (λ t. refl) (tradesOf v));
+      pars = λ t lt. rw (take-map atPar (v .lent .tradeCount) (v .trades)) (omega (arith, ap (λ (x : Trade). x .openPar) (List·getD-map atPar (tradesOf v) t noTrade)));
       lots = record { fine = λ g m. absurd (List·Memᴰ·not-nil m); apart = tt; pair = λ g k m n e. absurd (List·Memᴰ·not-nil m) };
       millions = λ t. refl;
     }

@@ -15,7 +15,7 @@ use Rattle.terminator.specs.Lots.{lots, currentCents, lotWeight, goodMillions, 
 use Rattle.terminator.specs.Groups.{groups, groupsFormed, groupsBalanced}
 use Rattle.faces.specs.Faces.{faceFails, facesFail, goodLotFails, lotFails, lotsFail}
 use Rattle.calendar.specs.Calendar.{dayNumber, weekdayOf, isDate, businessDate}
-use Rattle.sequence.specs.Sequence.{outbound, arrivalOf, lineAfter, soundLine, nextOutbound}
+use Rattle.sequence.specs.Sequence.{outbound, arrivalOf, lineAfter, soundLine, nextOutbound, startLine}
 use Rattle.trade_id.specs.SpecialInstructions.{mark, beginsWithMark, markIn, idAt, tradeIdOf}
 use Rattle.book.specs.declared.Trade.{Trade}
 use Rattle.book.specs.declared.Values.{Values}
@@ -134,14 +134,16 @@ unfoldable pub values : ℕ → Values
 values last =
     record {
       trades = trade 1 200000000 ∷ trade 2 500000000 ∷ [];
-      tradeCount = 2;
-      holidays = [];
-      holidayCount = 0;
-      subscriber = subscriber;
-      connection = connection;
-      limits = record { ceiling = 2500; variance = 10000; poolsAMillion = 3; least = 1000 };
+      lent =
+          record {
+            tradeCount = 2;
+            holidays = [];
+            holidayCount = 0;
+            subscriber = subscriber;
+            limits = record { ceiling = 2500; variance = 10000; poolsAMillion = 3; least = 1000 };
+          };
       lastMessageId = last;
-      outbound = outbound 0;
+      connection = record { id = connection; line = startLine; outbound = outbound 0 };
     }
 
 unfoldable pub table : List Pool
@@ -205,7 +207,7 @@ abbrev pub answered : State → List ℕ → Answer
 answered s body = answerOf (callOf s (put body))
 
 -- by the operator
-pub by-operator : answerOf (callOf (record { book = record { values = start .book .values; line = start .book .line; live = 9 }; table = table }) (put onBody))
+pub by-operator : answerOf (callOf (record { book = record { values = start .book .values; live = 9 }; table = table }) (put onBody))
     ∷ answered (openedState (values 99999999999) table) onBody
     ∷ answerOf (callOf start (record { body = onBody; asked = askedBy midnight 216 }))
     ∷ answered (openedState (values 0) (replicate 3 noPool)) onBody

@@ -12,6 +12,7 @@ use borrow.Author.Tests.{ltb-true, ltb-false, le-leb}
 use Rattle.lists.specs.Lists.{all}
 use Rattle.lists.proofs.Tests.{and-left, and-right}
 use Rattle.calendar.specs.Calendar.{isDate}
+use Rattle.sequence.specs.declared.Line.{Line}
 use Rattle.sequence.specs.declared.Outbound.{Outbound}
 use Rattle.sequence.specs.Sequence.{nextOutbound, outboundMax, outbound}
 use Rattle.book.specs.declared.Trade.{Trade}
@@ -59,46 +60,41 @@ exchanged true true false e g f o t h f′ o′ t′ p q r = h
 exchanged true true true false g f o t h f′ o′ t′ p q r = h
 exchanged true true true true false f o t h f′ o′ t′ p q r = h
 
--- values with other trades, last message ID and last outbound number
-abbrev pub exchange : Values → List Trade → ℕ → Outbound → Values
-exchange v ts last o =
+-- values with other trades, last message ID, line and last outbound number
+abbrev pub exchange : Values → List Trade → ℕ → Line → Outbound → Values
+exchange v ts last l o =
     record {
       trades = ts;
-      tradeCount = v .tradeCount;
-      holidays = v .holidays;
-      holidayCount = v .holidayCount;
-      subscriber = v .subscriber;
-      connection = v .connection;
-      limits = v .limits;
+      lent = v .lent;
       lastMessageId = last;
-      outbound = o;
+      connection = record { id = v .connection .id; line = l; outbound = o };
     }
 
-pub values-stay : (v : Values) (ts : List Trade) (last : ℕ) (o : Outbound) → valuesFine v ≡ true → leb last elevenDigitsMax ≡ true → leb (o .0) outboundMax ≡ true
-    → tradesFine (holidaysOf v) (take (v .tradeCount) ts) ≡ tradesFine (holidaysOf v) (tradesOf v) → valuesFine (exchange v ts last o) ≡ true
+pub values-stay : (v : Values) (ts : List Trade) (last : ℕ) (l : Line) (o : Outbound) → valuesFine v ≡ true → leb last elevenDigitsMax ≡ true → leb (o .0) outboundMax ≡ true
+    → tradesFine (holidaysOf v) (take (v .lent .tradeCount) ts) ≡ tradesFine (holidaysOf v) (tradesOf v) → valuesFine (exchange v ts last l o) ≡ true
 unfolding valuesFine
-values-stay v ts last o e p q r =
-    exchanged (leb (v .tradeCount) tradesMax && leb (v .holidayCount) holidaysMax) (all isDate (holidaysOf v)) (accountFine (v .subscriber)) (accountFine (v .connection)) (limitsFine (v .limits))
-    (leb (v .lastMessageId) elevenDigitsMax) (leb (v .outbound .0) outboundMax) (tradesFine (holidaysOf v) (tradesOf v)) e
-    (leb last elevenDigitsMax) (leb (o .0) outboundMax) (tradesFine (holidaysOf v) (take (v .tradeCount) ts)) p q r
+values-stay v ts last l o e p q r =
+    exchanged (leb (v .lent .tradeCount) tradesMax && leb (v .lent .holidayCount) holidaysMax) (all isDate (holidaysOf v)) (accountFine (v .lent .subscriber)) (accountFine (v .connection .id)) (limitsFine (v .lent .limits))
+    (leb (v .lastMessageId) elevenDigitsMax) (leb (v .connection .outbound .0) outboundMax) (tradesFine (holidaysOf v) (tradesOf v)) e
+    (leb last elevenDigitsMax) (leb (o .0) outboundMax) (tradesFine (holidaysOf v) (take (v .lent .tradeCount) ts)) p q r
 
 module _ (v : Values) (e : valuesFine v ≡ true) where
-  ranges : (leb (v .lastMessageId) elevenDigitsMax && (leb (v .outbound .0) outboundMax && tradesFine (holidaysOf v) (tradesOf v))) ≡ true
+  ranges : (leb (v .lastMessageId) elevenDigitsMax && (leb (v .connection .outbound .0) outboundMax && tradesFine (holidaysOf v) (tradesOf v))) ≡ true
   unfolding valuesFine
   ranges =
-      past (limitsFine (v .limits)) (past (accountFine (v .connection)) (past (accountFine (v .subscriber)) (past (all isDate (holidaysOf v))
-      (past (leb (v .tradeCount) tradesMax && leb (v .holidayCount) holidaysMax) e))))
+      past (limitsFine (v .lent .limits)) (past (accountFine (v .connection .id)) (past (accountFine (v .lent .subscriber)) (past (all isDate (holidaysOf v))
+      (past (leb (v .lent .tradeCount) tradesMax && leb (v .lent .holidayCount) holidaysMax) e))))
     where
       past : (a : Bool) {b : Bool} → (a && b) ≡ true → b ≡ true
       past a {b} h = and-right a b h
 
   pub last-within : leb (v .lastMessageId) elevenDigitsMax ≡ true
-  last-within = and-left (leb (v .lastMessageId) elevenDigitsMax) (leb (v .outbound .0) outboundMax && tradesFine (holidaysOf v) (tradesOf v)) ranges
+  last-within = and-left (leb (v .lastMessageId) elevenDigitsMax) (leb (v .connection .outbound .0) outboundMax && tradesFine (holidaysOf v) (tradesOf v)) ranges
 
-  pub outbound-within : leb (v .outbound .0) outboundMax ≡ true
+  pub outbound-within : leb (v .connection .outbound .0) outboundMax ≡ true
   outbound-within =
-      and-left (leb (v .outbound .0) outboundMax) (tradesFine (holidaysOf v) (tradesOf v))
-      (and-right (leb (v .lastMessageId) elevenDigitsMax) (leb (v .outbound .0) outboundMax && tradesFine (holidaysOf v) (tradesOf v)) ranges)
+      and-left (leb (v .connection .outbound .0) outboundMax) (tradesFine (holidaysOf v) (tradesOf v))
+      (and-right (leb (v .lastMessageId) elevenDigitsMax) (leb (v .connection .outbound .0) outboundMax && tradesFine (holidaysOf v) (tradesOf v)) ranges)
 
 -- ---- the outbound number stops at its highest
 pub next-within : (o : Outbound) → leb (o .0) outboundMax ≡ true → leb (nextOutbound o .0) outboundMax ≡ true

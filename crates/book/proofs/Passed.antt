@@ -80,7 +80,7 @@ pub record Fine (c : Call) : Type 0 where
   pub notSpent : numbersSpent (c .book .values) (c .body) ≡ false
   pub lengthFine : lengthFits (c .body) ≡ true
   pub sequenceFine : sequenceFails (c .body) ≡ false
-  pub notDuplicate : sequenceRepeats (c .book .line) (c .body) ≡ false
+  pub notDuplicate : sequenceRepeats (c .book .values .connection .line) (c .body) ≡ false
   -- 13, 18
   pub notOther : typeUnknown (c .body) ≡ false
   pub notCancel : isCx (typeOf (c .body)) ≡ false

@@ -16,7 +16,7 @@ use Rattle.layout.specs.declared.Detail.{Detail}
 use Rattle.layout.specs.Details.{details}
 use Rattle.terminator.specs.Lots.{Lot}
 use Rattle.faces.specs.Faces.{newLots, newPools}
-use Rattle.sequence.specs.Sequence.{outboundMax, soundLine, lineAfter, nextOutbound, outboundSpent}
+use Rattle.sequence.specs.Sequence.{outboundMax, soundLine, lineAfter, nextOutbound, outboundSpent, startLine}
 use Rattle.sequence.proofs.Soundness.{start-sound, stays-sound}
 use Rattle.book.specs.declared.Trade.{Trade}
 use Rattle.book.specs.declared.Values.{Values}
@@ -50,7 +50,7 @@ unfolding isSound
 is-sound b table e =
     let e₁ = and-right (valuesFine (b .values)) _ e in
     let e₂ = and-right (leb (length table) recordsMax) _ e₁ in
-    let e₃ = and-right (soundLine (b .line)) _ e₂ in
+    let e₃ = and-right (soundLine (b .values .connection .line)) _ e₂ in
     let e₄ = and-right (leb (b .live) (length table)) _ e₃ in
     let e₅ = and-right (all (recordFine (b .values)) (liveOf b table)) _ e₄ in
     let e₆ = and-right (inOrder (liveOf b table)) _ e₅ in
@@ -58,7 +58,7 @@ is-sound b table e =
     record {
       values = and-left (valuesFine (b .values)) _ e;
       tableShort = and-left (leb (length table) recordsMax) _ e₁;
-      inbound = and-left (soundLine (b .line)) _ e₂;
+      inbound = and-left (soundLine (b .values .connection .line)) _ e₂;
       liveWithin = and-left (leb (b .live) (length table)) _ e₃;
       records = and-left (all (recordFine (b .values)) (liveOf b table)) _ e₄;
       ordered = and-left (inOrder (liveOf b table)) _ e₅;
@@ -86,11 +86,11 @@ pub opened-sound : (v : Values) (table : List Pool) → openingFine v table ≡ 
 unfolding openingFine opened cleared
 opened-sound v table e =
     let fits : valuesFine v ≡ true = and-left (valuesFine v) (leb (length table) recordsMax) e in
-    let same : take (v .tradeCount) (map atPar (v .trades)) ≡ map atPar (tradesOf v) = take-map atPar (v .tradeCount) (v .trades) in
+    let same : take (v .lent .tradeCount) (map atPar (v .trades)) ≡ map atPar (tradesOf v) = take-map atPar (v .lent .tradeCount) (v .trades) in
     record {
       values =
-          values-stay v (map atPar (v .trades)) (v .lastMessageId) (v .outbound) fits (last-within v fits) (outbound-within v fits)
-          (trades-alike (holidaysOf v) (take (v .tradeCount) (map atPar (v .trades))) (tradesOf v)
+          values-stay v (map atPar (v .trades)) (v .lastMessageId) startLine (v .connection .outbound) fits (last-within v fits) (outbound-within v fits)
+          (trades-alike (holidaysOf v) (take (v .lent .tradeCount) (map atPar (v .trades))) (tradesOf v)
           (ap (map (tradeFine (holidaysOf v))) same ∙ at-par-blind (tradeFine (holidaysOf v)) (λ (t : Trade). refl) (tradesOf v))
           (ap (map tradeName) same ∙ at-par-blind tradeName (λ (t : Trade). refl) (tradesOf v)));
       tableShort = rw (length-replicate (length table) noPool) (and-right (valuesFine v) (leb (length table) recordsMax) e);
@@ -205,17 +205,17 @@ module _ (c : Call) (ok : isAccepted (answerOf c) ≡ true) where
   moved-once s = once-after last (concerned c) stays (live c) (brought (c .body)) (old s) (s .once) new-distinct
 
   -- each is fine by itself
-  opened-trade : bringsLots (typeOf (c .body)) ≡ true → ltb (concerned c) (c .book .values .tradeCount) ≡ true
+  opened-trade : bringsLots (typeOf (c .body)) ≡ true → ltb (concerned c) (c .book .values .lent .tradeCount) ≡ true
   opened-trade t =
       let h : concerned c < length (trades c) = ltb-true (concerned c) (length (trades c)) (and-left (ltb (concerned c) (length (trades c))) _ (fine c ok .parEnough t)) in
-      lt-ltb (concerned c) (c .book .values .tradeCount) (omega (arith, short (c .book .values .tradeCount) (c .book .values .trades)))
+      lt-ltb (concerned c) (c .book .values .lent .tradeCount) (omega (arith, short (c .book .values .lent .tradeCount) (c .book .values .trades)))
     where
       short : (n : ℕ) (ts : List Trade) → length (take n ts) ≤ n
       short zero ts = omega arith
       short (suc n) [] = omega arith
       short (suc n) (x ∷ ts) = omega (arith, short n ts)
 
-  moved-records : Sound (c .book) (c .table) → (w : Values) → w .tradeCount ≡ c .book .values .tradeCount → w .lastMessageId ≡ last + 1 → all (recordFine w) (liveMoved c) ≡ true
+  moved-records : Sound (c .book) (c .table) → (w : Values) → w .lent .tradeCount ≡ c .book .values .lent .tradeCount → w .lastMessageId ≡ last + 1 → all (recordFine w) (liveMoved c) ≡ true
   unfolding liveMoved
   moved-records s w ec el =
       all-both (recordFine w) (keep stays (live c)) new
@@ -231,27 +231,26 @@ module _ (c : Call) (ok : isAccepted (answerOf c) ≡ true) where
       go (inr e) = ap (λ (ls : List Lot). all (recordFine w) (recordsOf (last + 1) (concerned c) 1 ls)) e
 
 -- ---- the counters of any call
-line-sound : (c : Call) (a : Answer) → soundLine (c .book .line) ≡ true → soundLine (lineOf (c .book) (c .body) a) ≡ true
+line-sound : (c : Call) (a : Answer) → soundLine (c .book .values .connection .line) ≡ true → soundLine (lineOf (c .book) (c .body) a) ≡ true
 line-sound c a e =
-    elim (isSilent a) as (λ b. soundLine (cond b (c .book .line) (lineAfter (c .book .line) (arrived (c .body)))) ≡ true)
-    [ true ↦ e | false ↦ stays-sound (c .book .line) (arrived (c .body)) e ]
+    elim (isSilent a) as (λ b. soundLine (cond b (c .book .values .connection .line) (lineAfter (c .book .values .connection .line) (arrived (c .body)))) ≡ true)
+    [ true ↦ e | false ↦ stays-sound (c .book .values .connection .line) (arrived (c .body)) e ]
 
-outbound-fits : (c : Call) (a : Answer) → leb (c .book .values .outbound .0) outboundMax ≡ true → leb (outboundOf (c .book) (c .body) a .0) outboundMax ≡ true
+outbound-fits : (c : Call) (a : Answer) → leb (c .book .values .connection .outbound .0) outboundMax ≡ true → leb (outboundOf (c .book) (c .body) a .0) outboundMax ≡ true
 outbound-fits c a e =
-    elim (isSilent a) as (λ b. leb ((cond b (c .book .values .outbound) (nextOutbound (beforeAa (c .book) (c .body)))) .0) outboundMax ≡ true)
+    elim (isSilent a) as (λ b. leb ((cond b (c .book .values .connection .outbound) (nextOutbound (beforeAa (c .book) (c .body)))) .0) outboundMax ≡ true)
     [ true ↦ e | false ↦ next-within (beforeAa (c .book) (c .body)) before ]
   where
     before : leb (beforeAa (c .book) (c .body) .0) outboundMax ≡ true
     before =
-        elim (gapAt (c .book) (c .body)) as (λ b. leb ((cond b (nextOutbound (c .book .values .outbound)) (c .book .values .outbound)) .0) outboundMax ≡ true)
-        [ true ↦ next-within (c .book .values .outbound) e | false ↦ e ]
+        elim (gapAt (c .book) (c .body)) as (λ b. leb ((cond b (nextOutbound (c .book .values .connection .outbound)) (c .book .values .connection .outbound)) .0) outboundMax ≡ true)
+        [ true ↦ next-within (c .book .values .connection .outbound) e | false ↦ e ]
 
 -- ---- after a call
 abbrev bookIf : Call → Bool → Book
 bookIf c ok =
     record {
-      values = exchange (c .book .values) (cond ok (tradesMoved c) (c .book .values .trades)) (cond ok (c .book .values .lastMessageId + 1) (c .book .values .lastMessageId)) (outboundOf (c .book) (c .body) (answerOf c));
-      line = lineOf (c .book) (c .body) (answerOf c);
+      values = exchange (c .book .values) (cond ok (tradesMoved c) (c .book .values .trades)) (cond ok (c .book .values .lastMessageId + 1) (c .book .values .lastMessageId)) (lineOf (c .book) (c .body) (answerOf c)) (outboundOf (c .book) (c .body) (answerOf c));
       live = cond ok (length (liveMoved c)) (c .book .live);
     }
 
@@ -261,17 +260,17 @@ tableIf c ok = cond ok (tableMoved c) (c .table)
 moved-values : (c : Call) → isAccepted (answerOf c) ≡ true → Sound (c .book) (c .table) → valuesFine (bookIf c true .values) ≡ true
 unfolding tradesMoved
 moved-values c ok s =
-    values-stay v (tradesMoved c) (v .lastMessageId + 1) (outboundOf (c .book) (c .body) (answerOf c)) (s .values) (le-leb (v .lastMessageId + 1) elevenDigitsMax (omega (arith, spare)))
+    values-stay v (tradesMoved c) (v .lastMessageId + 1) (lineOf (c .book) (c .body) (answerOf c)) (outboundOf (c .book) (c .body) (answerOf c)) (s .values) (le-leb (v .lastMessageId + 1) elevenDigitsMax (omega (arith, spare)))
     (outbound-fits c (answerOf c) (outbound-within v (s .values)))
-    (trades-alike (holidaysOf v) (take (v .tradeCount) (tradesMoved c)) (tradesOf v)
-    (moved-blind (tradeFine (holidaysOf v)) (λ (t : Trade) (cents : ℕ). refl) (v .tradeCount) (v .trades) (concerned c) left)
-    (moved-blind tradeName (λ (t : Trade) (cents : ℕ). refl) (v .tradeCount) (v .trades) (concerned c) left))
+    (trades-alike (holidaysOf v) (take (v .lent .tradeCount) (tradesMoved c)) (tradesOf v)
+    (moved-blind (tradeFine (holidaysOf v)) (λ (t : Trade) (cents : ℕ). refl) (v .lent .tradeCount) (v .trades) (concerned c) left)
+    (moved-blind tradeName (λ (t : Trade) (cents : ℕ). refl) (v .lent .tradeCount) (v .trades) (concerned c) left))
   where
     v : Values
     v = c .book .values
 
     spare : v .lastMessageId < elevenDigitsMax
-    spare = leb-false elevenDigitsMax (v .lastMessageId) (neither-left (leb elevenDigitsMax (v .lastMessageId)) (outboundSpent (v .outbound)) (fine c ok .notSpent))
+    spare = leb-false elevenDigitsMax (v .lastMessageId) (neither-left (leb elevenDigitsMax (v .lastMessageId)) (outboundSpent (v .connection .outbound)) (fine c ok .notSpent))
 
     left : ℕ
     left = (tradeAt (trades c) (concerned c) .openPar + weightOfRecords (taken c)) - broughtWeight (c .body)
@@ -296,7 +295,7 @@ refused-sound : (c : Call) → Sound (c .book) (c .table) → Sound (bookIf c fa
 refused-sound c s =
     record {
       values =
-          values-stay (c .book .values) (c .book .values .trades) (c .book .values .lastMessageId) (outboundOf (c .book) (c .body) (answerOf c)) (s .values) (last-within (c .book .values) (s .values))
+          values-stay (c .book .values) (c .book .values .trades) (c .book .values .lastMessageId) (lineOf (c .book) (c .body) (answerOf c)) (outboundOf (c .book) (c .body) (answerOf c)) (s .values) (last-within (c .book .values) (s .values))
           (outbound-fits c (answerOf c) (outbound-within (c .book .values) (s .values))) refl;
       tableShort = s .tableShort;
       inbound = line-sound c (answerOf c) (s .inbound);

@@ -81,7 +81,7 @@ unfolding lots
 new-ends ds = all-keep hasEnd isNewLot (lotsFrom [] ds) (ends-from [] ds)
 
 -- ---- records
-pub records-fine : (v : Values) (id t o : ℕ) (ls : List Lot) → ltb t (v .tradeCount) ≡ true → between 1 (v .lastMessageId) id ≡ true → 1 ≤ o → all hasEnd ls ≡ true
+pub records-fine : (v : Values) (id t o : ℕ) (ls : List Lot) → ltb t (v .lent .tradeCount) ≡ true → between 1 (v .lastMessageId) id ≡ true → 1 ≤ o → all hasEnd ls ≡ true
     → all (recordFine v) (recordsOf id t o ls) ≡ true
 records-fine v id t o [] et ei ho e = refl
 records-fine v id t o (l ∷ ls) et ei ho e =
@@ -96,13 +96,13 @@ records-fine v id t o (l ∷ ls) et ei ho e =
         let b : leb (currentCents d) elevenDigitsMax ≡ true = le-leb (currentCents d) elevenDigitsMax (omega arith) in
         rw (et, ei, a, b) (term-gives (l .last) (and-left (hasEnd l) (all hasEnd ls) e))
 
-pub record-stays : (v w : Values) → w .tradeCount ≡ v .tradeCount → v .lastMessageId ≤ w .lastMessageId → (r : Pool) → recordFine v r ≡ true → recordFine w r ≡ true
+pub record-stays : (v w : Values) → w .lent .tradeCount ≡ v .lent .tradeCount → v .lastMessageId ≤ w .lastMessageId → (r : Pool) → recordFine v r ≡ true → recordFine w r ≡ true
 record-stays v w ec h r e =
     let k : (between 1 (v .lastMessageId) (r .message) && (leb 1 (r .ordinal) && (leb (r .current) elevenDigitsMax && kindFine r))) ≡ true =
-    and-right (ltb (r .trade) (v .tradeCount)) (between 1 (v .lastMessageId) (r .message) && (leb 1 (r .ordinal) && (leb (r .current) elevenDigitsMax && kindFine r))) e in
+    and-right (ltb (r .trade) (v .lent .tradeCount)) (between 1 (v .lastMessageId) (r .message) && (leb 1 (r .ordinal) && (leb (r .current) elevenDigitsMax && kindFine r))) e in
     let m : between 1 (v .lastMessageId) (r .message) ≡ true = and-left (between 1 (v .lastMessageId) (r .message)) (leb 1 (r .ordinal) && (leb (r .current) elevenDigitsMax && kindFine r)) k in
     let n : r .message ≤ v .lastMessageId = leb-true (r .message) (v .lastMessageId) (and-right (leb 1 (r .message)) (leb (r .message) (v .lastMessageId)) m) in
-    let t : ltb (r .trade) (w .tradeCount) ≡ true = ap (ltb (r .trade)) ec ∙ and-left (ltb (r .trade) (v .tradeCount)) (between 1 (v .lastMessageId) (r .message) && (leb 1 (r .ordinal) && (leb (r .current) elevenDigitsMax && kindFine r))) e in
+    let t : ltb (r .trade) (w .lent .tradeCount) ≡ true = ap (ltb (r .trade)) ec ∙ and-left (ltb (r .trade) (v .lent .tradeCount)) (between 1 (v .lastMessageId) (r .message) && (leb 1 (r .ordinal) && (leb (r .current) elevenDigitsMax && kindFine r))) e in
     rw (t, and-left (leb 1 (r .message)) (leb (r .message) (v .lastMessageId)) m, le-leb (r .message) (w .lastMessageId) (omega arith))
     (and-right (between 1 (v .lastMessageId) (r .message)) (leb 1 (r .ordinal) && (leb (r .current) elevenDigitsMax && kindFine r)) k)
 
@@ -110,5 +110,5 @@ record-stays v w ec h r e =
 pub record-old : (v : Values) (r : Pool) → recordFine v r ≡ true → leb (r .message) (v .lastMessageId) ≡ true
 record-old v r e =
     let k : (between 1 (v .lastMessageId) (r .message) && (leb 1 (r .ordinal) && (leb (r .current) elevenDigitsMax && kindFine r))) ≡ true =
-    and-right (ltb (r .trade) (v .tradeCount)) (between 1 (v .lastMessageId) (r .message) && (leb 1 (r .ordinal) && (leb (r .current) elevenDigitsMax && kindFine r))) e in
+    and-right (ltb (r .trade) (v .lent .tradeCount)) (between 1 (v .lastMessageId) (r .message) && (leb 1 (r .ordinal) && (leb (r .current) elevenDigitsMax && kindFine r))) e in
     and-right (leb 1 (r .message)) (leb (r .message) (v .lastMessageId)) (and-left (between 1 (v .lastMessageId) (r .message)) (leb 1 (r .ordinal) && (leb (r .current) elevenDigitsMax && kindFine r)) k)

@@ -78,7 +78,7 @@ unsound b h body = not (holdsSound b h)
 
 -- 43: no message ID is left, or fewer than two outbound numbers
 abbrev pub numbersSpent : Values → List ℕ → Bool
-numbersSpent v body = leb elevenDigitsMax (v .lastMessageId) || outboundSpent (v .outbound)
+numbersSpent v body = leb elevenDigitsMax (v .lastMessageId) || outboundSpent (v .connection .outbound)
 
 -- the room that a TX and an AA take
 abbrev pub roomLeast : ℕ
@@ -154,7 +154,7 @@ amountsWrong ceiling body =
 
 -- 16: par or price is no number above 0, or GDMM no number up to the ceiling
 abbrev pub amountsFail : Values → List ℕ → Bool
-amountsFail v body = amountsWrong (v .limits .ceiling) body
+amountsFail v body = amountsWrong (v .lent .limits .ceiling) body
 
 -- the book's subscriber and connection, a submitter that is seller or buyer of some trade, and one of the two contras
 abbrev pub isSide : List ℕ → Trade → Bool
@@ -162,8 +162,8 @@ isSide body t = same (bytesIn body columns.submitter) (t .seller) || same (bytes
 
 abbrev pub partiesFine : Values → List ℕ → Bool
 partiesFine v body =
-    same (bytesIn body columns.subscriber) (v .subscriber)
-    && (same (bytesIn body columns.connection) (v .connection)
+    same (bytesIn body columns.subscriber) (v .lent .subscriber)
+    && (same (bytesIn body columns.connection) (v .connection .id)
     && (any (isSide body) (tradesOf v)
     && (same (bytesIn body columns.contra) ftba || same (bytesIn body columns.contra) fsti)))
 
@@ -279,11 +279,11 @@ millionsFail body = notNumber (eqb (goodMillions (details body))) (numberIn body
 
 -- 34: a new pool's faces
 abbrev pub newFacesFail : Values → List ℕ → Bool
-newFacesFail v body = facesFail (v .limits .least) (details body)
+newFacesFail v body = facesFail (v .lent .limits .least) (details body)
 
 -- 35: a new good lot's faces or pools
 abbrev pub newLotsFail : Values → List ℕ → Bool
-newLotsFail v body = lotsFail (v .limits .variance) (v .limits .poolsAMillion) (details body)
+newLotsFail v body = lotsFail (v .lent .limits .variance) (v .lent .limits .poolsAMillion) (details body)
 
 -- 36: a new pool that the message brings twice
 abbrev pub newPoolsRepeat : List ℕ → Bool
@@ -378,7 +378,7 @@ pub data Test : Type 0 where
 abbrev pub fails : Test → Call → Bool
 fails (ofBody p) c = p (c .body)
 fails (ofValues p) c = p (c .book .values) (c .body)
-fails (ofLine p) c = p (c .book .line) (c .body)
+fails (ofLine p) c = p (c .book .values .connection .line) (c .body)
 fails (ofAsked p) c = p (c .asked)
 fails (ofLive p) c = p (c .book .values) (live c) (c .body)
 fails (ofTable p) c = p (c .book) (heldIn (c .book) (c .table)) (c .body)

@@ -13,6 +13,7 @@ use Rattle.trade_id.specs.SpecialInstructions.{equalsSign, idLengthMax}
 use Rattle.sequence.specs.Sequence.{startLine, outboundMax}
 use Rattle.book.specs.declared.Trade.{Trade}
 use Rattle.book.specs.declared.Limits.{Limits}
+use Rattle.book.specs.declared.Connection.{Connection}
 use Rattle.book.specs.declared.Values.{Values}
 use Rattle.book.specs.declared.Book.{Book}
 use Rattle.book.specs.declared.Pool.{Pool}
@@ -49,7 +50,7 @@ poolsAMillionMax = 250
 
 -- the holidays that are opened
 abbrev pub holidaysOf : Values → List ℕ
-holidaysOf v = take (v .holidayCount) (v .holidays)
+holidaysOf v = take (v .lent .holidayCount) (v .lent .holidays)
 
 abbrev pub limitsFine : Limits → Bool
 limitsFine l = leb (l .ceiling) ceilingMax && (leb (l .variance) varianceMax && (between 1 poolsAMillionMax (l .poolsAMillion) && between 1 originalMost (l .least)))
@@ -79,11 +80,11 @@ namesRepeat (n ∷ ns) = any (same n) ns || namesRepeat ns
 -- opening's rules but for the table's length
 unfoldable pub valuesFine : Values → Bool
 valuesFine v =
-    (leb (v .tradeCount) tradesMax && leb (v .holidayCount) holidaysMax)
+    (leb (v .lent .tradeCount) tradesMax && leb (v .lent .holidayCount) holidaysMax)
     && (all isDate (holidaysOf v)
-    && (accountFine (v .subscriber) && (accountFine (v .connection)
-    && (limitsFine (v .limits)
-    && (leb (v .lastMessageId) elevenDigitsMax && (leb (v .outbound .0) outboundMax
+    && (accountFine (v .lent .subscriber) && (accountFine (v .connection .id)
+    && (limitsFine (v .lent .limits)
+    && (leb (v .lastMessageId) elevenDigitsMax && (leb (v .connection .outbound .0) outboundMax
     && (all (tradeFine (holidaysOf v)) (tradesOf v) && not (namesRepeat (map tradeName (tradesOf v))))))))))
 
 -- 41 passes: values in range, and a table that is not too long
@@ -106,24 +107,17 @@ atPar t =
       openPar = t .par;
     }
 
--- the values with other trades
-abbrev pub withTrades : Values → List Trade → Values
-withTrades v ts =
-    record {
-      trades = ts;
-      tradeCount = v .tradeCount;
-      holidays = v .holidays;
-      holidayCount = v .holidayCount;
-      subscriber = v .subscriber;
-      connection = v .connection;
-      limits = v .limits;
-      lastMessageId = v .lastMessageId;
-      outbound = v .outbound;
-    }
+-- a connection as it is opened: inbound expects 1, with none received
+abbrev pub atStart : Connection → Connection
+atStart c = record { id = c .id; line = startLine; outbound = c .outbound }
 
--- the book that opening leaves: every trade at par, inbound expecting 1 with none received, no live pool
+-- the book that opening leaves: every trade at par, the line at its start, no live pool
 unfoldable pub opened : Values → Book
-opened v = record { values = withTrades v (map atPar (v .trades)); line = startLine; live = 0 }
+opened v =
+    record {
+      values = record { trades = map atPar (v .trades); lent = v .lent; lastMessageId = v .lastMessageId; connection = atStart (v .connection) };
+      live = 0;
+    }
 
 -- the table that opening leaves: zeros
 unfoldable pub cleared : List Pool → List Pool

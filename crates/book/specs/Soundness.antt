@@ -27,7 +27,7 @@ kindFine r = (eqb (r .kind) kindGood && between 1 millionsMost (r .millions)) ||
 -- a live record by itself: a trade that is opened, an ID from 1 to the last, an ordinal, a face of eleven digits, kind and millions
 abbrev pub recordFine : Values → Pool → Bool
 recordFine v r =
-    ltb (r .trade) (v .tradeCount)
+    ltb (r .trade) (v .lent .tradeCount)
     && (between 1 (v .lastMessageId) (r .message) && (leb 1 (r .ordinal) && (leb (r .current) elevenDigitsMax && kindFine r)))
 
 -- message ID, then ordinal, does not fall
@@ -81,7 +81,7 @@ heldIn b table = record { live = liveOf b table; records = length table; zeros =
 pub record Sound (b : Book) (table : List Pool) : Type 0 where
   pub values : valuesFine (b .values) ≡ true
   pub tableShort : leb (length table) recordsMax ≡ true
-  pub inbound : soundLine (b .line) ≡ true
+  pub inbound : soundLine (b .values .connection .line) ≡ true
   pub liveWithin : leb (b .live) (length table) ≡ true
   pub records : all (recordFine (b .values)) (liveOf b table) ≡ true
   pub ordered : inOrder (liveOf b table) ≡ true
@@ -94,7 +94,7 @@ abbrev pub holdsSound : Book → Held → Bool
 holdsSound b h =
     valuesFine (b .values)
     && (leb (h .records) recordsMax
-    && (soundLine (b .line)
+    && (soundLine (b .values .connection .line)
     && (leb (b .live) (h .records)
     && (all (recordFine (b .values)) (h .live)
     && (inOrder (h .live)

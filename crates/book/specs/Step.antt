@@ -37,18 +37,18 @@ isGap Expected = false
 isGap Gap = true
 
 abbrev pub gapAt : Book → List ℕ → Bool
-gapAt book body = isGap (arrivalOf (book .line) (arrived body))
+gapAt book body = isGap (arrivalOf (book .values .connection .line) (arrived body))
 
 -- ---- the counters: after a duplicate the line stays as it is, and after every other number it moves
 abbrev pub lineOf : Book → List ℕ → Answer → Line
-lineOf book body a = cond (isSilent a) (book .line) (lineAfter (book .line) (arrived body))
+lineOf book body a = cond (isSilent a) (book .values .connection .line) (lineAfter (book .values .connection .line) (arrived body))
 
 -- the outbound number of the AA: one more than the last, or than that of the TX before it
 abbrev pub beforeAa : Book → List ℕ → Outbound
-beforeAa book body = cond (gapAt book body) (nextOutbound (book .values .outbound)) (book .values .outbound)
+beforeAa book body = cond (gapAt book body) (nextOutbound (book .values .connection .outbound)) (book .values .connection .outbound)
 
 abbrev pub outboundOf : Book → List ℕ → Answer → Outbound
-outboundOf book body a = cond (isSilent a) (book .values .outbound) (nextOutbound (beforeAa book body))
+outboundOf book body a = cond (isSilent a) (book .values .connection .outbound) (nextOutbound (beforeAa book body))
 
 -- ---- trades and pools: what an accepted message takes off and brings
 -- a trade with another open par
@@ -97,21 +97,15 @@ abbrev pub valuesAfter : Call → Values
 valuesAfter c =
     record {
       trades = tradesAfter c;
-      tradeCount = c .book .values .tradeCount;
-      holidays = c .book .values .holidays;
-      holidayCount = c .book .values .holidayCount;
-      subscriber = c .book .values .subscriber;
-      connection = c .book .values .connection;
-      limits = c .book .values .limits;
+      lent = c .book .values .lent;
       lastMessageId = lastAfter c;
-      outbound = outboundOf (c .book) (c .body) (answerOf c);
+      connection = record { id = c .book .values .connection .id; line = lineOf (c .book) (c .body) (answerOf c); outbound = outboundOf (c .book) (c .body) (answerOf c) };
     }
 
 unfoldable pub bookAfter : Call → Book
 bookAfter c =
     record {
       values = valuesAfter c;
-      line = lineOf (c .book) (c .body) (answerOf c);
       live = cond (accepted c) (length (liveMoved c)) (c .book .live);
     }
 
@@ -132,7 +126,7 @@ acknowledged body a caller =
 abbrev pub withTx : Book → List ℕ → List ℕ → List ℕ
 withTx book body out =
     cond (gapAt book body)
-    (pasted out 0 (txBytes (nextOutbound (book .values .outbound)) (book .values .subscriber) (book .values .connection) (book .line .expected) (arrived body)))
+    (pasted out 0 (txBytes (nextOutbound (book .values .connection .outbound)) (book .values .lent .subscriber) (book .values .connection .id) (book .values .connection .line .expected) (arrived body)))
     out
 
 abbrev pub aaAt : Book → List ℕ → ℕ
@@ -142,7 +136,7 @@ aaAt book body = cond (gapAt book body) txLength 0
 unfoldable pub outputFor : Book → List ℕ → Answer → Caller → List ℕ → List ℕ
 outputFor book body a caller out =
     cond (isSilent a) out
-    (pasted (withTx book body out) (aaAt book body) (aaBytes (nextOutbound (beforeAa book body)) (book .values .subscriber) (book .values .connection) (acknowledged body a caller)))
+    (pasted (withTx book body out) (aaAt book body) (aaBytes (nextOutbound (beforeAa book body)) (book .values .lent .subscriber) (book .values .connection .id) (acknowledged body a caller)))
 
 unfoldable pub outputAfter : Call → List ℕ → List ℕ
 outputAfter c out = outputFor (c .book) (c .body) (answerOf c) (c .asked .caller) out

@@ -21,7 +21,7 @@ use Rattle.book.specs.Messages.{typeOf, idIn, brought}
 
 -- the trades that are opened
 abbrev pub tradesOf : Values → List Trade
-tradesOf v = take (v .tradeCount) (v .trades)
+tradesOf v = take (v .lent .tradeCount) (v .trades)
 
 -- the bytes of a trade's ID
 abbrev pub tradeName : Trade → List ℕ

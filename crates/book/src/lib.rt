@@ -43,23 +43,33 @@ pub struct Limits {
     pub least: u64,
 }
 
-// What opening lends: of trades and holidays the first so many count; outbound is the last outbound number used.
-pub struct Values {
-    pub trades: [Trade; TRADES_MAX],
+// What opening lends and no call moves: of trades and holidays the first so many count.
+pub struct Lent {
     pub tradeCount: usize,
     pub holidays: [u32; HOLIDAYS_MAX],
     pub holidayCount: usize,
     pub subscriber: [u8; 4],
-    pub connection: [u8; 4],
     pub limits: Limits,
-    pub lastMessageId: u64,
+}
+
+// What belongs to a connection: its ID, the inbound line, and the last outbound number used.
+pub struct Connection {
+    pub id: [u8; 4],
+    pub line: Line,
     pub outbound: Outbound,
 }
 
-// The book: opening's values, which move with each accepted message, the inbound line, and the number of live pools in the table.
+// What opening lends, and what of it calls move: the trades, the last message ID and the connection. The line is opening's own to set.
+pub struct Values {
+    pub trades: [Trade; TRADES_MAX],
+    pub lent: Lent,
+    pub lastMessageId: u64,
+    pub connection: Connection,
+}
+
+// The book: opening's values, which move with each call, and the number of live pools in the table.
 pub struct Book {
     pub values: Values,
-    pub line: Line,
     pub live: usize,
 }
 

@@ -11,7 +11,7 @@ use Rattle.sequence.specs.Sequence.{startLine}
 use Rattle.book.specs.declared.Trade.{Trade}
 use Rattle.book.specs.declared.Values.{Values}
 use Rattle.book.specs.declared.Book.{Book}
-use Rattle.book.specs.Opening.{atPar, withTrades, opened}
+use Rattle.book.specs.Opening.{atPar, opened}
 
 module _ {A : Type 0} (f : A → A) (xs₀ : List A) where
   abbrev pub Changing : List A → ℕ → Type 0
@@ -35,6 +35,6 @@ module _ {A : Type 0} (f : A → A) (xs₀ : List A) where
 
 -- the book made of those trades and the first line is the definition's
 pub opened-is : (v : Values) (ts : List Trade) (l : Line) → ts ≡ map atPar (v .trades) → l ≡ startLine
-    → _≡_ {A = Book} record { values = withTrades v ts; line = l; live = 0 } (opened v)
+    → _≡_ {A = Book} record { values = record { trades = ts; lent = v .lent; lastMessageId = v .lastMessageId; connection = record { id = v .connection .id; line = l; outbound = v .connection .outbound } }; live = 0 } (opened v)
 unfolding opened
 opened-is v ts l e f = rw (e, f)

@@ -49,19 +49,19 @@ pub trade-is : (holidays : List ℕ) (t : Trade) (id seller buyer both contra cu
 trade-is holidays t id seller buyer both contra cusip date amounts p q r s u v w x = rw (p, q, r, s, u, v, w, x)
 
 module _ (v : Values) where
-  pub many-trades : tradesMax < v .tradeCount → false ≡ valuesFine v
+  pub many-trades : tradesMax < v .lent .tradeCount → false ≡ valuesFine v
   unfolding valuesFine
-  many-trades h = rw (lt-leb (v .tradeCount) tradesMax h)
+  many-trades h = rw (lt-leb (v .lent .tradeCount) tradesMax h)
 
-  module _ (few : v .tradeCount ≤ tradesMax) where
-    pub many-holidays : holidaysMax < v .holidayCount → false ≡ valuesFine v
+  module _ (few : v .lent .tradeCount ≤ tradesMax) where
+    pub many-holidays : holidaysMax < v .lent .holidayCount → false ≡ valuesFine v
     unfolding valuesFine
-    many-holidays h = rw (le-leb (v .tradeCount) tradesMax few, lt-leb (v .holidayCount) holidaysMax h)
+    many-holidays h = rw (le-leb (v .lent .tradeCount) tradesMax few, lt-leb (v .lent .holidayCount) holidaysMax h)
 
-    pub values-are : v .holidayCount ≤ holidaysMax → (dates subscriber connection limits trades repeat : Bool)
-        → dates ≡ all isDate (holidaysOf v) → subscriber ≡ accountFine (v .subscriber) → connection ≡ accountFine (v .connection)
-        → limits ≡ limitsFine (v .limits) → trades ≡ all (tradeFine (holidaysOf v)) (tradesOf v) → repeat ≡ namesRepeat (map tradeName (tradesOf v))
-        → (dates && (subscriber && (connection && (limits && (leb (v .lastMessageId) elevenDigitsMax && (leb (v .outbound .0) outboundMax && (trades && not repeat))))))) ≡ valuesFine v
+    pub values-are : v .lent .holidayCount ≤ holidaysMax → (dates subscriber connection limits trades repeat : Bool)
+        → dates ≡ all isDate (holidaysOf v) → subscriber ≡ accountFine (v .lent .subscriber) → connection ≡ accountFine (v .connection .id)
+        → limits ≡ limitsFine (v .lent .limits) → trades ≡ all (tradeFine (holidaysOf v)) (tradesOf v) → repeat ≡ namesRepeat (map tradeName (tradesOf v))
+        → (dates && (subscriber && (connection && (limits && (leb (v .lastMessageId) elevenDigitsMax && (leb (v .connection .outbound .0) outboundMax && (trades && not repeat))))))) ≡ valuesFine v
     unfolding valuesFine
     values-are h dates subscriber connection limits trades repeat p q r s u w =
-        rw (le-leb (v .tradeCount) tradesMax few, le-leb (v .holidayCount) holidaysMax h, p, q, r, s, u, w)
+        rw (le-leb (v .lent .tradeCount) tradesMax few, le-leb (v .lent .holidayCount) holidaysMax h, p, q, r, s, u, w)

@@ -1,5 +1,6 @@
 // Decides number 41 on what opening lends, and makes the book of an accepted opening.
 use book::Book;
+use book::Connection;
 use book::Limits;
 use book::Trade;
 use book::Values;
@@ -294,8 +295,8 @@ fn names_repeat(trades: [Trade; book::TRADES_MAX], count: usize) -> bool
 pub fn values_fine(v: Values) -> bool
     ensures { λ r. ⌜ r ≡ valuesFine v ⌝ }
 {
-    let count = v.tradeCount;
-    let days = v.holidayCount;
+    let count = v.lent.tradeCount;
+    let days = v.lent.holidayCount;
     if book::TRADES_MAX < count {
         return false;
     }
@@ -303,17 +304,17 @@ pub fn values_fine(v: Values) -> bool
         return false;
     }
     let trades = v.trades;
-    let holidays = v.holidays;
-    let subscriber = v.subscriber;
-    let connection = v.connection;
-    let limits = v.limits;
+    let holidays = v.lent.holidays;
+    let subscriber = v.lent.subscriber;
+    let connection = v.connection.id;
+    let limits = v.lent.limits;
     let listed = &holidays[..days];
     all_dates(listed)
         & (account_fine(subscriber)
             & (account_fine(connection)
                 & (limits_fine(limits)
                     & ((v.lastMessageId <= book::ELEVEN_DIGITS_MAX)
-                        & ((v.outbound.0 <= sequence::OUTBOUND_MAX)
+                        & ((v.connection.outbound.0 <= sequence::OUTBOUND_MAX)
                             & (trades_fine(trades, count, listed)
                                 & !names_repeat(trades, count)))))))
 }
@@ -337,14 +338,21 @@ fn all_at_par(trades: [Trade; book::TRADES_MAX]) -> [Trade; book::TRADES_MAX]
 pub fn opened_book(v: Values) -> Book
     ensures { λ r. ⌜ r ≡ opened v ⌝ }
 {
-    let lent = v.trades;
-    let trades = all_at_par(lent);
+    let given = v.trades;
+    let trades = all_at_par(given);
+    let connection = v.connection;
+    let id = connection.id;
+    let outbound = connection.outbound;
     let mut values = v;
     values.trades = trades;
-    let line = sequence::start();
+    let begun = Connection {
+        id: id,
+        line: sequence::start(),
+        outbound: outbound,
+    };
+    values.connection = begun;
     Book {
         values: values,
-        line: line,
         live: 0,
     }
 }

@@ -58,15 +58,15 @@ fn is_duplicate(a: Arrival) -> bool
 fn is_spent(book: Book) -> bool
     ensures { λ r. ⌜ ((body : List ℕ) → r ≡ numbersSpent (book .values) body) ⌝ }
 {
-    let outbound = book.values.outbound;
+    let outbound = book.values.connection.outbound;
     (book::ELEVEN_DIGITS_MAX <= book.values.lastMessageId) | sequence::spent(outbound)
 }
 
 // 12: the sequence number is the last one received.
 fn repeats(book: Book, body: &[u8]) -> bool
-    ensures { λ r. ⌜ r ≡ sequenceRepeats (book .line) (now (body .entry)) ⌝ }
+    ensures { λ r. ⌜ r ≡ sequenceRepeats (book .values .connection .line) (now (body .entry)) ⌝ }
 {
-    let line = book.line;
+    let line = book.values.connection.line;
     let number = header::arrived(body);
     is_duplicate(sequence::judge(line, number))
 }
@@ -82,7 +82,7 @@ fn is_unknown(body: &[u8]) -> bool
 fn amounts_fail(book: Book, body: &[u8]) -> bool
     ensures { λ r. ⌜ r ≡ amountsFail (book .values) (now (body .entry)) ⌝ }
 {
-    header::amounts_fail(book.values.limits.ceiling, body)
+    header::amounts_fail(book.values.lent.limits.ceiling, body)
 }
 
 // 17: subscriber, connection, submitter or contra.

@@ -35,21 +35,21 @@ few-millions r e = go (eqb (r .kind) kindGood && between 1 99 (r .millions)) ref
     go false f g = omega (arith, eqb-true (r .millions) 0 (and-right (eqb (r .kind) kindOdd || eqb (r .kind) kindBad) (eqb (r .millions) 0) g))
 
 module _ (v : Values) where
-  pub few-trades : valuesFine v ≡ true → v .tradeCount ≤ tradesMax
+  pub few-trades : valuesFine v ≡ true → v .lent .tradeCount ≤ tradesMax
   unfolding valuesFine
-  few-trades e = leb-true (v .tradeCount) tradesMax (and-left _ _ (and-left _ _ e))
+  few-trades e = leb-true (v .lent .tradeCount) tradesMax (and-left _ _ (and-left _ _ e))
 
-  pub record-light : (r : Pool) → recordFine v r ≡ true → (r .trade < v .tradeCount) × (r .current ≤ elevenDigitsMax) × (r .millions ≤ 99)
+  pub record-light : (r : Pool) → recordFine v r ≡ true → (r .trade < v .lent .tradeCount) × (r .current ≤ elevenDigitsMax) × (r .millions ≤ 99)
   record-light r e =
       let kind = kindFine r in
       let face = leb (r .current) elevenDigitsMax in
-      let past = and-right (leb 1 (r .ordinal)) (face && kind) (and-right (between 1 (v .lastMessageId) (r .message)) (leb 1 (r .ordinal) && (face && kind)) (and-right (ltb (r .trade) (v .tradeCount)) (between 1 (v .lastMessageId) (r .message) && (leb 1 (r .ordinal) && (face && kind))) e)) in (
-        ltb-true (r .trade) (v .tradeCount) (and-left (ltb (r .trade) (v .tradeCount)) (between 1 (v .lastMessageId) (r .message) && (leb 1 (r .ordinal) && (face && kind))) e),
+      let past = and-right (leb 1 (r .ordinal)) (face && kind) (and-right (between 1 (v .lastMessageId) (r .message)) (leb 1 (r .ordinal) && (face && kind)) (and-right (ltb (r .trade) (v .lent .tradeCount)) (between 1 (v .lastMessageId) (r .message) && (leb 1 (r .ordinal) && (face && kind))) e)) in (
+        ltb-true (r .trade) (v .lent .tradeCount) (and-left (ltb (r .trade) (v .lent .tradeCount)) (between 1 (v .lastMessageId) (r .message) && (leb 1 (r .ordinal) && (face && kind))) e),
         leb-true (r .current) elevenDigitsMax (and-left face kind past),
         few-millions r (and-right face kind past),
       )
 
-  pub light : (ns ks : List (List ℕ)) (live : ℕ) → live ≤ length ns → v .tradeCount ≤ tradesMax → all (recordFine v) (take live (tableOf ns ks)) ≡ true → Light ns live
+  pub light : (ns ks : List (List ℕ)) (live : ℕ) → live ≤ length ns → v .lent .tradeCount ≤ tradesMax → all (recordFine v) (take live (tableOf ns ks)) ≡ true → Light ns live
   light ns ks live l few e i h =
       let z : i ≡ 0 + i = omega arith in
       let p : recordFine v (recordAt ns ks i) ≡ true =
@@ -74,14 +74,14 @@ module _ (b : Book) (ns ks : List (List ℕ)) where
       holds : valuesFine (b .values) ≡ true
       holds = sym values-is ∙ not-false values values-hold
 
-      pub few : b .values .tradeCount ≤ tradesMax
+      pub few : b .values .lent .tradeCount ≤ tradesMax
       few = few-trades (b .values) holds
 
       pub table-long : recordsMax < length ns → Answer false
       unfolding isSound
       table-long h = rw (eq-eqb (length ks) (length ns) alike, holds, length-table ns ks, lt-leb (length ns) recordsMax h)
 
-      module _ (short : length ns ≤ recordsMax) (line : Bool) (line-is : line ≡ soundLine (b .line)) where
+      module _ (short : length ns ≤ recordsMax) (line : Bool) (line-is : line ≡ soundLine (b .values .connection .line)) where
         pub line-fails : not line ≡ true → Answer false
         unfolding isSound
         line-fails n = rw (eq-eqb (length ks) (length ns) alike, holds, length-table ns ks, le-leb (length ns) recordsMax short, sym line-is ∙ not-true line n)
@@ -96,7 +96,7 @@ module _ (b : Book) (ns ks : List (List ℕ)) where
           live-long h = rw (eq-eqb (length ks) (length ns) alike, before, lt-leb (b .live) (length ns) h)
 
           module _ (within : b .live ≤ length ns) (rows : Bool)
-              (rows-are : (js : List (List ℕ)) → rows ≡ (all (recordFine (against (b .values .tradeCount) (b .values .lastMessageId))) (take (b .live) (tableOf ns js)) && inOrder (take (b .live) (tableOf ns js)))) where
+              (rows-are : (js : List (List ℕ)) → rows ≡ (all (recordFine (against (b .values .lent .tradeCount) (b .values .lastMessageId))) (take (b .live) (tableOf ns js)) && inOrder (take (b .live) (tableOf ns js)))) where
             are : rows ≡ (all (recordFine (b .values)) (take (b .live) (tableOf ns ks)) && inOrder (take (b .live) (tableOf ns ks)))
             are = rows-are ks
 

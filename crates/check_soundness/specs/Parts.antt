@@ -6,7 +6,7 @@ use mathlib.Core.Bool.{true, _&&_}
 use lib.ListN.{take}
 use Rattle.lists.specs.Lists.{all}
 use Rattle.terminator.specs.Terminators.{millionsMost}
-use Rattle.sequence.specs.Sequence.{outbound}
+use Rattle.sequence.specs.Sequence.{outbound, startLine}
 use Rattle.book.specs.declared.Values.{Values}
 use Rattle.book.specs.Opening.{tradesMax, elevenDigitsMax}
 use Rattle.book.specs.Soundness.{recordFine, inOrder}
@@ -17,14 +17,16 @@ abbrev pub against : ℕ → ℕ → Values
 against count last =
     record {
       trades = [];
-      tradeCount = count;
-      holidays = [];
-      holidayCount = 0;
-      subscriber = [];
-      connection = [];
-      limits = record { ceiling = 0; variance = 0; poolsAMillion = 0; least = 0 };
+      lent =
+          record {
+            tradeCount = count;
+            holidays = [];
+            holidayCount = 0;
+            subscriber = [];
+            limits = record { ceiling = 0; variance = 0; poolsAMillion = 0; least = 0 };
+          };
       lastMessageId = last;
-      outbound = outbound 0;
+      connection = record { id = []; line = startLine; outbound = outbound 0 };
     }
 
 -- the first rows are fine live records in order, whatever bytes stand beside them

@@ -163,10 +163,10 @@ fn weights(numbers: &[[u64; rows::NUMBERS]], live: usize) -> [u64; book::TRADES_
 
 // 42: every trade's open par is its par less what its lots weigh.
 fn pars_fine(v: Values, numbers: &[[u64; rows::NUMBERS]], live: usize) -> bool
-    requires { ⌜ (v .tradeCount ≤ tradesMax) × (live ≤ length (now numbers)) × (live ≤ recordsMax) × Light (now numbers) live × RowsFine v (now numbers) live ⌝ }
+    requires { ⌜ (v .lent .tradeCount ≤ tradesMax) × (live ≤ length (now numbers)) × (live ≤ recordsMax) × Light (now numbers) live × RowsFine v (now numbers) live ⌝ }
     ensures { λ r. ⌜ ((ks : List (List ℕ)) → r ≡ parsFrom 0 (tradesOf v) (take live (tableOf (now (numbers .entry)) ks))) ⌝ }
 {
-    let count = v.tradeCount;
+    let count = v.lent.tradeCount;
     let trades = v.trades;
     let sums = weights(numbers, live);
     let mut i: usize = 0;
@@ -193,7 +193,7 @@ pub fn is_sound(
     ensures { λ r. ⌜ r ≡ (eqb (length (now (keys .entry))) (length (now (numbers .entry))) && isSound book (tableOf (now (numbers .entry)) (now (keys .entry)))) ⌝ }
 {
     let v = book.values;
-    let line = book.line;
+    let line = book.values.connection.line;
     let live = book.live;
     if keys.len() != numbers.len() {
         return false;
@@ -210,7 +210,7 @@ pub fn is_sound(
     if numbers.len() < live {
         return false;
     }
-    if !rows_fine(numbers, live, v.tradeCount as u64, v.lastMessageId) {
+    if !rows_fine(numbers, live, v.lent.tradeCount as u64, v.lastMessageId) {
         return false;
     }
     if !check_once::fields_once(numbers, keys, live) {

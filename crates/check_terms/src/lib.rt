@@ -101,7 +101,7 @@ pub fn find_holding(body: &[u8], v: Values, weight: u64) -> usize
     ensures { λ r. ⌜ r ≡ firstTrade (λ (t : Trade) (left : ℕ). agrees (now (body .entry)) t && leb weight left) 0 (tradesOf v) (openPars (tradesOf v)) ⌝ }
 {
     let s = read_terms(body);
-    let n = header::lesser(v.tradeCount, book::TRADES_MAX);
+    let n = header::lesser(v.lent.tradeCount, book::TRADES_MAX);
     let mut i: usize = 0;
     while i < n {
         let t = v.trades[i];
@@ -118,7 +118,7 @@ pub fn some_agrees(body: &[u8], v: Values) -> bool
     ensures { λ r. ⌜ r ≡ any (agrees (now (body .entry))) (tradesOf v) ⌝ }
 {
     let s = read_terms(body);
-    let n = header::lesser(v.tradeCount, book::TRADES_MAX);
+    let n = header::lesser(v.lent.tradeCount, book::TRADES_MAX);
     let mut i: usize = 0;
     while i < n {
         let t = v.trades[i];
@@ -172,7 +172,7 @@ fn find_named(body: &[u8], v: Values, place: usize, length: usize) -> usize
     requires { ⌜ idIn (now body) ≡ Whole place length ⌝ }
     ensures { λ r. ⌜ r ≡ firstTrade (λ (t : Trade) (left : ℕ). isNamedBy (now (body .entry)) (Whole place length) t) 0 (tradesOf v) (openPars (tradesOf v)) ⌝ }
 {
-    let n = header::lesser(v.tradeCount, book::TRADES_MAX);
+    let n = header::lesser(v.lent.tradeCount, book::TRADES_MAX);
     let mut i: usize = 0;
     while i < n {
         let t = v.trades[i];
@@ -191,7 +191,7 @@ pub fn trade_of_on(body: &[u8], v: Values) -> usize
     let id = header::trade_id_in(body);
     match id {
         TradeId::Whole { place, length } => find_named(body, v, place, length),
-        TradeId::Broken => header::lesser(v.tradeCount, book::TRADES_MAX),
+        TradeId::Broken => header::lesser(v.lent.tradeCount, book::TRADES_MAX),
         TradeId::Absent => find_holding(body, v, brought_weight(body)),
     }
 }
@@ -208,7 +208,7 @@ pub fn id_verdict(body: &[u8], v: Values, target: usize) -> Verdict
         return Verdict::Fails(Reason::Trader(31, book::TOLD));
     };
     let i = find_named(body, v, place, length);
-    let n = header::lesser(v.tradeCount, book::TRADES_MAX);
+    let n = header::lesser(v.lent.tradeCount, book::TRADES_MAX);
     if n <= i {
         return Verdict::Fails(Reason::Trader(31, book::TOLD));
     }
@@ -233,7 +233,7 @@ pub fn terms_fail(body: &[u8], v: Values, target: usize) -> bool
     if message_type::is_on(message) {
         return !some_agrees(body, v);
     }
-    let n = header::lesser(v.tradeCount, book::TRADES_MAX);
+    let n = header::lesser(v.lent.tradeCount, book::TRADES_MAX);
     if n <= target {
         return true;
     }

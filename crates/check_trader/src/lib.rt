@@ -45,7 +45,7 @@ fn first_of_terms(v: Values, body: &[u8], there: bool, target: usize) -> Verdict
     let on = message_type::is_on(kind);
     let cc = message_type::is_cc(kind);
     let dk = message_type::is_dk(kind);
-    let limits = v.limits;
+    let limits = v.lent.limits;
     if (cc | dk) & !there {
         return Verdict::Fails(Reason::Trader(30, book::TOLD));
     }
@@ -183,7 +183,7 @@ fn decide_moves(
     let brought = check_terms::brought_weight(body);
     let trade = concerned_by(body, values, on, target);
     let both = on | cc;
-    if both & !par_fits(trades, values.tradeCount, trade, off, brought) {
+    if both & !par_fits(trades, values.lent.tradeCount, trade, off, brought) {
         return refused(Reason::Trader(38, book::TOLD));
     }
     if both & !table_fits(body, cc, live, numbers.len()) {

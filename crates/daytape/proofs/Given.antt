@@ -7,7 +7,7 @@ use lib.ListN.{length, replicate, set, length-replicate}
 use Rattle.lists.specs.Lists.{within, part}
 use Rattle.fields.specs.Fields.{allBetween}
 use Rattle.calendar.specs.Calendar.{dayNumber, weekdayOf, isDate, businessDate}
-use Rattle.sequence.specs.Sequence.{outbound}
+use Rattle.sequence.specs.Sequence.{outbound, startLine}
 use Rattle.book.specs.declared.Trade.{Trade}
 use Rattle.book.specs.declared.Values.{Values}
 use Rattle.book.specs.declared.Book.{Book}
@@ -30,14 +30,16 @@ use Rattle.daytape.specs.Program.{theTrade, valuesGiven, startOf, saidOf
 pub values-given : (b t : Trade) → b ≡ blank → t ≡ theTrade
     → record {
       trades = set (replicate 64 b) 0 t;
-      tradeCount = 1;
-      holidays = replicate 32 0;
-      holidayCount = 0;
-      subscriber = 48 ∷ 49 ∷ 50 ∷ 51 ∷ [];
-      connection = 49 ∷ 50 ∷ 48 ∷ 48 ∷ [];
-      limits = record { ceiling = 2500; variance = 10000; poolsAMillion = 3; least = 1000 };
+      lent =
+          record {
+            tradeCount = 1;
+            holidays = replicate 32 0;
+            holidayCount = 0;
+            subscriber = 48 ∷ 49 ∷ 50 ∷ 51 ∷ [];
+            limits = record { ceiling = 2500; variance = 10000; poolsAMillion = 3; least = 1000 };
+          };
       lastMessageId = 0;
-      outbound = outbound 0;
+      connection = record { id = 49 ∷ 50 ∷ 48 ∷ 48 ∷ []; line = startLine; outbound = outbound 0 };
     } ≡ valuesGiven
 unfolding valuesGiven
 values-given b t e f = rw (e, f)

@@ -5,7 +5,7 @@ use mathlib.Core.List.{List, [], _∷_}
 use mathlib.Core.Bool.{true}
 use lib.ListN.{replicate}
 use Rattle.trade_id.specs.SpecialInstructions.{idLengthMax}
-use Rattle.sequence.specs.Sequence.{outbound}
+use Rattle.sequence.specs.Sequence.{outbound, startLine}
 use Rattle.book.specs.declared.Trade.{Trade}
 use Rattle.book.specs.declared.Values.{Values}
 use Rattle.book.specs.Opening.{tradesMax, holidaysMax}
@@ -38,14 +38,16 @@ theTrade = record {
 unfoldable pub valuesGiven : Values
 valuesGiven = record {
   trades = theTrade ∷ replicate (tradesMax - 1) blank;
-  tradeCount = 1;
-  holidays = replicate holidaysMax 0;
-  holidayCount = 0;
-  subscriber = 48 ∷ 49 ∷ 50 ∷ 51 ∷ [];
-  connection = 49 ∷ 50 ∷ 48 ∷ 48 ∷ [];
-  limits = record { ceiling = 2500; variance = 10000; poolsAMillion = 3; least = 1000 };
+  lent =
+      record {
+        tradeCount = 1;
+        holidays = replicate holidaysMax 0;
+        holidayCount = 0;
+        subscriber = 48 ∷ 49 ∷ 50 ∷ 51 ∷ [];
+        limits = record { ceiling = 2500; variance = 10000; poolsAMillion = 3; least = 1000 };
+      };
   lastMessageId = 0;
-  outbound = outbound 0;
+  connection = record { id = 49 ∷ 50 ∷ 48 ∷ 48 ∷ []; line = startLine; outbound = outbound 0 };
 }
 
 -- a book opened, over 512 records

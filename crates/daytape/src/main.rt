@@ -1,6 +1,8 @@
 // Prints the day of a tape: the frames accepted and all other whole frames, then the trade's open par and its standing good millions (01, Program daytape).
 // Trusted is what the C library's read and write do. All bytes that come are read, up to 64 KiB; what a failing read leaves out is not on the tape.
 use book::Book;
+use book::Connection;
+use book::Lent;
 use book::Limits;
 use book::Trade;
 use book::Values;
@@ -49,19 +51,24 @@ fn values() -> Values
     trades[0] = the_trade();
     Values {
         trades: trades,
-        tradeCount: 1,
-        holidays: [0; book::HOLIDAYS_MAX],
-        holidayCount: 0,
-        subscriber: [b'0', b'1', b'2', b'3'],
-        connection: [b'1', b'2', b'0', b'0'],
-        limits: Limits {
-            ceiling: 2500,
-            variance: 10000,
-            poolsAMillion: 3,
-            least: 1000,
+        lent: Lent {
+            tradeCount: 1,
+            holidays: [0; book::HOLIDAYS_MAX],
+            holidayCount: 0,
+            subscriber: [b'0', b'1', b'2', b'3'],
+            limits: Limits {
+                ceiling: 2500,
+                variance: 10000,
+                poolsAMillion: 3,
+                least: 1000,
+            },
         },
         lastMessageId: 0,
-        outbound: Outbound(0),
+        connection: Connection {
+            id: [b'1', b'2', b'0', b'0'],
+            line: sequence::start(),
+            outbound: Outbound(0),
+        },
     }
 }
 

@@ -16,7 +16,7 @@ use Rattle.image.specs.Images.{isImage, bookIn}
 use Rattle.exports_book.specs.Reading.{timeWidth, callable, Reads, ReadsValues}
 
 -- values of more trades than a book has
-pub too-many : (v : Values) → v .tradeCount ≡ 65 → valuesFine v ≡ false
+pub too-many : (v : Values) → v .lent .tradeCount ≡ 65 → valuesFine v ≡ false
 unfolding valuesFine
 too-many v e = rw e
 

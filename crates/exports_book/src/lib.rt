@@ -26,7 +26,7 @@ fn refused_unless(known: bool, book: Book) -> Book
     let mut given = book;
     if !known {
         let count = book::TRADES_MAX + 1;
-        given.values.tradeCount = count;
+        given.values.lent.tradeCount = count;
     }
     given
 }

@@ -35,7 +35,7 @@ and-and true b c = refl
 and-and false b c = refl
 
 pub parties-are : (v : Values) (body : List ℕ) (subscriber connection side f s : Bool)
-    → subscriber ≡ same (bytesIn body columns.subscriber) (v .subscriber) → connection ≡ same (bytesIn body columns.connection) (v .connection)
+    → subscriber ≡ same (bytesIn body columns.subscriber) (v .lent .subscriber) → connection ≡ same (bytesIn body columns.connection) (v .connection .id)
     → side ≡ any (isSide body) (tradesOf v) → f ≡ same (bytesIn body columns.contra) ftba → s ≡ isStipulated body
     → ((subscriber && connection) && (side && (f || s))) ≡ partiesFine v body
 parties-are v body subscriber connection side f s p q r t u = and-and subscriber connection (side && (f || s)) ∙ rw (p, q, r, t, u)

@@ -166,10 +166,10 @@ fn some_side(trades: [Trade; book::TRADES_MAX], count: usize, body: &[u8]) -> bo
 pub fn parties_fine(v: Values, body: &[u8]) -> bool
     ensures { λ r. ⌜ r ≡ partiesFine v (now (body .entry)) ⌝ }
 {
-    let subscriber = v.subscriber;
-    let connection = v.connection;
+    let subscriber = v.lent.subscriber;
+    let connection = v.connection.id;
     let trades = v.trades;
-    let count = lesser(v.tradeCount, book::TRADES_MAX);
+    let count = lesser(v.lent.tradeCount, book::TRADES_MAX);
     let line = column_is(body, layout::SUBSCRIBER, &subscriber)
         & column_is(body, layout::CONNECTION, &connection);
     let contra = column_is(body, layout::CONTRA, b"FTBA") | is_stipulated(body);
@@ -228,8 +228,8 @@ pub fn replacements_fail(body: &[u8]) -> bool
 pub fn settlement_fails(v: Values, body: &[u8]) -> bool
     ensures { λ r. ⌜ r ≡ settlementFails v (now (body .entry)) ⌝ }
 {
-    let days = lesser(v.holidayCount, book::HOLIDAYS_MAX);
-    let holidays = v.holidays;
+    let days = lesser(v.lent.holidayCount, book::HOLIDAYS_MAX);
+    let holidays = v.lent.holidays;
     let settlement = layout::number_in(body, layout::SETTLEMENT);
     is_no_business_date(settlement, &holidays[..days])
 }

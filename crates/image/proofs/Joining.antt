@@ -75,16 +75,16 @@ trade-made t names a b c d e n =
 -- the words after the trades, as they are written
 module _ (b : Book) (flag last : ℕ) (accounts : List ℕ) where
   abbrev limits : ℕ → ℕ → List ℕ
-  limits f l = b .values .limits .ceiling ∷ b .values .limits .variance ∷ b .values .limits .poolsAMillion ∷ b .values .limits .least
-      ∷ b .values .lastMessageId ∷ b .values .outbound .0 ∷ f ∷ l ∷ b .line .expected .0 ∷ b .live ∷ []
+  limits f l = b .values .lent .limits .ceiling ∷ b .values .lent .limits .variance ∷ b .values .lent .limits .poolsAMillion ∷ b .values .lent .limits .least
+      ∷ b .values .lastMessageId ∷ b .values .connection .outbound .0 ∷ f ∷ l ∷ b .values .connection .line .expected .0 ∷ b .live ∷ []
 
-  pub rest-made : flag ≡ flagOf (b .line .received) → last ≡ lastOf (b .line .received) → length (b .values .holidays) ≡ 32 → length (b .values .subscriber) ≡ 4 → length (b .values .connection) ≡ 4
-      → accounts ≡ wordsOf (b .values .subscriber) 4 ++ wordsOf (b .values .connection) 4
-      → (b .values .tradeCount ∷ []) ++ wordsOf (b .values .holidays) 32 ++ (b .values .holidayCount ∷ []) ++ wordsOf accounts 8 ++ limits flag last ≡ restImage b
+  pub rest-made : flag ≡ flagOf (b .values .connection .line .received) → last ≡ lastOf (b .values .connection .line .received) → length (b .values .lent .holidays) ≡ 32 → length (b .values .lent .subscriber) ≡ 4 → length (b .values .connection .id) ≡ 4
+      → accounts ≡ wordsOf (b .values .lent .subscriber) 4 ++ wordsOf (b .values .connection .id) 4
+      → (b .values .lent .tradeCount ∷ []) ++ wordsOf (b .values .lent .holidays) 32 ++ (b .values .lent .holidayCount ∷ []) ++ wordsOf accounts 8 ++ limits flag last ≡ restImage b
   unfolding restImage
   rest-made e f h s c a =
-      ap (λ (l : List ℕ). (b .values .tradeCount ∷ []) ++ wordsOf (b .values .holidays) 32 ++ (b .values .holidayCount ∷ []) ++ wordsOf l 8 ++ limits flag last) a
-      ∙ (λ i. (b .values .tradeCount ∷ []) ++ words-are (b .values .holidays) 32 h i ++ (b .values .holidayCount ∷ []) ++ words-are (b .values .subscriber) 4 s i ++ words-are (b .values .connection) 4 c i ++ limits (e i) (f i))
+      ap (λ (l : List ℕ). (b .values .lent .tradeCount ∷ []) ++ wordsOf (b .values .lent .holidays) 32 ++ (b .values .lent .holidayCount ∷ []) ++ wordsOf l 8 ++ limits flag last) a
+      ∙ (λ i. (b .values .lent .tradeCount ∷ []) ++ words-are (b .values .lent .holidays) 32 h i ++ (b .values .lent .holidayCount ∷ []) ++ words-are (b .values .lent .subscriber) 4 s i ++ words-are (b .values .connection .id) 4 c i ++ limits (e i) (f i))
 
 -- the trades' words and then those of the rest are the image, where there is room for it
 pub image-written : (b : Book) (o₀ o o′ rest : List ℕ) → bookWords ≤ length o₀

@@ -92,14 +92,14 @@ module _ (b : Book) (h : Formed b) where
 
 -- the parts of a book's words after the trades are its fields
 pub record RestParts (b : Book) : Type 0 where
-  pub count : part (restImage b) 0 1 ≡ b .values .tradeCount ∷ []
-  pub holidays : part (restImage b) 1 32 ≡ b .values .holidays
-  pub days : part (restImage b) 33 1 ≡ b .values .holidayCount ∷ []
-  pub subscriber : part (restImage b) 34 4 ≡ b .values .subscriber
-  pub connection : part (restImage b) 38 4 ≡ b .values .connection
+  pub count : part (restImage b) 0 1 ≡ b .values .lent .tradeCount ∷ []
+  pub holidays : part (restImage b) 1 32 ≡ b .values .lent .holidays
+  pub days : part (restImage b) 33 1 ≡ b .values .lent .holidayCount ∷ []
+  pub subscriber : part (restImage b) 34 4 ≡ b .values .lent .subscriber
+  pub connection : part (restImage b) 38 4 ≡ b .values .connection .id
   pub numbers : part (restImage b) 42 10
-      ≡ b .values .limits .ceiling ∷ b .values .limits .variance ∷ b .values .limits .poolsAMillion ∷ b .values .limits .least
-      ∷ b .values .lastMessageId ∷ b .values .outbound .0 ∷ flagOf (b .line .received) ∷ lastOf (b .line .received) ∷ b .line .expected .0 ∷ b .live ∷ []
+      ≡ b .values .lent .limits .ceiling ∷ b .values .lent .limits .variance ∷ b .values .lent .limits .poolsAMillion ∷ b .values .lent .limits .least
+      ∷ b .values .lastMessageId ∷ b .values .connection .outbound .0 ∷ flagOf (b .values .connection .line .received) ∷ lastOf (b .values .connection .line .received) ∷ b .values .connection .line .expected .0 ∷ b .live ∷ []
 
 module _ (b : Book) (h : Formed b) where
   parts : RestParts b
@@ -107,10 +107,10 @@ module _ (b : Book) (h : Formed b) where
   parts =
       let r = restImage b in
       let ns : List ℕ =
-      b .values .limits .ceiling ∷ b .values .limits .variance ∷ b .values .limits .poolsAMillion ∷ b .values .limits .least
-      ∷ b .values .lastMessageId ∷ b .values .outbound .0 ∷ flagOf (b .line .received) ∷ lastOf (b .line .received) ∷ b .line .expected .0 ∷ b .live ∷ [] in
+      b .values .lent .limits .ceiling ∷ b .values .lent .limits .variance ∷ b .values .lent .limits .poolsAMillion ∷ b .values .lent .limits .least
+      ∷ b .values .lastMessageId ∷ b .values .connection .outbound .0 ∷ flagOf (b .values .connection .line .received) ∷ lastOf (b .values .connection .line .received) ∷ b .values .connection .line .expected .0 ∷ b .live ∷ [] in
       let p = six (part r 0 1) (part r 1 32) (part r 33 1) (part r 34 4) (part r 38 4) (part r 42 10)
-      (b .values .tradeCount ∷ []) (b .values .holidays) (b .values .holidayCount ∷ []) (b .values .subscriber) (b .values .connection) ns
+      (b .values .lent .tradeCount ∷ []) (b .values .lent .holidays) (b .values .lent .holidayCount ∷ []) (b .values .lent .subscriber) (b .values .connection .id) ns
       (as-long b h 1 32 (omega arith) ∙ sym (h .holidays .0))
       (as-long b h 33 1 (omega arith))
       (as-long b h 34 4 (omega arith) ∙ sym (h .subscriber .0))
@@ -121,8 +121,8 @@ module _ (b : Book) (h : Formed b) where
 
   words : getD (restImage b) 42 0 ∷ getD (restImage b) 43 0 ∷ getD (restImage b) 44 0 ∷ getD (restImage b) 45 0 ∷ getD (restImage b) 46 0
       ∷ getD (restImage b) 47 0 ∷ getD (restImage b) 48 0 ∷ getD (restImage b) 49 0 ∷ getD (restImage b) 50 0 ∷ getD (restImage b) 51 0 ∷ []
-      ≡ b .values .limits .ceiling ∷ b .values .limits .variance ∷ b .values .limits .poolsAMillion ∷ b .values .limits .least
-      ∷ b .values .lastMessageId ∷ b .values .outbound .0 ∷ flagOf (b .line .received) ∷ lastOf (b .line .received) ∷ b .line .expected .0 ∷ b .live ∷ []
+      ≡ b .values .lent .limits .ceiling ∷ b .values .lent .limits .variance ∷ b .values .lent .limits .poolsAMillion ∷ b .values .lent .limits .least
+      ∷ b .values .lastMessageId ∷ b .values .connection .outbound .0 ∷ flagOf (b .values .connection .line .received) ∷ lastOf (b .values .connection .line .received) ∷ b .values .connection .line .expected .0 ∷ b .live ∷ []
   words = sym (numbers (restImage b) (length-rest b h)) ∙ parts .numbers
 
   pub rest-back : bookFrom (b .values .trades) (restImage b) ≡ b
@@ -131,23 +131,24 @@ module _ (b : Book) (h : Formed b) where
       let c = sym (count-word (restImage b) (length-rest b h)) ∙ parts .count in
       let d = sym (days-word (restImage b) (length-rest b h)) ∙ parts .days in
       let q = words in
-      let r : receivedIn (getD (restImage b) 48 0) (getD (restImage b) 49 0) ≡ b .line .received =
-      (λ i. receivedIn (getD (q i) 6 0) (getD (q i) 7 0)) ∙ received-back (b .line .received) in
+      let r : receivedIn (getD (restImage b) 48 0) (getD (restImage b) 49 0) ≡ b .values .connection .line .received =
+      (λ i. receivedIn (getD (q i) 6 0) (getD (q i) 7 0)) ∙ received-back (b .values .connection .line .received) in
       λ i.
       record {
         values =
             record {
               trades = b .values .trades;
-              tradeCount = getD (c i) 0 0;
-              holidays = parts .holidays i;
-              holidayCount = getD (d i) 0 0;
-              subscriber = parts .subscriber i;
-              connection = parts .connection i;
-              limits = record { ceiling = getD (q i) 0 0; variance = getD (q i) 1 0; poolsAMillion = getD (q i) 2 0; least = getD (q i) 3 0 };
+              lent =
+                  record {
+                    tradeCount = getD (c i) 0 0;
+                    holidays = parts .holidays i;
+                    holidayCount = getD (d i) 0 0;
+                    subscriber = parts .subscriber i;
+                    limits = record { ceiling = getD (q i) 0 0; variance = getD (q i) 1 0; poolsAMillion = getD (q i) 2 0; least = getD (q i) 3 0 };
+                  };
               lastMessageId = getD (q i) 4 0;
-              outbound = outbound (getD (q i) 5 0);
+              connection = record { id = parts .connection i; line = record { received = r i; expected = inbound (getD (q i) 8 0) }; outbound = outbound (getD (q i) 5 0) };
             };
-        line = record { received = r i; expected = inbound (getD (q i) 8 0) };
         live = getD (q i) 9 0;
       }
 
@@ -161,7 +162,7 @@ module _ (b : Book) (h : Formed b) where
       let a = sym (ap (all isByte) (part-next r 34 4 4)) ∙ all-both isByte (part r 34 4) (part r 38 4) s c in
       let o : isNumber (getD r 47 0) ≡ true = ap (λ (l : List ℕ). isNumber (getD l 5 0)) q ∙ h .outbound in
       let f : receivedFits (getD r 48 0) (getD r 49 0) ≡ true =
-      ap (λ (l : List ℕ). receivedFits (getD l 6 0) (getD l 7 0)) q ∙ received-fits (b .line .received) (h .received) in
+      ap (λ (l : List ℕ). receivedFits (getD l 6 0) (getD l 7 0)) q ∙ received-fits (b .values .connection .line .received) (h .received) in
       let x : isNumber (getD r 50 0) ≡ true = ap (λ (l : List ℕ). isNumber (getD l 8 0)) q ∙ h .expected in
       both (all isNumber (part r 1 32)) _ (ap (all isNumber) (parts .holidays) ∙ h .holidays .1)
       (both (all isByte (part r 34 8)) _ a (both (isNumber (getD r 47 0)) _ o (both (receivedFits (getD r 48 0) (getD r 49 0)) _ f x)))

@@ -44,7 +44,7 @@ module _ (b : Book) (vs : List Val) (p : Is B.the-row b vs) where
       let g = p .1 .1 .0 .1 .1 in
       let v = b .values in
       simp length-append
-      (omega (arith, field-length _ (v .holidays) (g .1 .1 .0 .1 .0 .1), field-length _ (v .subscriber) (g .1 .1 .1 .1 .0 .1 .0 .1), field-length _ (v .connection) (g .1 .1 .1 .1 .1 .0 .1 .0 .1)))
+      (omega (arith, field-length _ (v .lent .holidays) (g .1 .0 .1 .1 .1 .0 .1 .0 .1), field-length _ (v .lent .subscriber) (g .1 .0 .1 .1 .1 .1 .1 .0 .1 .0 .1), field-length _ (v .connection .id) (g .1 .1 .1 .0 .1 .1 .0 .1 .0 .1)))
 
   image-long : length (imageOf b) ≡ bookWords
   unfolding imageOf

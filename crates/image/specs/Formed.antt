@@ -26,9 +26,9 @@ pub record FormedTrade (t : Trade) : Type 0 where
 pub record Formed (b : Book) : Type 0 where
   pub trades : length (b .values .trades) ≡ tradesMax
   pub each : (t : Trade) → List·Memᴰ t (b .values .trades) → FormedTrade t
-  pub holidays : Array holidaysMax isNumber (b .values .holidays)
-  pub subscriber : Array accountWidth isByte (b .values .subscriber)
-  pub connection : Array accountWidth isByte (b .values .connection)
-  pub outbound : isNumber (b .values .outbound .0) ≡ true
-  pub received : isNumber (lastOf (b .line .received)) ≡ true
-  pub expected : isNumber (b .line .expected .0) ≡ true
+  pub holidays : Array holidaysMax isNumber (b .values .lent .holidays)
+  pub subscriber : Array accountWidth isByte (b .values .lent .subscriber)
+  pub connection : Array accountWidth isByte (b .values .connection .id)
+  pub outbound : isNumber (b .values .connection .outbound .0) ≡ true
+  pub received : isNumber (lastOf (b .values .connection .line .received)) ≡ true
+  pub expected : isNumber (b .values .connection .line .expected .0) ≡ true

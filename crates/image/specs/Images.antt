@@ -48,9 +48,9 @@ lastOf (Last n) = n .0
 -- all of a book but its trades
 unfoldable pub restImage : Book → List ℕ
 restImage b =
-    (b .values .tradeCount ∷ []) ++ b .values .holidays ++ (b .values .holidayCount ∷ []) ++ b .values .subscriber ++ b .values .connection
-    ++ (b .values .limits .ceiling ∷ b .values .limits .variance ∷ b .values .limits .poolsAMillion ∷ b .values .limits .least
-    ∷ b .values .lastMessageId ∷ b .values .outbound .0 ∷ flagOf (b .line .received) ∷ lastOf (b .line .received) ∷ b .line .expected .0 ∷ b .live ∷ [])
+    (b .values .lent .tradeCount ∷ []) ++ b .values .lent .holidays ++ (b .values .lent .holidayCount ∷ []) ++ b .values .lent .subscriber ++ b .values .connection .id
+    ++ (b .values .lent .limits .ceiling ∷ b .values .lent .limits .variance ∷ b .values .lent .limits .poolsAMillion ∷ b .values .lent .limits .least
+    ∷ b .values .lastMessageId ∷ b .values .connection .outbound .0 ∷ flagOf (b .values .connection .line .received) ∷ lastOf (b .values .connection .line .received) ∷ b .values .connection .line .expected .0 ∷ b .live ∷ [])
 
 unfoldable pub imageOf : Book → List ℕ
 imageOf b = flatMap tradeImage (b .values .trades) ++ restImage b
@@ -120,22 +120,23 @@ bookFrom trades rest =
       values =
           record {
             trades = trades;
-            tradeCount = getD rest words.tradeCount 0;
-            holidays = part rest words.holidays holidaysMax;
-            holidayCount = getD rest words.holidayCount 0;
-            subscriber = part rest words.subscriber words.accountWidth;
-            connection = part rest words.connection words.accountWidth;
-            limits =
+            lent =
+                record {
+                  tradeCount = getD rest words.tradeCount 0;
+                  holidays = part rest words.holidays holidaysMax;
+                  holidayCount = getD rest words.holidayCount 0;
+                  subscriber = part rest words.subscriber words.accountWidth;
+                  limits =
                 record {
                   ceiling = getD rest words.ceiling 0;
                   variance = getD rest words.variance 0;
                   poolsAMillion = getD rest words.poolsAMillion 0;
                   least = getD rest words.least 0;
                 };
+                };
             lastMessageId = getD rest words.lastMessageId 0;
-            outbound = outbound (getD rest words.outbound 0);
+            connection = record { id = part rest words.connection words.accountWidth; line = record { received = receivedIn (getD rest words.received 0) (getD rest words.number 0); expected = inbound (getD rest words.expected 0) }; outbound = outbound (getD rest words.outbound 0) };
           };
-      line = record { received = receivedIn (getD rest words.received 0) (getD rest words.number 0); expected = inbound (getD rest words.expected 0) };
       live = getD rest words.live 0;
     }
 

@@ -337,14 +337,14 @@ fn rest_words(book: Book) -> [u64; REST_WORDS]
     ensures { λ r. ⌜ r ≡ restImage book ⌝ }
 {
     let values = book.values;
-    let line = book.line;
-    let limits = values.limits;
+    let line = book.values.connection.line;
+    let limits = values.lent.limits;
     let received = line.received;
-    let holidays = values.holidays;
-    let subscriber = values.subscriber;
-    let connection = values.connection;
-    let count = values.tradeCount as u64;
-    let days = values.holidayCount as u64;
+    let holidays = values.lent.holidays;
+    let subscriber = values.lent.subscriber;
+    let connection = values.connection.id;
+    let count = values.lent.tradeCount as u64;
+    let days = values.lent.holidayCount as u64;
     let flag = flag_of(received);
     let last = last_of(received);
     let numbers = [
@@ -353,7 +353,7 @@ fn rest_words(book: Book) -> [u64; REST_WORDS]
         limits.poolsAMillion,
         limits.least,
         values.lastMessageId,
-        values.outbound.0 as u64,
+        values.connection.outbound.0 as u64,
         flag,
         last,
         line.expected.0 as u64,

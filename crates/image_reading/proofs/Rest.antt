@@ -44,16 +44,17 @@ module _ (rest : List ℕ) where
         values =
             record {
               trades = trades;
-              tradeCount = getD rest 0 0;
-              holidays = holidays;
-              holidayCount = getD rest 33 0;
-              subscriber = subscriber;
-              connection = connection;
-              limits = record { ceiling = getD rest 42 0; variance = getD rest 43 0; poolsAMillion = getD rest 44 0; least = getD rest 45 0 };
+              lent =
+                  record {
+                    tradeCount = getD rest 0 0;
+                    holidays = holidays;
+                    holidayCount = getD rest 33 0;
+                    subscriber = subscriber;
+                    limits = record { ceiling = getD rest 42 0; variance = getD rest 43 0; poolsAMillion = getD rest 44 0; least = getD rest 45 0 };
+                  };
               lastMessageId = getD rest 46 0;
-              outbound = outbound (getD rest 47 0);
+              connection = record { id = connection; line = record { received = received; expected = inbound (getD rest 50 0) }; outbound = outbound (getD rest 47 0) };
             };
-        line = record { received = received; expected = inbound (getD rest 50 0) };
         live = getD rest 51 0;
       })
       (bookFrom trades rest)

@@ -20,8 +20,13 @@ use Rattle.image_reading.specs.Reading.{noBook, readBook}
 -- a book of no trades, by its trades and its line
 pub none-given : (t : Trade) (l : Line) → t ≡ blank → l ≡ startLine
     → record {
-      values = record { trades = replicate 64 t; tradeCount = 0; holidays = replicate 32 0; holidayCount = 0; subscriber = replicate 4 0; connection = replicate 4 0; limits = record { ceiling = 0; variance = 0; poolsAMillion = 0; least = 0 }; lastMessageId = 0; outbound = outbound 0 };
-      line = l;
+      values =
+          record {
+            trades = replicate 64 t;
+            lent = record { tradeCount = 0; holidays = replicate 32 0; holidayCount = 0; subscriber = replicate 4 0; limits = record { ceiling = 0; variance = 0; poolsAMillion = 0; least = 0 } };
+            lastMessageId = 0;
+            connection = record { id = replicate 4 0; line = l; outbound = outbound 0 };
+          };
       live = 0;
     }
     ≡ noBook

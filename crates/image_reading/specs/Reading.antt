@@ -15,16 +15,17 @@ abbrev pub noBook : Book
 noBook = record {
   values = record {
     trades = replicate tradesMax blank;
-    tradeCount = 0;
-    holidays = replicate holidaysMax 0;
-    holidayCount = 0;
-    subscriber = replicate accountWidth 0;
-    connection = replicate accountWidth 0;
-    limits = record { ceiling = 0; variance = 0; poolsAMillion = 0; least = 0 };
+    lent =
+        record {
+          tradeCount = 0;
+          holidays = replicate holidaysMax 0;
+          holidayCount = 0;
+          subscriber = replicate accountWidth 0;
+          limits = record { ceiling = 0; variance = 0; poolsAMillion = 0; least = 0 };
+        };
     lastMessageId = 0;
-    outbound = outbound 0;
+    connection = record { id = replicate accountWidth 0; line = startLine; outbound = outbound 0 };
   };
-  line = startLine;
   live = 0;
 }
 

@@ -1,5 +1,7 @@
 // A book read back from its words. Words that are no book's are told.
 use book::Book;
+use book::Connection;
+use book::Lent;
 use book::Limits;
 use book::Trade;
 use book::Values;
@@ -218,22 +220,27 @@ fn read_rest(trades: [Trade; book::TRADES_MAX], rest: &[u64]) -> Book
         poolsAMillion: rest[image::POOLS_A_MILLION],
         least: rest[image::LEAST],
     };
-    let values = Values {
-        trades: trades,
+    let lent = Lent {
         tradeCount: rest[image::TRADE_COUNT] as usize,
         holidays: holidays,
         holidayCount: rest[image::HOLIDAY_COUNT] as usize,
         subscriber: subscriber,
-        connection: connection,
         limits: limits,
-        lastMessageId: rest[image::LAST_MESSAGE_ID],
-        outbound: Outbound(rest[image::OUTBOUND] as u32),
     };
-    Book {
-        values: values,
+    let connection = Connection {
+        id: connection,
         line: Line {
             received: received,
             expected: Inbound(rest[image::EXPECTED] as u32),
+        },
+        outbound: Outbound(rest[image::OUTBOUND] as u32),
+    };
+    Book {
+        values: Values {
+            trades: trades,
+            lent: lent,
+            lastMessageId: rest[image::LAST_MESSAGE_ID],
+            connection: connection,
         },
         live: rest[image::LIVE] as usize,
     }
@@ -267,25 +274,30 @@ fn no_book() -> Book
 {
     let none = image::no_trade();
     let trades = [none; book::TRADES_MAX];
-    let values = Values {
-        trades: trades,
+    let lent = Lent {
         tradeCount: 0,
         holidays: [0; book::HOLIDAYS_MAX],
         holidayCount: 0,
         subscriber: [0; 4],
-        connection: [0; 4],
         limits: Limits {
             ceiling: 0,
             variance: 0,
             poolsAMillion: 0,
             least: 0,
         },
-        lastMessageId: 0,
+    };
+    let connection = Connection {
+        id: [0; 4],
+        line: sequence::start(),
         outbound: Outbound(0),
     };
     Book {
-        values: values,
-        line: sequence::start(),
+        values: Values {
+            trades: trades,
+            lent: lent,
+            lastMessageId: 0,
+            connection: connection,
+        },
         live: 0,
     }
 }

@@ -18,9 +18,9 @@ use Rattle.book.proofs.Reached.{is-sound, at-par-blind}
 values-lent : (v : Values) → valuesFine (opened v .values) ≡ true → valuesFine v ≡ true
 unfolding opened
 values-lent v e =
-    let same : take (v .tradeCount) (map atPar (v .trades)) ≡ map atPar (tradesOf v) = take-map atPar (v .tradeCount) (v .trades) in
-    values-stay (opened v .values) (v .trades) (v .lastMessageId) (v .outbound) e (last-within (opened v .values) e) (outbound-within (opened v .values) e)
-    (sym (trades-alike (holidaysOf v) (take (v .tradeCount) (map atPar (v .trades))) (tradesOf v)
+    let same : take (v .lent .tradeCount) (map atPar (v .trades)) ≡ map atPar (tradesOf v) = take-map atPar (v .lent .tradeCount) (v .trades) in
+    values-stay (opened v .values) (v .trades) (v .lastMessageId) (v .connection .line) (v .connection .outbound) e (last-within (opened v .values) e) (outbound-within (opened v .values) e)
+    (sym (trades-alike (holidaysOf v) (take (v .lent .tradeCount) (map atPar (v .trades))) (tradesOf v)
     (ap (map (tradeFine (holidaysOf v))) same ∙ at-par-blind (tradeFine (holidaysOf v)) (λ (t : Trade). refl) (tradesOf v))
     (ap (map tradeName) same ∙ at-par-blind tradeName (λ (t : Trade). refl) (tradesOf v))))
 

@@ -48,17 +48,17 @@ module _ (line : Line) (last : Outbound) (number : Inbound) (arrival : Arrival) 
 module _ (book : Book) (body : List ℕ) (number : Inbound) (a : Answer) (en : number ≡ arrived body) where
   module _ (caller : Caller) (out : List ℕ) (ack : Acknowledged) (ek : ack ≡ acknowledged body a caller) (es : isSilent a ≡ false) where
     -- on a gap a TX, and the AA after it
-    pub told-out : (tx end : List ℕ) (told : Outbound) → isGap (arrivalOf (book .line) number) ≡ true
-        → tx ≡ pasted out 0 (txBytes (nextOutbound (book .values .outbound)) (book .values .subscriber) (book .values .connection) (book .line .expected) number)
-        → told ≡ nextOutbound (book .values .outbound)
-        → end ≡ pasted tx txLength (aaBytes (nextOutbound told) (book .values .subscriber) (book .values .connection) ack)
+    pub told-out : (tx end : List ℕ) (told : Outbound) → isGap (arrivalOf (book .values .connection .line) number) ≡ true
+        → tx ≡ pasted out 0 (txBytes (nextOutbound (book .values .connection .outbound)) (book .values .lent .subscriber) (book .values .connection .id) (book .values .connection .line .expected) number)
+        → told ≡ nextOutbound (book .values .connection .outbound)
+        → end ≡ pasted tx txLength (aaBytes (nextOutbound told) (book .values .lent .subscriber) (book .values .connection .id) ack)
         → end ≡ outputFor book body a caller out
     unfolding outputFor
     told-out tx end told g et ed ee = rw (es, sym en, g) (rw (et, ed, ek) at ee)
 
     -- else the AA alone
-    pub plain-out : (end : List ℕ) → isGap (arrivalOf (book .line) number) ≡ false
-        → end ≡ pasted out 0 (aaBytes (nextOutbound (book .values .outbound)) (book .values .subscriber) (book .values .connection) ack)
+    pub plain-out : (end : List ℕ) → isGap (arrivalOf (book .values .connection .line) number) ≡ false
+        → end ≡ pasted out 0 (aaBytes (nextOutbound (book .values .connection .outbound)) (book .values .lent .subscriber) (book .values .connection .id) ack)
         → end ≡ outputFor book body a caller out
     unfolding outputFor
     plain-out end g ee = rw (es, sym en, g) (rw ek at ee)
@@ -69,24 +69,18 @@ module _ (book : Book) (body : List ℕ) (number : Inbound) (a : Answer) (en : n
   silent-counters es = rw es
 
   -- after any other both move
-  pub moved-counters : (s : Bool) → s ≡ isSilent a → s ≡ false → (line : Line) (before last : Outbound) → line ≡ lineAfter (book .line) number
-      → before ≡ cond (isGap (arrivalOf (book .line) number)) (nextOutbound (book .values .outbound)) (book .values .outbound)
+  pub moved-counters : (s : Bool) → s ≡ isSilent a → s ≡ false → (line : Line) (before last : Outbound) → line ≡ lineAfter (book .values .connection .line) number
+      → before ≡ cond (isGap (arrivalOf (book .values .connection .line) number)) (nextOutbound (book .values .connection .outbound)) (book .values .connection .outbound)
       → last ≡ nextOutbound before
       → _≡_ {A = Book}
       (record {
         values =
             record {
               trades = book .values .trades;
-              tradeCount = book .values .tradeCount;
-              holidays = book .values .holidays;
-              holidayCount = book .values .holidayCount;
-              subscriber = book .values .subscriber;
-              connection = book .values .connection;
-              limits = book .values .limits;
+              lent = book .values .lent;
               lastMessageId = book .values .lastMessageId;
-              outbound = last;
+              connection = record { id = book .values .connection .id; line = line; outbound = last };
             };
-        line = line;
         live = book .live;
       })
       (withCounters book body a)

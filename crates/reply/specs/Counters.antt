@@ -12,15 +12,9 @@ withCounters book body a =
       values =
           record {
             trades = book .values .trades;
-            tradeCount = book .values .tradeCount;
-            holidays = book .values .holidays;
-            holidayCount = book .values .holidayCount;
-            subscriber = book .values .subscriber;
-            connection = book .values .connection;
-            limits = book .values .limits;
+            lent = book .values .lent;
             lastMessageId = book .values .lastMessageId;
-            outbound = outboundOf book body a;
+            connection = record { id = book .values .connection .id; line = lineOf book body a; outbound = outboundOf book body a };
           };
-      line = lineOf book body a;
       live = book .live;
     }

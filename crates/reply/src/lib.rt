@@ -2,6 +2,7 @@
 use acknowledgment::Acknowledged;
 use book::Answer;
 use book::Book;
+use book::Connection;
 use book::Caller;
 use sequence::Arrival;
 use sequence::Inbound;
@@ -86,10 +87,10 @@ pub fn put_reply(
     ensures { λ _. ⌜ now (out .exit) ≡ outputFor book (now (body .entry)) answer caller (now (out .entry)) ⌝ }
 {
     let values = book.values;
-    let line = book.line;
-    let subscriber = values.subscriber;
-    let connection = values.connection;
-    let last = values.outbound;
+    let line = book.values.connection.line;
+    let subscriber = values.lent.subscriber;
+    let connection = values.connection.id;
+    let last = values.connection.outbound;
     let expected = line.expected;
     let a = acknowledge(body, answer, caller);
     if is_gap(sequence::judge(line, number)) {
@@ -122,14 +123,20 @@ pub fn with_counters(book: Book, number: Inbound, answer: Answer) -> Book
     if answers::is_silent(answer) {
         return book;
     }
-    let line = book.line;
     let mut values = book.values;
-    let last = values.outbound;
+    let connection = values.connection;
+    let id = connection.id;
+    let line = connection.line;
+    let last = connection.outbound;
     let before = before_aa(line, last, number);
-    values.outbound = sequence::next(before);
+    let moved = Connection {
+        id: id,
+        line: sequence::after(line, number),
+        outbound: sequence::next(before),
+    };
+    values.connection = moved;
     Book {
         values: values,
-        line: sequence::after(line, number),
         live: book.live,
     }
 }

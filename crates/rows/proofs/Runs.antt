@@ -24,7 +24,7 @@ use Rattle.rows.specs.Runs.{runSum, weightShare, millionsShare, shareOf}
 pub above : (v : Values) (r : Pool) → recordFine v r ≡ true → 0 < r .message
 above v r e =
     let rest = leb 1 (r .ordinal) && (leb (r .current) elevenDigitsMax && kindFine r) in
-    let p = and-left (between 1 (v .lastMessageId) (r .message)) rest (and-right (ltb (r .trade) (v .tradeCount)) (between 1 (v .lastMessageId) (r .message) && rest) e) in
+    let p = and-left (between 1 (v .lastMessageId) (r .message)) rest (and-right (ltb (r .trade) (v .lent .tradeCount)) (between 1 (v .lastMessageId) (r .message) && rest) e) in
     leb-true 1 (r .message) (and-left (leb 1 (r .message)) (leb (r .message) (v .lastMessageId)) p)
 
 -- a record is the first of the lots that it has joined

@@ -52,7 +52,7 @@ module _ (b : Book) (ns ks : List (List ℕ)) (trade : ℕ) (sound : Bool) (is :
     facts : Sound b (tableOf ns ks)
     facts = is-sound b (tableOf ns ks) passes
 
-    pub few : b .values .tradeCount ≤ tradesMax
+    pub few : b .values .lent .tradeCount ≤ tradesMax
     few = few-trades (b .values) (facts .values)
 
     pub within : b .live ≤ length ns
@@ -65,15 +65,15 @@ module _ (b : Book) (ns ks : List (List ℕ)) (trade : ℕ) (sound : Bool) (is :
     light-rows = light (b .values) ns ks (b .live) within few (facts .records)
 
     module _ (l : length (b .values .trades) ≡ tradesMax) where
-      size : length (tradesOf (b .values)) ≡ b .values .tradeCount
-      size = length-take-le (b .values .tradeCount) (b .values .trades) (omega (arith, few))
+      size : length (tradesOf (b .values)) ≡ b .values .lent .tradeCount
+      size = length-take-le (b .values .lent .tradeCount) (b .values .trades) (omega (arith, few))
 
-      pub not-opened : b .values .tradeCount ≤ trade → Answer unknown
+      pub not-opened : b .values .lent .tradeCount ≤ trade → Answer unknown
       unfolding rowsSay figuresOf
-      not-opened h = rw (paired, passes, size, le-ltb trade (b .values .tradeCount) h)
+      not-opened h = rw (paired, passes, size, le-ltb trade (b .values .lent .tradeCount) h)
 
-      pub said : trade < b .values .tradeCount → (millions : ℕ) → ((js : List (List ℕ)) → millions ≡ runSum (shareOf trade millionsShare) 0 0 (take (b .live) (tableOf ns js)))
+      pub said : trade < b .values .lent .tradeCount → (millions : ℕ) → ((js : List (List ℕ)) → millions ≡ runSum (shareOf trade millionsShare) 0 0 (take (b .live) (tableOf ns js)))
           → Answer (record { known = true; openPar = getD (b .values .trades) trade noTrade .openPar; millions = millions })
       unfolding rowsSay figuresOf
       said h millions e =
-          rw (paired, passes, size, lt-ltb trade (b .values .tradeCount) h, e ks ∙ standing-runs (b .values) (take (b .live) (tableOf ns ks)) (facts .ordered) (facts .records) trade, getD-take (b .values .tradeCount) (b .values .trades) trade noTrade h)
+          rw (paired, passes, size, lt-ltb trade (b .values .lent .tradeCount) h, e ks ∙ standing-runs (b .values) (take (b .live) (tableOf ns ks)) (facts .ordered) (facts .records) trade, getD-take (b .values .lent .tradeCount) (b .values .trades) trade noTrade h)

@@ -56,7 +56,7 @@ pub fn trade_figures(
     ensures { λ r. ⌜ r ≡ rowsSay (now (numbers .entry)) (now (keys .entry)) book trade ⌝ }
 {
     let v = book.values;
-    let count = v.tradeCount;
+    let count = v.lent.tradeCount;
     let live = book.live;
     if !check_soundness::is_sound(book, numbers, keys) {
         return Figures {

@@ -63,8 +63,8 @@ trades-fine : (v : Values) → valuesFine v ≡ true → all (tradeFine (holiday
 unfolding valuesFine
 trades-fine v e =
     and-left (all (tradeFine (holidaysOf v)) (tradesOf v)) _
-    (past (leb (v .outbound .0) outboundMax) (past (leb (v .lastMessageId) elevenDigitsMax) (past (limitsFine (v .limits))
-    (past (accountFine (v .connection)) (past (accountFine (v .subscriber)) (past (all isDate (holidaysOf v)) (past (leb (v .tradeCount) tradesMax && leb (v .holidayCount) holidaysMax) e)))))))
+    (past (leb (v .connection .outbound .0) outboundMax) (past (leb (v .lastMessageId) elevenDigitsMax) (past (limitsFine (v .lent .limits))
+    (past (accountFine (v .connection .id)) (past (accountFine (v .lent .subscriber)) (past (all isDate (holidaysOf v)) (past (leb (v .lent .tradeCount) tradesMax && leb (v .lent .holidayCount) holidaysMax) e)))))))
   where
     past : (a : Bool) {b : Bool} → (a && b) ≡ true → b ≡ true
     past a {b} h = and-right a b h
@@ -109,29 +109,29 @@ module _ (b : Book) (ns ks : List (List ℕ)) (body : List ℕ) (asked : Asked) 
   size = length-take-le (b .live) (tableOf ns ks) (rw (length-table ns ks) within)
 
   -- ---- the trade concerned
-  short : length (tradesOf (b .values)) ≤ b .values .tradeCount
+  short : length (tradesOf (b .values)) ≤ b .values .lent .tradeCount
   short = rw length-take (omega arith)
 
   at-type : (k : MessageType) → typeOf body ≡ k → concerned (callOn b ns ks body asked) ≡ concernedFor k body (tradesOf (b .values)) (take (b .live) (tableOf ns ks))
   unfolding concernedBy
   at-type k e = ap (λ (j : MessageType). concernedFor j body (tradesOf (b .values)) (take (b .live) (tableOf ns ks))) e
 
-  target-trade : any (under (targetOf body)) (take (b .live) (tableOf ns ks)) ≡ true → targetTrade body (take (b .live) (tableOf ns ks)) < b .values .tradeCount
+  target-trade : any (under (targetOf body)) (take (b .live) (tableOf ns ks)) ≡ true → targetTrade body (take (b .live) (tableOf ns ks)) < b .values .lent .tradeCount
   unfolding targetTrade
   target-trade e =
       let f = keep-first (under (targetOf body)) (take (b .live) (tableOf ns ks)) e in
       let r = record-light (b .values) (f .0) (all-out (recordFine (b .values)) (f .1) (sure .records)) in
       rw (f .3 .1) (r .0)
 
-  pub trade-known : concerned (callOn b ns ks body asked) < b .values .tradeCount
+  pub trade-known : concerned (callOn b ns ks body asked) < b .values .lent .tradeCount
   trade-known = go (typeOf body) refl
     where
-      by-par : bringsLots (typeOf body) ≡ true → concerned (callOn b ns ks body asked) < b .values .tradeCount
+      by-par : bringsLots (typeOf body) ≡ true → concerned (callOn b ns ks body asked) < b .values .lent .tradeCount
       by-par o =
           let h = ltb-true (concerned (callOn b ns ks body asked)) (length (tradesOf (b .values))) (and-left (ltb (concerned (callOn b ns ks body asked)) (length (tradesOf (b .values)))) _ (facts .parEnough o)) in
           omega (arith, h, short)
 
-      go : (k : MessageType) → typeOf body ≡ k → concerned (callOn b ns ks body asked) < b .values .tradeCount
+      go : (k : MessageType) → typeOf body ≡ k → concerned (callOn b ns ks body asked) < b .values .lent .tradeCount
       go On e = by-par (ap bringsLots e)
       go Cc e = by-par (ap bringsLots e)
       go Dk e = rw (at-type Dk e) (target-trade (facts .targetLive (ap listsLots e)))
@@ -142,7 +142,7 @@ module _ (b : Book) (ns ks : List (List ℕ)) (body : List ℕ) (asked : Asked) 
   trade-few = omega (arith, x .decided .trade (x .passes), trade-known, few-trades (b .values) (sure .values))
 
   there : tradeAt (tradesOf (b .values)) (concerned (callOn b ns ks body asked)) ≡ getD (b .values .trades) (concerned (callOn b ns ks body asked)) noTrade
-  there = getD-take (b .values .tradeCount) (b .values .trades) (concerned (callOn b ns ks body asked)) noTrade trade-known
+  there = getD-take (b .values .lent .tradeCount) (b .values .trades) (concerned (callOn b ns ks body asked)) noTrade trade-known
 
   -- what comes is no more than what stands open and goes
   covers : broughtWeight body ≤ tradeAt (tradesOf (b .values)) (concerned (callOn b ns ks body asked)) .openPar + weightOfRecords (taken (callOn b ns ks body asked))
@@ -224,16 +224,10 @@ module _ (b : Book) (ns ks : List (List ℕ)) (body : List ℕ) (caller : Caller
         values =
             record {
               trades = moved;
-              tradeCount = counted .values .tradeCount;
-              holidays = counted .values .holidays;
-              holidayCount = counted .values .holidayCount;
-              subscriber = counted .values .subscriber;
-              connection = counted .values .connection;
-              limits = counted .values .limits;
+              lent = counted .values .lent;
               lastMessageId = b .values .lastMessageId + 1;
-              outbound = counted .values .outbound;
+              connection = record { id = counted .values .connection .id; line = counted .values .connection .line; outbound = counted .values .connection .outbound };
             };
-        line = counted .line;
         live = n;
       })
       (bookAfter (callOn b ns ks body (askedBy caller (length out))))
@@ -262,16 +256,10 @@ module _ (b : Book) (ns ks : List (List ℕ)) (body : List ℕ) (caller : Caller
               values =
                   record {
                     trades = moved;
-                    tradeCount = counted .values .tradeCount;
-                    holidays = counted .values .holidays;
-                    holidayCount = counted .values .holidayCount;
-                    subscriber = counted .values .subscriber;
-                    connection = counted .values .connection;
-                    limits = counted .values .limits;
+                    lent = counted .values .lent;
                     lastMessageId = b .values .lastMessageId + 1;
-                    outbound = counted .values .outbound;
+                    connection = record { id = counted .values .connection .id; line = counted .values .connection .line; outbound = counted .values .connection .outbound };
                   };
-              line = counted .line;
               live = n;
             };
         answer = Accepted (b .values .lastMessageId + 1);

@@ -124,14 +124,12 @@ fn accept(
         trade as u64,
     );
     reply::put_reply(book, body, number, answer, caller, &mut *out);
-    let line = counted.line;
     let mut after = counted.values;
     after.trades = moved;
     after.lastMessageId = message;
     Stepped {
         book: Book {
             values: after,
-            line: line,
             live: live,
         },
         answer: answer,

@@ -37,7 +37,7 @@ pub book-value : Machine B.the-type B′.the-laws
 book-value = machine B.the-type B′.the-laws B′.the-plain
 
 pub live-fits : (b : Book) → Is BookR b (bookVals b) → b .live < 2 ^ 64
-live-fits b g = LL.owed B.the-type B′.the-laws b (bookVals b) g .1 .1 .0 .1
+live-fits b g = LL.owed B.the-type B′.the-laws b (bookVals b) g .1 .0 .1
 
 -- ---- what a frame call gives back
 abbrev pub SteppedR : RattleType

@@ -11,7 +11,7 @@ start-requires : tie.Need-start-requires
 start-requires c κs = search needs
 
 returns : tie.Need-returns
-returns c = opened-is (c .before .before .before .args .v) _ _ (c .before .all-at-par .ensures) (c .start .ensures)
+returns c = opened-is (c .before .before .before .before .before .before .args .v) _ _ (c .before .before .before .before .all-at-par .ensures) (c .start .ensures)
 
 pub opened-book-spec : {M : Type 1} → statement M
 opened-book-spec = tie.close (tie.spec all-at-par-requires start-requires returns)

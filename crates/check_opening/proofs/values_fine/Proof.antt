@@ -9,8 +9,8 @@ use Rattle.check_opening.proofs.Rules.{many-trades, many-holidays, valu
 use Rattle.check_opening.proofs.values_fine.Statement.{statement}
 use Rattle.check_opening.proofs.values_fine.Tie as tie
 
-thirty-two : (c : tie.Start) → length (c .args .v .holidays) ≡ 32
-thirty-two c = sym (length-map (c .args .v .holidays) _) ∙ c .good .0 .1 .1 .1 .1 .0 .1 .0 .1
+thirty-two : (c : tie.Start) → length (c .args .v .lent .holidays) ≡ 32
+thirty-two c = sym (length-map (c .args .v .lent .holidays) _) ∙ c .good .0 .1 .1 .1 .0 .1 .1 .1 .0 .1 .0 .1
 
 returns : tie.Need-returns
 returns c = many-trades (c .before .args .v) (c .if1 .taken)
@@ -22,7 +22,7 @@ array-share-prefix-holidays : tie.Need-array-share-prefix-holidays
 array-share-prefix-holidays c = omega (arith, thirty-two (c .before .before .before .before .before .before .before))
 
 slice-aggregate-listed : tie.Need-slice-aggregate-listed
-slice-aggregate-listed c = sym (length-take-le (c .before .before .before .before .before .before .before .before .args .v .holidayCount) (c .before .before .before .before .before .before .before .before .args .v .holidays) (omega (arith, thirty-two (c .before .before .before .before .before .before .before .before))))
+slice-aggregate-listed c = sym (length-take-le (c .before .before .before .before .before .before .before .before .args .v .lent .holidayCount) (c .before .before .before .before .before .before .before .before .args .v .lent .holidays) (omega (arith, thirty-two (c .before .before .before .before .before .before .before .before))))
 
 all-dates-requires : tie.Need-all-dates-requires
 all-dates-requires c κs = search needs

@@ -16,7 +16,7 @@ is-duplicate-requires : tie.Need-is-duplicate-requires
 is-duplicate-requires c κs = search needs
 
 returns : tie.Need-returns
-returns c = c .is-duplicate .ensures ∙ ap isDuplicate (c .before .judge .ensures ∙ ap (arrivalOf (c .before .before .before .before .before .args .book .line)) (c .before .before .arrived .ensures))
+returns c = c .is-duplicate .ensures ∙ ap isDuplicate (c .before .judge .ensures ∙ ap (arrivalOf (c .before .before .before .before .before .args .book .values .connection .line)) (c .before .before .arrived .ensures))
 
 pub repeats-spec : {M : Type 1} → statement M
 repeats-spec = tie.close (tie.spec arrived-requires judge-requires is-duplicate-requires returns)

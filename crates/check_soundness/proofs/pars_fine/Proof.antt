@@ -42,13 +42,13 @@ returns : tie.Need-returns Inv-loop μ-loop
 returns c =
     let a = c .before .before .before .before .before .before .before .args in
     let l = c .before .before .before .before .loop in
-    pars-heavy (a .v .trades) (a .v .tradeCount) (a .numbers .now) (a .live) (l .i) (l .inv .1) (c .before .before .before .before .before .weights .result) (c .before .before .before .before .before .weights .ensures) (a .v) (c .before .before .before .before .before .before .before .pre .4) (omega arith) (sixty-four (c .before .before .before .before .before .before .before)) (omega arith) (c .if1 .taken)
+    pars-heavy (a .v .trades) (a .v .lent .tradeCount) (a .numbers .now) (a .live) (l .i) (l .inv .1) (c .before .before .before .before .before .weights .result) (c .before .before .before .before .before .weights .ensures) (a .v) (c .before .before .before .before .before .before .before .pre .4) (omega arith) (sixty-four (c .before .before .before .before .before .before .before)) (omega arith) (c .if1 .taken)
 
 returns-2 : tie.Need-returns-2 Inv-loop μ-loop
 returns-2 c =
     let a = c .before .before .before .before .before .before .before .before .before .before .args in
     let l = c .before .before .before .before .before .before .before .loop in
-    pars-other (a .v .trades) (a .v .tradeCount) (a .numbers .now) (a .live) (l .i) (l .inv .1) (c .before .before .before .before .before .before .before .before .weights .result) (c .before .before .before .before .before .before .before .before .weights .ensures) (a .v) (c .before .before .before .before .before .before .before .before .before .before .pre .4) (omega arith) (sixty-four (c .before .before .before .before .before .before .before .before .before .before)) (omega arith) (c .before .before .before .if1 .left) (c .if2 .taken)
+    pars-other (a .v .trades) (a .v .lent .tradeCount) (a .numbers .now) (a .live) (l .i) (l .inv .1) (c .before .before .before .before .before .before .before .before .weights .result) (c .before .before .before .before .before .before .before .before .weights .ensures) (a .v) (c .before .before .before .before .before .before .before .before .before .before .pre .4) (omega arith) (sixty-four (c .before .before .before .before .before .before .before .before .before .before)) (omega arith) (c .before .before .before .if1 .left) (c .if2 .taken)
 
 loop-less : tie.Need-loop-less Inv-loop μ-loop
 loop-less c = omega arith
@@ -57,13 +57,13 @@ loop-again : tie.Need-loop-again Inv-loop μ-loop
 loop-again c =
     let a = c .before .before .before .before .before .before .before .before .before .before .args in
     let l = c .before .before .before .before .before .before .before .loop in
-    (omega arith, pars-more (a .v .trades) (a .v .tradeCount) (a .numbers .now) (a .live) (l .i) (l .inv .1) (c .before .before .before .before .before .before .before .before .weights .result) (c .before .before .before .before .before .before .before .before .weights .ensures) (a .v) (c .before .before .before .before .before .before .before .before .before .before .pre .4) (omega arith) (sixty-four (c .before .before .before .before .before .before .before .before .before .before)) (omega arith) (c .before .before .before .if1 .left) (c .if2 .left))
+    (omega arith, pars-more (a .v .trades) (a .v .lent .tradeCount) (a .numbers .now) (a .live) (l .i) (l .inv .1) (c .before .before .before .before .before .before .before .before .weights .result) (c .before .before .before .before .before .before .before .before .weights .ensures) (a .v) (c .before .before .before .before .before .before .before .before .before .before .pre .4) (omega arith) (sixty-four (c .before .before .before .before .before .before .before .before .before .before)) (omega arith) (c .before .before .before .if1 .left) (c .if2 .left))
 
 returns-3 : tie.Need-returns-3 Inv-loop μ-loop
 returns-3 c =
     let a = c .before .before .before .before .args in
     let l = c .before .loop in
-    pars-done (a .v .trades) (a .v .tradeCount) (a .numbers .now) (a .live) (l .i) (l .inv .1) (c .loop-test .left)
+    pars-done (a .v .trades) (a .v .lent .tradeCount) (a .numbers .now) (a .live) (l .i) (l .inv .1) (c .loop-test .left)
 
 pub pars-fine-spec : {M : Type 1} → statement M
 pars-fine-spec =

@@ -49,7 +49,7 @@ returns-3 c =
     let s = c .before .before .before .before .before .before .before .before .before .before .before in
     let a = s .args in
     id-past (a .body .now) (tradesOf (a .t2)) (a .target) _ _ (sym (c .before .before .before .before .before .before .before .before .before .trade-id-in .ensures) ∙ c .before .before .before .before .id .given .1) _ (c .before .before .find-named .ensures)
-    (omega (arith, trade-count (a .t2 .trades) (a .t2 .tradeCount) _ (sixty-four s) (c .before .lesser .ensures), c .if2 .taken))
+    (omega (arith, trade-count (a .t2 .trades) (a .t2 .lent .tradeCount) _ (sixty-four s) (c .before .lesser .ensures), c .if2 .taken))
 
 message-type-requires : tie.Need-message-type-requires
 message-type-requires c κs = search needs
@@ -71,8 +71,8 @@ returns-4 c =
     let s = c .before .before .before .before .before .before .before .before .before .before .before .before .before .before .before .before in
     let a = s .args in
     id-fine (a .body .now) (tradesOf (a .t2)) (a .target) _ _ (sym (c .before .before .before .before .before .before .before .before .before .before .before .before .before .before .trade-id-in .ensures) ∙ c .before .before .before .before .before .before .before .before .before .id .given .1) _ (c .before .before .before .before .before .before .before .find-named .ensures)
-    (omega (arith, trade-count (a .t2 .trades) (a .t2 .tradeCount) _ (sixty-four s) (c .before .before .before .before .before .before .lesser .ensures), c .before .before .before .before .before .if2 .left)) _
-    (trade-there (a .t2 .trades) (a .t2 .tradeCount) _ (sixty-four s) (c .before .before .before .before .before .before .lesser .ensures) (c .before .before .before .before .before .before .before .find-named .result) (c .before .before .before .before .before .if2 .left)) _ _ (c .before .agrees .ensures)
+    (omega (arith, trade-count (a .t2 .trades) (a .t2 .lent .tradeCount) _ (sixty-four s) (c .before .before .before .before .before .before .lesser .ensures), c .before .before .before .before .before .if2 .left)) _
+    (trade-there (a .t2 .trades) (a .t2 .lent .tradeCount) _ (sixty-four s) (c .before .before .before .before .before .before .lesser .ensures) (c .before .before .before .before .before .before .before .find-named .result) (c .before .before .before .before .before .if2 .left)) _ _ (c .before .agrees .ensures)
     (c .before .before .is-on .ensures ∙ ap isOn (c .before .before .before .before .message-type .ensures)) (c .if3 .taken)
 
 returns-5 : tie.Need-returns-5
@@ -80,8 +80,8 @@ returns-5 c =
     let s = c .before .before .before .before .before .before .before .before .before .before .before .before .before .before .before .before in
     let a = s .args in
     id-unlike (a .body .now) (tradesOf (a .t2)) (a .target) _ _ (sym (c .before .before .before .before .before .before .before .before .before .before .before .before .before .before .trade-id-in .ensures) ∙ c .before .before .before .before .before .before .before .before .before .id .given .1) _ (c .before .before .before .before .before .before .before .find-named .ensures)
-    (omega (arith, trade-count (a .t2 .trades) (a .t2 .tradeCount) _ (sixty-four s) (c .before .before .before .before .before .before .lesser .ensures), c .before .before .before .before .before .if2 .left)) _
-    (trade-there (a .t2 .trades) (a .t2 .tradeCount) _ (sixty-four s) (c .before .before .before .before .before .before .lesser .ensures) (c .before .before .before .before .before .before .before .find-named .result) (c .before .before .before .before .before .if2 .left)) _ _ (c .before .agrees .ensures)
+    (omega (arith, trade-count (a .t2 .trades) (a .t2 .lent .tradeCount) _ (sixty-four s) (c .before .before .before .before .before .before .lesser .ensures), c .before .before .before .before .before .if2 .left)) _
+    (trade-there (a .t2 .trades) (a .t2 .lent .tradeCount) _ (sixty-four s) (c .before .before .before .before .before .before .lesser .ensures) (c .before .before .before .before .before .before .before .find-named .result) (c .before .before .before .before .before .if2 .left)) _ _ (c .before .agrees .ensures)
     (c .before .before .is-on .ensures ∙ ap isOn (c .before .before .before .before .message-type .ensures)) (c .if3 .left)
 
 pub id-verdict-spec : {M : Type 1} → statement M

@@ -45,7 +45,7 @@ returns : tie.Need-returns Inv-loop μ-loop
 returns c =
     let a = c .before .before .before .before .before .before .before .before .args in
     let l = c .before .before .before .before .loop in
-    let turn = trade-turn (a .t2 .trades) (a .t2 .tradeCount) _ (sixty-four (c .before .before .before .before .before .before .before .before)) (c .before .before .before .before .before .lesser .ensures) (l .i) (c .before .before .before .loop-test .taken) in
+    let turn = trade-turn (a .t2 .trades) (a .t2 .lent .tradeCount) _ (sixty-four (c .before .before .before .before .before .before .before .before)) (c .before .before .before .before .before .lesser .ensures) (l .i) (c .before .before .before .loop-test .taken) in
     sym (any-stop (agrees (a .body .now)) turn (sym (c .before .agrees-as .ensures) ∙ c .if1 .taken)) ∙ l .inv .1
 
 loop-less : tie.Need-loop-less Inv-loop μ-loop
@@ -55,14 +55,14 @@ loop-again : tie.Need-loop-again Inv-loop μ-loop
 loop-again c =
     let a = c .before .before .before .before .before .before .before .before .args in
     let l = c .before .before .before .before .loop in
-    let turn = trade-turn (a .t2 .trades) (a .t2 .tradeCount) _ (sixty-four (c .before .before .before .before .before .before .before .before)) (c .before .before .before .before .before .lesser .ensures) (l .i) (c .before .before .before .loop-test .taken) in
+    let turn = trade-turn (a .t2 .trades) (a .t2 .lent .tradeCount) _ (sixty-four (c .before .before .before .before .before .before .before .before)) (c .before .before .before .before .before .lesser .ensures) (l .i) (c .before .before .before .loop-test .taken) in
     (omega arith, sym (any-more (agrees (a .body .now)) turn (sym (c .before .agrees-as .ensures) ∙ c .if1 .left)) ∙ l .inv .1)
 
 returns-2 : tie.Need-returns-2 Inv-loop μ-loop
 returns-2 c =
     let a = c .before .before .before .before .before .args in
     let l = c .before .loop in
-    sym (ap (any (agrees (a .body .now))) (trade-done (a .t2 .trades) (a .t2 .tradeCount) _ (sixty-four (c .before .before .before .before .before)) (c .before .before .lesser .ensures) (l .i) (c .loop-test .left))) ∙ l .inv .1
+    sym (ap (any (agrees (a .body .now))) (trade-done (a .t2 .trades) (a .t2 .lent .tradeCount) _ (sixty-four (c .before .before .before .before .before)) (c .before .before .lesser .ensures) (l .i) (c .loop-test .left))) ∙ l .inv .1
 
 pub some-agrees-spec : {M : Type 1} → statement M
 some-agrees-spec =

@@ -51,7 +51,7 @@ returns-3 c =
     let a = s .args in
     let on : isOn (typeOf (a .body .now)) ≡ false = sym (c .before .before .before .is-on .ensures ∙ ap isOn (c .before .before .before .before .message-type .ensures)) ∙ c .before .before .if1 .left in
     terms-past (a .body .now) (tradesOf (a .t2)) (a .target) (sym (c .before .before .before .before .before .before .before .trade-id-in .ensures) ∙ c .before .before .before .before .before .enum-told .given .1) on
-    (omega (arith, trade-count (a .t2 .trades) (a .t2 .tradeCount) _ (sixty-four s) (c .before .lesser .ensures), c .if2 .taken))
+    (omega (arith, trade-count (a .t2 .trades) (a .t2 .lent .tradeCount) _ (sixty-four s) (c .before .lesser .ensures), c .if2 .taken))
 
 mul-t : tie.Need-mul-t
 mul-t c = omega (arith, c .before .lesser .ensures)
@@ -68,7 +68,7 @@ returns-4 c =
     let a = s .args in
     let on : isOn (typeOf (a .body .now)) ≡ false = sym (c .before .before .before .before .before .is-on .ensures ∙ ap isOn (c .before .before .before .before .before .before .message-type .ensures)) ∙ c .before .before .before .before .if1 .left in
     terms-at (a .body .now) (tradesOf (a .t2)) (a .target) (sym (c .before .before .before .before .before .before .before .before .before .trade-id-in .ensures) ∙ c .before .before .before .before .before .before .before .enum-told .given .1) on _
-    (trade-there (a .t2 .trades) (a .t2 .tradeCount) _ (sixty-four s) (c .before .before .before .lesser .ensures) (a .target) (c .before .before .if2 .left)) _ (c .agrees .ensures)
+    (trade-there (a .t2 .trades) (a .t2 .lent .tradeCount) _ (sixty-four s) (c .before .before .before .lesser .ensures) (a .target) (c .before .before .if2 .left)) _ (c .agrees .ensures)
 
 pub terms-fail-spec : {M : Type 1} → statement M
 terms-fail-spec =

@@ -43,7 +43,7 @@ returns c =
 returns-2 : tie.Need-returns-2
 returns-2 c =
     let s = c .before .before .before .before .before in
-    trade-count (s .args .v .trades) (s .args .v .tradeCount) _ (sixty-four s) (c .lesser .ensures) ∙ on-broken (s .args .body .now) (tradesOf (s .args .v)) (sym (c .before .before .before .trade-id-in .ensures) ∙ c .before .enum-told .given .1)
+    trade-count (s .args .v .trades) (s .args .v .lent .tradeCount) _ (sixty-four s) (c .lesser .ensures) ∙ on-broken (s .args .body .now) (tradesOf (s .args .v)) (sym (c .before .before .before .trade-id-in .ensures) ∙ c .before .enum-told .given .1)
 
 returns-3 : tie.Need-returns-3
 returns-3 c =

@@ -43,7 +43,7 @@ returns : tie.Need-returns
 returns c =
     let a = c .before .before .before .before .before .before .before .before .before .before .before .before .before .args in
     parties-are (a .v) (a .body .now) _ _ _ _ _ (c .before .before .before .before .before .before .column-is .ensures) (c .before .before .before .before .column-is2 .ensures)
-    (c .some-side .ensures ∙ ap (any (isSide (a .body .now))) (take-lesser {A = Trade} (a .v .trades) (a .v .tradeCount) 64 (sixty-four (c .before .before .before .before .before .before .before .before .before .before .before .before .before)) _ (c .before .before .before .before .before .before .before .before .lesser .ensures)))
+    (c .some-side .ensures ∙ ap (any (isSide (a .body .now))) (take-lesser {A = Trade} (a .v .trades) (a .v .lent .tradeCount) 64 (sixty-four (c .before .before .before .before .before .before .before .before .before .before .before .before .before)) _ (c .before .before .before .before .before .before .before .before .lesser .ensures)))
     (c .before .before .column-is3 .ensures) (c .before .is-stipulated .ensures)
 
 pub parties-fine-spec : {M : Type 1} → statement M

@@ -8,8 +8,8 @@ use borrow.Author.Needs.{needs}
 use Rattle.header.proofs.settlement_fails.Statement.{statement}
 use Rattle.header.proofs.settlement_fails.Tie as tie
 
-thirty-two : (c : tie.Start) → length (c .args .v .holidays) ≡ 32
-thirty-two c = sym (length-map (c .args .v .holidays) _) ∙ c .good .0 .1 .1 .1 .1 .0 .1 .0 .1
+thirty-two : (c : tie.Start) → length (c .args .v .lent .holidays) ≡ 32
+thirty-two c = sym (length-map (c .args .v .lent .holidays) _) ∙ c .good .0 .1 .1 .1 .0 .1 .1 .1 .0 .1 .0 .1
 
 lesser-requires : tie.Need-lesser-requires
 lesser-requires c κs = search needs
@@ -21,13 +21,13 @@ array-share-prefix-holidays : tie.Need-array-share-prefix-holidays
 array-share-prefix-holidays c = omega (arith, thirty-two (c .before .before .before .before), c .before .before .lesser .ensures)
 
 slice-aggregate-is-no-business-date : tie.Need-slice-aggregate-is-no-business-date
-slice-aggregate-is-no-business-date c = sym (length-take-le _ (c .before .before .before .before .before .args .v .holidays) (omega (arith, thirty-two (c .before .before .before .before .before), c .before .before .before .lesser .ensures)))
+slice-aggregate-is-no-business-date c = sym (length-take-le _ (c .before .before .before .before .before .args .v .lent .holidays) (omega (arith, thirty-two (c .before .before .before .before .before), c .before .before .before .lesser .ensures)))
 
 is-no-business-date-requires : tie.Need-is-no-business-date-requires
 is-no-business-date-requires c κs = search needs
 
 returns : tie.Need-returns
-returns c = cc (take-lesser (c .before .before .before .before .before .before .args .v .holidays) (c .before .before .before .before .before .before .args .v .holidayCount) 32 (thirty-two (c .before .before .before .before .before .before)) _ (c .before .before .before .before .lesser .ensures))
+returns c = cc (take-lesser (c .before .before .before .before .before .before .args .v .lent .holidays) (c .before .before .before .before .before .before .args .v .lent .holidayCount) 32 (thirty-two (c .before .before .before .before .before .before)) _ (c .before .before .before .before .lesser .ensures))
 
 pub settlement-fails-spec : {M : Type 1} → statement M
 settlement-fails-spec =

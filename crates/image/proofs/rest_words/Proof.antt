@@ -30,8 +30,8 @@ returns c =
     let v = s .args .book .values in
     let good = s .good .0 .1 .1 .0 .1 .1 in
     c .rest-row .ensures
-    ∙ rest-made (s .args .book) _ _ (c .before .account-words .result) (c .before .before .before .before .before .flag-of .ensures) (c .before .before .before .before .last-of .ensures) (field-length _ (v .holidays) (good .1 .1 .0 .1 .0 .1))
-    (field-length _ (v .subscriber) (good .1 .1 .1 .1 .0 .1 .0 .1)) (field-length _ (v .connection) (good .1 .1 .1 .1 .1 .0 .1 .0 .1)) (c .before .account-words .ensures)
+    ∙ rest-made (s .args .book) _ _ (c .before .account-words .result) (c .before .before .before .before .before .flag-of .ensures) (c .before .before .before .before .last-of .ensures) (field-length _ (v .lent .holidays) (good .1 .0 .1 .1 .1 .0 .1 .0 .1))
+    (field-length _ (v .lent .subscriber) (good .1 .0 .1 .1 .1 .1 .1 .0 .1 .0 .1)) (field-length _ (v .connection .id) (good .1 .1 .1 .0 .1 .1 .0 .1 .0 .1)) (c .before .account-words .ensures)
 
 pub rest-words-spec : {M : Type 1} → statement M
 rest-words-spec =

@@ -33,41 +33,41 @@ shared-slice-read-read-received-2 c = search needs
 read-received-requires : tie.Need-read-received-requires
 read-received-requires c κs = let s = c .before .before .before .before .before .before .before .before .before .before .before .before in rest-received (s .args .rest .now) (s .pre .1)
 
-shared-slice-read-t17 : tie.Need-shared-slice-read-t17
-shared-slice-read-t17 c = search needs
+shared-slice-read-t18 : tie.Need-shared-slice-read-t18
+shared-slice-read-t18 c = search needs
 
-shared-slice-read-t19 : tie.Need-shared-slice-read-t19
-shared-slice-read-t19 c = search needs
+shared-slice-read-t20 : tie.Need-shared-slice-read-t20
+shared-slice-read-t20 c = search needs
 
-shared-slice-read-t23 : tie.Need-shared-slice-read-t23
-shared-slice-read-t23 c = search needs
+shared-slice-read-t24 : tie.Need-shared-slice-read-t24
+shared-slice-read-t24 c = search needs
 
-shared-slice-read-t25 : tie.Need-shared-slice-read-t25
-shared-slice-read-t25 c = search needs
+shared-slice-read-t26 : tie.Need-shared-slice-read-t26
+shared-slice-read-t26 c = search needs
 
-shared-slice-read-t17-2 : tie.Need-shared-slice-read-t17-2
-shared-slice-read-t17-2 c = search needs
+shared-slice-read-t18-2 : tie.Need-shared-slice-read-t18-2
+shared-slice-read-t18-2 c = search needs
 
-shared-slice-read-t25-2 : tie.Need-shared-slice-read-t25-2
-shared-slice-read-t25-2 c = search needs
+shared-slice-read-t26-2 : tie.Need-shared-slice-read-t26-2
+shared-slice-read-t26-2 c = search needs
 
-shared-slice-read-t23-2 : tie.Need-shared-slice-read-t23-2
-shared-slice-read-t23-2 c = search needs
+shared-slice-read-t24-2 : tie.Need-shared-slice-read-t24-2
+shared-slice-read-t24-2 c = search needs
 
-shared-slice-read-t19-2 : tie.Need-shared-slice-read-t19-2
-shared-slice-read-t19-2 c = search needs
+cast-t34 : tie.Need-cast-t34
+cast-t34 c = let s = c .before .before .before .before .before .before .before .before .before .before .before .before .before .before .before .before .before .before .before .before in omega (arith, rest-expected (s .args .rest .now) (s .pre .1))
 
-cast-t35 : tie.Need-cast-t35
-cast-t35 c = let s = c .before .before .before .before .before .before .before .before .before .before .before .before .before .before .before .before .before .before .before .before .before in omega (arith, rest-outbound (s .args .rest .now) (s .pre .1))
+shared-slice-read-t20-2 : tie.Need-shared-slice-read-t20-2
+shared-slice-read-t20-2 c = search needs
 
-shared-slice-read-t17-3 : tie.Need-shared-slice-read-t17-3
-shared-slice-read-t17-3 c = search needs
+cast-t38 : tie.Need-cast-t38
+cast-t38 c = let s = c .before .before .before .before .before .before .before .before .before .before .before .before .before .before .before .before .before .before .before .before .before in omega (arith, rest-outbound (s .args .rest .now) (s .pre .1))
 
-cast-t35-2 : tie.Need-cast-t35-2
-cast-t35-2 c = let s = c .before .before .before .before .before .before .before .before .before .before .before .before .before .before .before .before .before .before .before .before .before .before in omega (arith, rest-expected (s .args .rest .now) (s .pre .1))
+shared-slice-read-t26-3 : tie.Need-shared-slice-read-t26-3
+shared-slice-read-t26-3 c = search needs
 
-shared-slice-read-t25-3 : tie.Need-shared-slice-read-t25-3
-shared-slice-read-t25-3 c = search needs
+shared-slice-read-t18-3 : tie.Need-shared-slice-read-t18-3
+shared-slice-read-t18-3 c = search needs
 
 returns : tie.Need-returns
 returns c = let s = c .before .before .before .before .before .before .before .before .before .before .before .before .before .before .before .before .before .before .before .before .before .before .before in rest-read (s .args .rest .now) (s .args .trades) _ _ _ _ (c .before .before .before .before .before .before .before .before .before .before .before .before .before .before .before .before .before .before .before .before .read-numbers .ensures) (c .before .before .before .before .before .before .before .before .before .before .before .before .before .before .before .before .before .read-bytes .ensures) (c .before .before .before .before .before .before .before .before .before .before .before .before .before .before .read-bytes2 .ensures) (c .before .before .before .before .before .before .before .before .before .before .read-received .ensures)
@@ -85,16 +85,16 @@ read-rest-spec =
     shared-slice-read-read-received
     shared-slice-read-read-received-2
     read-received-requires
-    shared-slice-read-t17
-    shared-slice-read-t19
-    shared-slice-read-t23
-    shared-slice-read-t25
-    shared-slice-read-t17-2
-    shared-slice-read-t25-2
-    shared-slice-read-t23-2
-    shared-slice-read-t19-2
-    cast-t35
-    shared-slice-read-t17-3
-    cast-t35-2
-    shared-slice-read-t25-3
+    shared-slice-read-t18
+    shared-slice-read-t20
+    shared-slice-read-t24
+    shared-slice-read-t26
+    shared-slice-read-t18-2
+    shared-slice-read-t26-2
+    shared-slice-read-t24-2
+    cast-t34
+    shared-slice-read-t20-2
+    cast-t38
+    shared-slice-read-t26-3
+    shared-slice-read-t18-3
     returns)

@@ -20,9 +20,9 @@ after-requires : tie.Need-after-requires
 after-requires c κs = search needs
 
 returns-2 : tie.Need-returns-2
-returns-2 c = λ body e. moved-counters (c .before .before .before .before .before .before .before .before .args .book) body (c .before .before .before .before .before .before .before .before .args .number) (c .before .before .before .before .before .before .before .before .args .answer) e _ (c .before .before .before .before .before .before .before .is-silent .ensures) (c .before .before .before .before .before .before .if1 .left) _ _ _ (c .after .ensures) (c .before .before .before-aa .ensures) (c .before .next .ensures)
+returns-2 c = λ body e. moved-counters (c .before .before .before .before .before .before .before .before .before .before .args .book) body (c .before .before .before .before .before .before .before .before .before .before .args .number) (c .before .before .before .before .before .before .before .before .before .before .args .answer) e _ (c .before .before .before .before .before .before .before .before .before .is-silent .ensures) (c .before .before .before .before .before .before .before .before .if1 .left) _ _ _ (c .before .after .ensures) (c .before .before .before-aa .ensures) (c .next .ensures)
 
 pub with-counters-spec : {M : Type 1} → statement M
 with-counters-spec =
     tie.close
-    (tie.spec is-silent-requires returns before-aa-requires next-requires after-requires returns-2)
+    (tie.spec is-silent-requires returns before-aa-requires after-requires next-requires returns-2)

@@ -265,7 +265,7 @@ module _ {M : Type 1} (𝓤 : URA M) (H : Heap 𝓤) (A : Atoms 𝓤) (W : Given
         use3 W (raw (Stage 𝓤 H A mem run .pre (to-stage l₄ l₅ ν δ ν₂ δ₂))) (goes-stage l₄ l₅ ν δ ν₂ δ₂ (live-fits k gk) (rows-enough (length ys) (k .live) (length us) many-us, rows-enough (length ys) (k .live) (length vs) many-vs)) $
         -- [what `load_rows` asks; pools; the lender's part of keys, of numbers; _17 at 4; …; _12 at 14; …; _10 at 18; …; _2 at 32; _1 at 34; _0 at 36]
         calls-at ! (fmOf 𝓤 H (W .laws) 𝓣) (Stage 𝓤 H A mem run) known-stage (to-stage l₄ l₅ ν δ ν₂ δ₂)
-        (and-then ! (load ! (from ! (stop !)) (look ! 32 refl)) (and-then ! (load ! (from ! (fld ! refl (stop !))) (look-in ! 34 (sub ! 2 refl (whole !)))) (and-then ! (load ! (from ! (stop !)) (look ! 18 refl)) (and-then ! (load ! (from ! (stop !)) (look ! 14 refl)) (no-more !))))) (λ w.
+        (and-then ! (load ! (from ! (stop !)) (look ! 32 refl)) (and-then ! (load ! (from ! (fld ! refl (stop !))) (look-in ! 34 (sub ! 1 refl (whole !)))) (and-then ! (load ! (from ! (stop !)) (look ! 18 refl)) (and-then ! (load ! (from ! (stop !)) (look ! 14 refl)) (no-more !))))) (λ w.
         use1 W (later (some (λ (r : Bool). (StageTokens l₄ l₅ ν ν₂ ⊛ ‵ (bool .own r (w ∷ []))) ⊛ raw (ensured 𝓤 H A sg.ended (sg.clauses 𝓤 H A mem run) (κ, (ν ∷ [], (ν₂ ∷ [], tt))) (stage-args l₄ l₅ δ δ₂) tt r)))) (id⊢ 𝓤 _) $ await ! tt $ pick ! (λ rest.
         split ! $ move ! (1 ∷ []) $ use1 W (some (λ (zs : Last). ‵ (lasts sg.ended (κ, (ν ∷ [], (ν₂ ∷ [], tt))) (stage-args l₄ l₅ δ δ₂) zs) ⊛ raw (fact 𝓤 (LoadsRows ys (k .live) us vs rest (zs .1 .1 .0) (zs .1 .1 .1 .0))))) (id⊢ 𝓤 _) $ pick ! (λ zs.
         split ! $ move ! (1 ∷ []) $ heard ! (LoadsRows ys (k .live) us vs rest (zs .1 .1 .0) (zs .1 .1 .1 .0)) (λ e₁. fsplit ! $ drop ! $ fsplit ! $ drop ! $ fsplit ! $ fsplit ! $ move ! (1 ∷ []) $ feqL ! (λ ln. move ! (1 ∷ []) $ fsplit ! $ fsplit ! $ move ! (1 ∷ []) $ feqL ! (λ lk.
