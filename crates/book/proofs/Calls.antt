@@ -3,12 +3,12 @@ use mathlib.Core.Path.{_≡_, refl, sym, ap, _∙_}
 use mathlib.Core.Bool.{Bool, true, false, not, cond, _||_}
 use mathlib.Core.List.{List, [], _∷_, _++_, List·Memᴰ·not-nil, Memᴰ·map, Memᴰ·cast}
 use Prim.Native.Nat.{ℕ, suc, _+_, _-_, _≤_, _<_}
-use native.Mathlib.Nat.{add-zero, zero-add, min-le-left}
+use native.Mathlib.Nat.{add-zero, zero-add}
 use native.Mathlib.Omega.{arith}
-use lib.Dec.{eqb, leb, ltb}
-use lib.ListN.{length, getD, set, take, replicate, length-take, List·getD-map}
-use lib.Seq.{take-append-seam, take-set-lt}
-use borrow.Author.Tests.{eq-eqb, eqb-true, leb-true, ltb-true}
+use lib.Dec.{eqb}
+use lib.ListN.{length, getD, take, replicate, List·getD-map}
+use lib.Seq.{take-append-seam}
+use borrow.Author.Tests.{eq-eqb, eqb-true}
 use Rattle.lists.specs.Lists.{keep, any, all, sumOf}
 use Rattle.lists.proofs.Tests.{_∈_, and-left, and-right, both, clash, implied, any-in, sum-same, take-map}
 use Rattle.layout.specs.Details.{details}
@@ -19,22 +19,23 @@ use Rattle.book.specs.declared.Trade.{Trade}
 use Rattle.book.specs.declared.Values.{Values}
 use Rattle.book.specs.declared.Pool.{Pool}
 use Rattle.book.specs.Reasons.{isAccepted}
-use Rattle.book.specs.Records.{Fields, fieldsOf, noPool, LiveLot, liveLots, liveWeight, liveMillions, ofTrade, tradeWeight, standingMillions, weightOfRecords}
-use Rattle.book.specs.Messages.{typeOf, targetOf, listed, brought}
-use Rattle.book.specs.Trades.{tradesOf, broughtWeight}
+use Rattle.book.specs.Records.{Fields, fieldsOf, noPool, LiveLot, liveLots, liveWeight, liveMillions, ofTrade, tradeWeight, standingMillions}
+use Rattle.book.specs.Messages.{typeOf, targetOf, listed}
+use Rattle.book.specs.Trades.{tradesOf}
 use Rattle.book.specs.Opening.{atPar, opened}
 use Rattle.book.specs.Soundness.{liveOf, parsFrom}
-use Rattle.book.specs.Checks.{Call, live, trades, concernedFor, concernedBy, concerned, tradeAt, noTrade, taken, canceledLots, lotFields, answerOf}
+use Rattle.book.specs.Checks.{Call, live, trades, dues, tradeAt, noTrade, taken, canceledLots, lotFields, answerOf}
 use Rattle.message_type.specs.Questions.{isOther, isCc, isCx, bringsLots, listsLots}
-use Rattle.book.specs.Step.{withOpenPar, tradesMoved, liveMoved, tableMoved, bookAfter, tableAfter}
+use Rattle.book.specs.Step.{tradesMoved, liveMoved, tableMoved, bookAfter, tableAfter}
 use Rattle.book.specs.History.{Brought, History, isTarget, touches, stands, tradeShare, standingWeight, millionsByOns, millionsByDks, atOpening, lotsAfter, feed, takesOff}
 use Rattle.book.specs.Promise.{State, openedState, Demand3}
 use Rattle.book.proofs.ByRecord.{exactByRecord, oneByRecord}
+use Rattle.book.proofs.Kept.{take-moved}
 use Rattle.book.proofs.Passed.{Fine, fine}
 use Rattle.book.proofs.Pools.{listed-none}
 use Rattle.book.proofs.Reached.{at-par-blind, parsHold, by-record}
 use Rattle.book.proofs.Targets.{has-in}
-use Rattle.book.proofs.Laid.{flat, laidLot, trade-flat, laid-weight, laid-millions}
+use Rattle.book.proofs.Laid.{flat, laidLot, trade-flat, cond-swap, laid-weight, laid-millions}
 use Rattle.book.proofs.Taking.{Exact, exact, isListed, standing, first-time, listed-lot}
 use Rattle.book.proofs.Moving.{Beside, Move, same-count, movedTrades, movedRecords, movedLots, move}
 use Rattle.book.proofs.Stepping.{on-move, on-lots, dk-move, dk-lots, cc-move, cc-lots}
@@ -62,50 +63,31 @@ canceled-exact c e f =
 module _ (v : Values) (c : Call) (h : History) (w : Beside v (c .book .values .lastMessageId) (trades c) (live c) h) where
   -- the flags of a message's lots, its move, and that the history makes the same lots of it
   pub record Moves (byOn byDk : Bool) : Type 0 where
-    pub moves : Move (trades c) (live c) (h .lots) (concerned c) (targetOf (c .body)) (listed (c .body)) (brought (c .body)) byOn byDk
-    pub makes : movedLots (h .lastMessageId) (h .lots) (concerned c) (targetOf (c .body)) (listed (c .body)) (brought (c .body)) byOn byDk
+    pub moves : Move (trades c) (live c) (h .lots) (targetOf (c .body)) (listed (c .body)) (dues c) byOn byDk
+    pub makes : movedLots (h .lastMessageId) (h .lots) (targetOf (c .body)) (listed (c .body)) (dues c) byOn byDk
         ≡ lotsAfter (typeOf (c .body)) v (h .lastMessageId + 1) (c .body) (h .lots)
 
-  concerned-as : (k : MessageType) → typeOf (c .body) ≡ k → concerned c ≡ concernedFor k (c .body) (trades c) (live c)
-  unfolding concernedBy
-  concerned-as k e = ap (λ (x : MessageType). concernedFor x (c .body) (trades c) (live c)) e
-
-  range : bringsLots (typeOf (c .body)) ≡ true → Fine c → concerned c < length (trades c)
-  range e f = ltb-true (concerned c) (length (trades c))
-      (and-left (ltb (concerned c) (length (trades c))) (leb (broughtWeight (c .body)) (tradeAt (trades c) (concerned c) .openPar + weightOfRecords (taken c))) (f .parEnough e))
-
-  room : bringsLots (typeOf (c .body)) ≡ true → Fine c → broughtWeight (c .body) ≤ tradeAt (trades c) (concerned c) .openPar + weightOfRecords (taken c)
-  room e f = leb-true (broughtWeight (c .body)) (tradeAt (trades c) (concerned c) .openPar + weightOfRecords (taken c))
-      (and-right (ltb (concerned c) (length (trades c))) (leb (broughtWeight (c .body)) (tradeAt (trades c) (concerned c) .openPar + weightOfRecords (taken c))) (f .parEnough e))
-
   moves-on : typeOf (c .body) ≡ On → Fine c → Moves true false
-  unfolding broughtWeight
   moves-on e f =
       record {
         moves = on-move v (c .book .values .lastMessageId) (trades c) (live c) h w (c .body) e (isCc (typeOf (c .body))) (f .formed (ap bringsLots e)) (f .repeated (ap bringsLots e))
-            (concerned c) (range (ap bringsLots e) f) (room (ap bringsLots e) f);
-        makes = rw (concerned-as On e, e) (on-lots v (c .book .values .lastMessageId) (trades c) (live c) h w (c .body) e);
+            (f .parEnough (ap bringsLots e));
+        makes = rw e (on-lots v (c .book .values .lastMessageId) (trades c) (live c) h w (c .body) e);
       }
 
   moves-dk : typeOf (c .body) ≡ Dk → Fine c → Moves false true
   moves-dk e f =
       record {
-        moves = rw (concerned-as Dk e)
-            (dk-move v (c .book .values .lastMessageId) (trades c) (live c) h w (c .body) (f .targetLive (ap listsLots e)) (listed-exact c (ap listsLots e) f) e);
-        makes = rw (concerned-as Dk e, e)
-            (dk-lots v (c .book .values .lastMessageId) (trades c) (live c) h w (c .body) (f .targetLive (ap listsLots e)) (listed-exact c (ap listsLots e) f) e);
+        moves = dk-move v (c .book .values .lastMessageId) (trades c) (live c) h w (c .body) (f .targetLive (ap listsLots e)) (listed-exact c (ap listsLots e) f) e;
+        makes = rw e (dk-lots v (c .book .values .lastMessageId) (trades c) (live c) h w (c .body) (f .targetLive (ap listsLots e)) (listed-exact c (ap listsLots e) f) e);
       }
 
   moves-cc : typeOf (c .body) ≡ Cc → Fine c → Moves false false
-  unfolding broughtWeight
   moves-cc e f =
       record {
-        moves = rw (concerned-as Cc e)
-            (cc-move v (c .book .values .lastMessageId) (trades c) (live c) h w (c .body) (f .targetLive (ap listsLots e)) (listed-exact c (ap listsLots e) f) e
-            (isCc (typeOf (c .body))) (f .formed (ap bringsLots e)) (f .repeated (ap bringsLots e)) (f .balanced (ap isCc e)) (canceled-exact c e f)
-            (rw (concerned-as Cc e) at (room (ap bringsLots e) f)));
-        makes = rw (concerned-as Cc e, e)
-            (cc-lots v (c .book .values .lastMessageId) (trades c) (live c) h w (c .body) (f .targetLive (ap listsLots e)) (listed-exact c (ap listsLots e) f) e
+        moves = cc-move v (c .book .values .lastMessageId) (trades c) (live c) h w (c .body) (f .targetLive (ap listsLots e)) (listed-exact c (ap listsLots e) f) e
+            (isCc (typeOf (c .body))) (f .formed (ap bringsLots e)) (f .repeated (ap bringsLots e)) (f .balanced (ap isCc e)) (canceled-exact c e f) (f .parEnough (ap bringsLots e));
+        makes = rw e (cc-lots v (c .book .values .lastMessageId) (trades c) (live c) h w (c .body) (f .targetLive (ap listsLots e)) (listed-exact c (ap listsLots e) f) e
             (isCc (typeOf (c .body))) (f .formed (ap bringsLots e)) (f .grouped (ap isCc e)));
       }
 
@@ -126,34 +108,27 @@ carry : (v : Values) (last : ℕ) (ts : List Trade) (rs : List Pool) (id : ℕ) 
     → Beside v last ts rs (record { lastMessageId = id; lots = xs }) → Beside v last ts rs (record { lastMessageId = id; lots = ys })
 carry v last ts rs id xs ys p w = rw p at w
 
-take-bound : {A : Type 0} (i n : ℕ) (xs : List A) → i < length (take n xs) → i < n
-take-bound i n xs lt = omega (arith, length-take n xs, min-le-left n (length xs))
-
--- the concerned trade after the call
-abbrev newTrade : Call → Trade
-newTrade c = withOpenPar (tradeAt (trades c) (concerned c)) ((tradeAt (trades c) (concerned c) .openPar + weightOfRecords (taken c)) - broughtWeight (c .body))
-
 moved : (v : Values) (c : Call) (h : History) → Beside v (c .book .values .lastMessageId) (trades c) (live c) h → isAccepted (answerOf c) ≡ true
-    → Beside v (c .book .values .lastMessageId + 1) (take (c .book .values .lent .tradeCount) (set (c .book .values .trades) (concerned c) (newTrade c))) (liveMoved c)
+    → Beside v (c .book .values .lastMessageId + 1) (take (c .book .values .lent .tradeCount) (tradesMoved c)) (liveMoved c)
     (record { lastMessageId = h .lastMessageId + 1; lots = lotsAfter (typeOf (c .body)) v (h .lastMessageId + 1) (c .body) (h .lots) })
-unfolding liveMoved broughtWeight
+unfolding liveMoved tradesMoved
 moved v c h w a =
     let (byOn, (byDk, m)) = accepted-moves v c h w a in
-    rw (take-set-lt (c .book .values .lent .tradeCount) (c .book .values .trades) (concerned c) (newTrade c) (take-bound (concerned c) (c .book .values .lent .tradeCount) (c .book .values .trades) (m .moves .range)))
-    (carry v (c .book .values .lastMessageId + 1) (movedTrades (trades c) (live c) (concerned c) (targetOf (c .body)) (listed (c .body)) (brought (c .body)))
-    (movedRecords (c .book .values .lastMessageId) (live c) (concerned c) (targetOf (c .body)) (listed (c .body)) (brought (c .body))) (h .lastMessageId + 1)
-    (movedLots (h .lastMessageId) (h .lots) (concerned c) (targetOf (c .body)) (listed (c .body)) (brought (c .body)) byOn byDk)
+    rw (take-moved (taken c) (dues c) 0 (c .book .values .lent .tradeCount) (c .book .values .trades))
+    (carry v (c .book .values .lastMessageId + 1) (movedTrades (trades c) (live c) (targetOf (c .body)) (listed (c .body)) (dues c))
+    (movedRecords (c .book .values .lastMessageId) (live c) (targetOf (c .body)) (listed (c .body)) (dues c)) (h .lastMessageId + 1)
+    (movedLots (h .lastMessageId) (h .lots) (targetOf (c .body)) (listed (c .body)) (dues c) byOn byDk)
     (lotsAfter (typeOf (c .body)) v (h .lastMessageId + 1) (c .body) (h .lots)) (m .makes)
-    (move v (c .book .values .lastMessageId) (trades c) (live c) h w (concerned c) (targetOf (c .body)) (listed (c .body)) (brought (c .body)) byOn byDk (m .moves)))
+    (move v (c .book .values .lastMessageId) (trades c) (live c) h w (targetOf (c .body)) (listed (c .body)) (dues c) byOn byDk (m .moves)))
 
 pub call-in-step : (v : Values) (c : Call) (h : History) → Beside v (c .book .values .lastMessageId) (trades c) (live c) h
     → Beside v (bookAfter c .values .lastMessageId) (tradesOf (bookAfter c .values)) (liveOf (bookAfter c) (tableAfter c)) (feed v h (c .body) (isAccepted (answerOf c)))
-unfolding bookAfter tableAfter feed tradesMoved tableMoved
+unfolding bookAfter tableAfter feed tableMoved
 call-in-step v c h w = go (isAccepted (answerOf c)) refl
   where
     go : (a : Bool) → isAccepted (answerOf c) ≡ a
         → Beside v (cond a (c .book .values .lastMessageId + 1) (c .book .values .lastMessageId))
-        (take (c .book .values .lent .tradeCount) (cond a (set (c .book .values .trades) (concerned c) (newTrade c)) (c .book .values .trades)))
+        (take (c .book .values .lent .tradeCount) (cond a (tradesMoved c) (c .book .values .trades)))
         (take (cond a (length (liveMoved c)) (c .book .live)) (cond a (liveMoved c ++ replicate (length (c .table) - length (liveMoved c)) noPool) (c .table)))
         (cond a (record { lastMessageId = h .lastMessageId + 1; lots = lotsAfter (typeOf (c .body)) v (h .lastMessageId + 1) (c .body) (h .lots) }) h)
     go true e = rw (take-append-seam (liveMoved c) (replicate (length (c .table) - length (liveMoved c)) noPool)) (moved v c h w e)
@@ -181,12 +156,7 @@ standing-sum : (v : Values) (s : State) (h : History) → InStep v s h → (valu
 standing-sum v s h w value of k t =
     rw (w .table)
     (trade-flat value (λ g. of (g .lot)) k t stands (h .lots) (w .lots .apart)
-    ∙ sum-same (λ g. cond (stands g) (cond (eqb (g .trade) t) (of (g .lot)) 0) 0) (tradeShare t (standing of)) (h .lots) (λ g m. swap (stands g) (eqb (g .trade) t) (of (g .lot))))
-  where
-    swap : (s b : Bool) (x : ℕ) → cond s (cond b x 0) 0 ≡ cond b (cond s x 0) 0
-    swap true b x = refl
-    swap false true x = refl
-    swap false false x = refl
+    ∙ sum-same (λ g. cond (stands g) (cond (eqb (g .trade) t) (of (g .lot)) 0) 0) (tradeShare t (standing of)) (h .lots) (λ g m. cond-swap (stands g) (eqb (g .trade) t) (of (g .lot))))
 
 standing-millions : (v : Values) (s : State) (h : History) → InStep v s h → (t : ℕ) → standingMillions t (liveOf (s .book) (s .table)) ≡ sumOf (tradeShare t (standing lotMillions)) (h .lots)
 unfolding standingMillions

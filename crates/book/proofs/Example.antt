@@ -25,12 +25,13 @@ use Rattle.book.specs.declared.Answer.{Answer}
 use Rattle.book.specs.declared.Answer.the-variants.{Accepted, Rejected, Dked}
 use Rattle.book.specs.declared.Reason.the-variants as by
 use Rattle.book.specs.Reasons.{silent, told}
-use Rattle.book.specs.Records.{weightOfRecords, tradeWeight, standingMillions, noPool}
+use Rattle.book.specs.Dues.{dueWeight}
+use Rattle.book.specs.Records.{tradeWeight, standingMillions, noPool}
 use Rattle.book.specs.Messages.{typeOf, ftba, fsti, listed, brought}
 use Rattle.book.specs.Trades.{tradesOf, openPars, agrees, broughtWeight, tradeOfOn}
 use Rattle.book.specs.Opening.{valuesFine, openingFine, opened, cleared}
 use Rattle.book.specs.Soundness.{liveOf, isSound}
-use Rattle.book.specs.Checks.{askedBy, targetTrade, concernedBy, soundnessChecks, senderChecks, termsChecks, movesChecks, answerOf}
+use Rattle.book.specs.Checks.{askedBy, targetTrade, duesBy, soundnessChecks, senderChecks, termsChecks, movesChecks, answerOf}
 use Rattle.book.specs.Step.{tradesMoved, liveMoved, tableMoved, bookAfter, tableAfter}
 use Rattle.book.specs.History.{Brought, History, atOpening, standingWeight, feed, history}
 use Rattle.book.specs.Promise.{State, Put, callOf, after, fed, openedState}
@@ -182,7 +183,7 @@ tells a left millions = record { answer = a; pars = 200000000 ∷ left ∷ []; m
 
 pub day : reported start (put onBody ∷ put ccBody ∷ put dkBody ∷ put (altered columns.sequence (digitsOf 6 6) dkBody) ∷ [])
     ≡ tells (Accepted 1) 237654400 2 ∷ tells (Accepted 2) 230000000 2 ∷ tells (Accepted 3) 330000000 1 ∷ tells (Rejected (by.Trader 37 told)) 330000000 1 ∷ []
-unfolding answerOf soundnessChecks senderChecks termsChecks movesChecks isSound valuesFine opened cleared values table trade put onBody header detail allBetween within part readNumber businessDate isDate weekdayOf dayNumber soundLine lengthFits poolCount detailAt details arrivalOf typeOf markIn beginsWithMark idAt tradeIdOf terminatorOf positions lots formedFor currentCents lotWeight goodMillions faceFails facesFail goodLotFails lotFails lotsFail listed brought agrees broughtWeight tradeOfOn concernedBy targetTrade weightOfRecords tradeWeight reported tells start ccBody dkBody pasted after bookAfter tableAfter tradesMoved liveMoved tableMoved lineAfter nextOutbound standingMillions groups groupsFormed groupsBalanced replacementCount
+unfolding answerOf soundnessChecks senderChecks termsChecks movesChecks isSound valuesFine opened cleared values table trade put onBody header detail allBetween within part readNumber businessDate isDate weekdayOf dayNumber soundLine lengthFits poolCount detailAt details arrivalOf typeOf markIn beginsWithMark idAt tradeIdOf terminatorOf positions lots formedFor currentCents lotWeight goodMillions faceFails facesFail goodLotFails lotFails lotsFail listed brought agrees broughtWeight tradeOfOn duesBy dueWeight targetTrade tradeWeight reported tells start ccBody dkBody pasted after bookAfter tableAfter tradesMoved liveMoved tableMoved lineAfter nextOutbound standingMillions groups groupsFormed groupsBalanced replacementCount
 day = refl
 
 -- what the history remembers of it: how often each lot was taken off, how often by a DK, and its trade
@@ -191,7 +192,7 @@ dayHistory = history (values 0) (atOpening (values 0)) (fed start (put onBody �
 
 pub remembered : map (λ (h : Brought). h .offs ∷ h .dks ∷ h .trade ∷ []) (dayHistory .lots)
     ≡ (1 ∷ 0 ∷ 1 ∷ []) ∷ (1 ∷ 0 ∷ 1 ∷ []) ∷ (0 ∷ 0 ∷ 1 ∷ []) ∷ (0 ∷ 0 ∷ 1 ∷ []) ∷ (1 ∷ 1 ∷ 1 ∷ []) ∷ (0 ∷ 0 ∷ 1 ∷ []) ∷ []
-unfolding answerOf soundnessChecks senderChecks termsChecks movesChecks isSound valuesFine opened cleared values table trade put onBody header detail allBetween within part readNumber businessDate isDate weekdayOf dayNumber soundLine lengthFits poolCount detailAt details arrivalOf typeOf markIn beginsWithMark idAt tradeIdOf terminatorOf positions lots formedFor currentCents lotWeight goodMillions faceFails facesFail goodLotFails lotFails lotsFail listed brought agrees broughtWeight tradeOfOn concernedBy targetTrade weightOfRecords tradeWeight reported tells start ccBody dkBody pasted after bookAfter tableAfter tradesMoved liveMoved tableMoved lineAfter nextOutbound standingMillions groups groupsFormed groupsBalanced replacementCount dayHistory history fed feed standingWeight
+unfolding answerOf soundnessChecks senderChecks termsChecks movesChecks isSound valuesFine opened cleared values table trade put onBody header detail allBetween within part readNumber businessDate isDate weekdayOf dayNumber soundLine lengthFits poolCount detailAt details arrivalOf typeOf markIn beginsWithMark idAt tradeIdOf terminatorOf positions lots formedFor currentCents lotWeight goodMillions faceFails facesFail goodLotFails lotFails lotsFail listed brought agrees broughtWeight tradeOfOn duesBy dueWeight targetTrade tradeWeight reported tells start ccBody dkBody pasted after bookAfter tableAfter tradesMoved liveMoved tableMoved lineAfter nextOutbound standingMillions groups groupsFormed groupsBalanced replacementCount dayHistory history fed feed standingWeight
 remembered = refl
 
 -- ---- refusals: a call for each number of a frame, 42 to 44 and 10 to 40; every other check before it passes
@@ -213,7 +214,7 @@ pub by-operator : answerOf (callOf (record { book = record { values = start .boo
     ∷ answered (openedState (values 0) (replicate 3 noPool)) onBody
     ∷ []
     ≡ Rejected (by.Operator 42 silent) ∷ Rejected (by.Operator 43 silent) ∷ Rejected (by.Operator 44 silent) ∷ Rejected (by.Operator 40 told) ∷ []
-unfolding answerOf soundnessChecks senderChecks termsChecks movesChecks isSound valuesFine opened cleared values table trade put onBody header detail allBetween within part readNumber businessDate isDate weekdayOf dayNumber soundLine lengthFits poolCount detailAt details arrivalOf typeOf markIn beginsWithMark idAt tradeIdOf terminatorOf positions lots formedFor currentCents lotWeight goodMillions faceFails facesFail goodLotFails lotFails lotsFail listed brought agrees broughtWeight tradeOfOn concernedBy targetTrade weightOfRecords tradeWeight reported tells start ccBody dkBody pasted after bookAfter tableAfter tradesMoved liveMoved tableMoved lineAfter nextOutbound standingMillions groups groupsFormed groupsBalanced replacementCount second dkOdd
+unfolding answerOf soundnessChecks senderChecks termsChecks movesChecks isSound valuesFine opened cleared values table trade put onBody header detail allBetween within part readNumber businessDate isDate weekdayOf dayNumber soundLine lengthFits poolCount detailAt details arrivalOf typeOf markIn beginsWithMark idAt tradeIdOf terminatorOf positions lots formedFor currentCents lotWeight goodMillions faceFails facesFail goodLotFails lotFails lotsFail listed brought agrees broughtWeight tradeOfOn duesBy dueWeight targetTrade tradeWeight reported tells start ccBody dkBody pasted after bookAfter tableAfter tradesMoved liveMoved tableMoved lineAfter nextOutbound standingMillions groups groupsFormed groupsBalanced replacementCount second dkOdd
 by-operator = refl
 
 -- by the line, and by the sender's system
@@ -237,7 +238,7 @@ pub by-sender : answered start []
     ≡ Rejected (by.Line 10 silent) ∷ Rejected (by.Line 11 silent) ∷ Rejected (by.Line 12 told) ∷ Rejected (by.Sender 13 told) ∷ Rejected (by.Sender 14 told) ∷ Rejected (by.Sender 15 told)
     ∷ Rejected (by.Sender 16 told) ∷ Rejected (by.Sender 17 told) ∷ Rejected (by.Sender 18 told) ∷ Rejected (by.Sender 19 told) ∷ Rejected (by.Sender 20 told) ∷ Rejected (by.Sender 21 told)
     ∷ Rejected (by.Sender 22 told) ∷ Rejected (by.Sender 23 told) ∷ Rejected (by.Sender 24 told) ∷ Rejected (by.Sender 25 told) ∷ []
-unfolding answerOf soundnessChecks senderChecks termsChecks movesChecks isSound valuesFine opened cleared values table trade put onBody header detail allBetween within part readNumber businessDate isDate weekdayOf dayNumber soundLine lengthFits poolCount detailAt details arrivalOf typeOf markIn beginsWithMark idAt tradeIdOf terminatorOf positions lots formedFor currentCents lotWeight goodMillions faceFails facesFail goodLotFails lotFails lotsFail listed brought agrees broughtWeight tradeOfOn concernedBy targetTrade weightOfRecords tradeWeight reported tells start ccBody dkBody pasted after bookAfter tableAfter tradesMoved liveMoved tableMoved lineAfter nextOutbound standingMillions groups groupsFormed groupsBalanced replacementCount second dkOdd
+unfolding answerOf soundnessChecks senderChecks termsChecks movesChecks isSound valuesFine opened cleared values table trade put onBody header detail allBetween within part readNumber businessDate isDate weekdayOf dayNumber soundLine lengthFits poolCount detailAt details arrivalOf typeOf markIn beginsWithMark idAt tradeIdOf terminatorOf positions lots formedFor currentCents lotWeight goodMillions faceFails facesFail goodLotFails lotFails lotsFail listed brought agrees broughtWeight tradeOfOn duesBy dueWeight targetTrade tradeWeight reported tells start ccBody dkBody pasted after bookAfter tableAfter tradesMoved liveMoved tableMoved lineAfter nextOutbound standingMillions groups groupsFormed groupsBalanced replacementCount second dkOdd
 by-sender = refl
 
 -- by the trader; the DK of the odd lot itself is accepted
@@ -255,7 +256,7 @@ pub by-trader : answered second (altered columns.target (digitsOf 11 9) ccBody)
     ∷ []
     ≡ Dked (by.Trader 30 told) ∷ Dked (by.Trader 31 told) ∷ Dked (by.Trader 32 told) ∷ Dked (by.Trader 33 told) ∷ Dked (by.Trader 34 told) ∷ Dked (by.Trader 35 told) ∷ Dked (by.Trader 36 told)
     ∷ Dked (by.Trader 37 told) ∷ Dked (by.Trader 38 told) ∷ Rejected (by.Trader 30 told) ∷ Accepted 2 ∷ []
-unfolding answerOf soundnessChecks senderChecks termsChecks movesChecks isSound valuesFine opened cleared values table trade put onBody header detail allBetween within part readNumber businessDate isDate weekdayOf dayNumber soundLine lengthFits poolCount detailAt details arrivalOf typeOf markIn beginsWithMark idAt tradeIdOf terminatorOf positions lots formedFor currentCents lotWeight goodMillions faceFails facesFail goodLotFails lotFails lotsFail listed brought agrees broughtWeight tradeOfOn concernedBy targetTrade weightOfRecords tradeWeight reported tells start ccBody dkBody pasted after bookAfter tableAfter tradesMoved liveMoved tableMoved lineAfter nextOutbound standingMillions groups groupsFormed groupsBalanced replacementCount second dkOdd
+unfolding answerOf soundnessChecks senderChecks termsChecks movesChecks isSound valuesFine opened cleared values table trade put onBody header detail allBetween within part readNumber businessDate isDate weekdayOf dayNumber soundLine lengthFits poolCount detailAt details arrivalOf typeOf markIn beginsWithMark idAt tradeIdOf terminatorOf positions lots formedFor currentCents lotWeight goodMillions faceFails facesFail goodLotFails lotFails lotsFail listed brought agrees broughtWeight tradeOfOn duesBy dueWeight targetTrade tradeWeight reported tells start ccBody dkBody pasted after bookAfter tableAfter tradesMoved liveMoved tableMoved lineAfter nextOutbound standingMillions groups groupsFormed groupsBalanced replacementCount second dkOdd
 by-trader = refl
 
 -- 37 on a DK: a pool listed twice, and a part of a lot
@@ -263,7 +264,7 @@ pub dk-listed : answered second (dkOdd ++ detail 3 200000 0 0)
     ∷ answered second (alteredPool 0 columns.poolNumber (digitsOf 7 1) (alteredPool 0 columns.originalFace (digitsOf 9 1000000) dkOdd))
     ∷ []
     ≡ Rejected (by.Trader 37 told) ∷ Rejected (by.Trader 37 told) ∷ []
-unfolding answerOf soundnessChecks senderChecks termsChecks movesChecks isSound valuesFine opened cleared values table trade put onBody header detail allBetween within part readNumber businessDate isDate weekdayOf dayNumber soundLine lengthFits poolCount detailAt details arrivalOf typeOf markIn beginsWithMark idAt tradeIdOf terminatorOf positions lots formedFor currentCents lotWeight goodMillions faceFails facesFail goodLotFails lotFails lotsFail listed brought agrees broughtWeight tradeOfOn concernedBy targetTrade weightOfRecords tradeWeight reported tells start ccBody dkBody pasted after bookAfter tableAfter tradesMoved liveMoved tableMoved lineAfter nextOutbound standingMillions groups groupsFormed groupsBalanced replacementCount second dkOdd
+unfolding answerOf soundnessChecks senderChecks termsChecks movesChecks isSound valuesFine opened cleared values table trade put onBody header detail allBetween within part readNumber businessDate isDate weekdayOf dayNumber soundLine lengthFits poolCount detailAt details arrivalOf typeOf markIn beginsWithMark idAt tradeIdOf terminatorOf positions lots formedFor currentCents lotWeight goodMillions faceFails facesFail goodLotFails lotFails lotsFail listed brought agrees broughtWeight tradeOfOn duesBy dueWeight targetTrade tradeWeight reported tells start ccBody dkBody pasted after bookAfter tableAfter tradesMoved liveMoved tableMoved lineAfter nextOutbound standingMillions groups groupsFormed groupsBalanced replacementCount second dkOdd
 dk-listed = refl
 
 -- 37 on a CC: a 6 lot of other millions than the live lot, and two 6 lots that are each a part of one
@@ -276,7 +277,7 @@ ccParts =
     (alteredPool 3 columns.terminator (digitsOf 4 7003) (alteredPool 3 columns.currentFace (digitsOf 11 300000000) ccBody))
 
 pub cc-listed : answered second ccOther ∷ answered second ccParts ∷ [] ≡ Dked (by.Trader 37 told) ∷ Dked (by.Trader 37 told) ∷ []
-unfolding answerOf soundnessChecks senderChecks termsChecks movesChecks isSound valuesFine opened cleared values table trade put onBody header detail allBetween within part readNumber businessDate isDate weekdayOf dayNumber soundLine lengthFits poolCount detailAt details arrivalOf typeOf markIn beginsWithMark idAt tradeIdOf terminatorOf positions lots formedFor currentCents lotWeight goodMillions faceFails facesFail goodLotFails lotFails lotsFail listed brought agrees broughtWeight tradeOfOn concernedBy targetTrade weightOfRecords tradeWeight reported tells start ccBody dkBody pasted after bookAfter tableAfter tradesMoved liveMoved tableMoved lineAfter nextOutbound standingMillions groups groupsFormed groupsBalanced replacementCount second dkOdd ccOther ccParts
+unfolding answerOf soundnessChecks senderChecks termsChecks movesChecks isSound valuesFine opened cleared values table trade put onBody header detail allBetween within part readNumber businessDate isDate weekdayOf dayNumber soundLine lengthFits poolCount detailAt details arrivalOf typeOf markIn beginsWithMark idAt tradeIdOf terminatorOf positions lots formedFor currentCents lotWeight goodMillions faceFails facesFail goodLotFails lotFails lotsFail listed brought agrees broughtWeight tradeOfOn duesBy dueWeight targetTrade tradeWeight reported tells start ccBody dkBody pasted after bookAfter tableAfter tradesMoved liveMoved tableMoved lineAfter nextOutbound standingMillions groups groupsFormed groupsBalanced replacementCount second dkOdd ccOther ccParts
 cc-listed = refl
 
 -- 38 beside live pools: an ON to the second trade by its ID, of a cent more than its open par, and of just as much, which 40 then refuses
@@ -286,5 +287,5 @@ onNamed odd =
     (altered columns.special (mark ++ (84 ∷ 50 ∷ 61 ∷ [])) (alteredPool 2 columns.currentFace (digitsOf 11 odd) (alteredPool 3 columns.currentFace (digitsOf 11 0) onBody)))
 
 pub open-par : answered second (onNamed 37654401) ∷ answered second (onNamed 37654400) ∷ [] ≡ Dked (by.Trader 38 told) ∷ Rejected (by.Operator 40 told) ∷ []
-unfolding answerOf soundnessChecks senderChecks termsChecks movesChecks isSound valuesFine opened cleared values table trade put onBody header detail allBetween within part readNumber businessDate isDate weekdayOf dayNumber soundLine lengthFits poolCount detailAt details arrivalOf typeOf markIn beginsWithMark idAt tradeIdOf terminatorOf positions lots formedFor currentCents lotWeight goodMillions faceFails facesFail goodLotFails lotFails lotsFail listed brought agrees broughtWeight tradeOfOn concernedBy targetTrade weightOfRecords tradeWeight reported tells start ccBody dkBody pasted after bookAfter tableAfter tradesMoved liveMoved tableMoved lineAfter nextOutbound standingMillions groups groupsFormed groupsBalanced replacementCount second dkOdd onNamed
+unfolding answerOf soundnessChecks senderChecks termsChecks movesChecks isSound valuesFine opened cleared values table trade put onBody header detail allBetween within part readNumber businessDate isDate weekdayOf dayNumber soundLine lengthFits poolCount detailAt details arrivalOf typeOf markIn beginsWithMark idAt tradeIdOf terminatorOf positions lots formedFor currentCents lotWeight goodMillions faceFails facesFail goodLotFails lotFails lotsFail listed brought agrees broughtWeight tradeOfOn duesBy dueWeight targetTrade tradeWeight reported tells start ccBody dkBody pasted after bookAfter tableAfter tradesMoved liveMoved tableMoved lineAfter nextOutbound standingMillions groups groupsFormed groupsBalanced replacementCount second dkOdd onNamed
 open-par = refl

@@ -1,13 +1,12 @@
 -- The values of a book stay in range: opening's rules look at no open par, the last message ID is not the highest when a message is accepted (43),
 -- and the outbound number stops at its highest.
-use Prim.Native.Nat.{ℕ, _+_, _<_}
+use Prim.Native.Nat.{ℕ, zero, suc, _+_, _-_, _<_}
 use mathlib.Core.Path.{_≡_, refl, sym, ap, ap₂, _∙_}
-use mathlib.Core.List.{List, map}
+use mathlib.Core.List.{List, [], _∷_, map}
 use mathlib.Core.Bool.{Bool, true, false, cond, not, _&&_}
 use native.Mathlib.Omega.{arith}
 use lib.Dec.{leb, ltb}
-use lib.ListN.{take, set}
-use lib.Seq.{map-set-same, take-set-le, take-set-lt}
+use lib.ListN.{take}
 use borrow.Author.Tests.{ltb-true, ltb-false, le-leb}
 use Rattle.lists.specs.Lists.{all}
 use Rattle.lists.proofs.Tests.{and-left, and-right}
@@ -17,24 +16,26 @@ use Rattle.sequence.specs.declared.Outbound.{Outbound}
 use Rattle.sequence.specs.Sequence.{nextOutbound, outboundMax, outbound}
 use Rattle.book.specs.declared.Trade.{Trade}
 use Rattle.book.specs.declared.Values.{Values}
+use Rattle.book.specs.declared.Pool.{Pool}
+use Rattle.book.specs.Dues.{Due, dueWeight}
+use Rattle.book.specs.Records.{tradeWeight}
 use Rattle.book.specs.Trades.{tradesOf, tradeName}
 use Rattle.book.specs.Opening.{tradesMax, holidaysMax, elevenDigitsMax, holidaysOf, limitsFine, accountFine, tradeFine, namesRepeat, valuesFine}
-use Rattle.book.specs.Checks.{noTrade, tradeAt}
-use Rattle.book.specs.Step.{withOpenPar}
+use Rattle.book.specs.Step.{withOpenPar, parsMoved}
 use Rattle.book.proofs.ListLaws.{all-of-map}
 
 -- ---- trades
--- what looks at no open par sees no change where one trade gets another
-module _ {B : Type 0} (f : Trade → B) (blind : (t : Trade) (cents : ℕ) → f (withOpenPar t cents) ≡ f t) where
-  pub moved-blind : (n : ℕ) (ts : List Trade) (i cents : ℕ) → map f (take n (set ts i (withOpenPar (tradeAt (take n ts) i) cents))) ≡ map f (take n ts)
-  moved-blind n ts i cents = go (ltb i n) refl
-    where
-      moved : Trade
-      moved = withOpenPar (tradeAt (take n ts) i) cents
+-- the first trades move as they do among all
+pub take-moved : (off : List Pool) (ds : List Due) (i n : ℕ) (ts : List Trade) → take n (parsMoved off ds i ts) ≡ parsMoved off ds i (take n ts)
+take-moved off ds i zero ts = refl
+take-moved off ds i (suc n) [] = refl
+take-moved off ds i (suc n) (t ∷ ts) = ap (λ (xs : List Trade). withOpenPar t ((t .openPar + tradeWeight i off) - dueWeight i ds) ∷ xs) (take-moved off ds (i + 1) n ts)
 
-      go : (b : Bool) → ltb i n ≡ b → map f (take n (set ts i moved)) ≡ map f (take n ts)
-      go true e = ap (map f) (take-set-lt n ts i moved (ltb-true i n e)) ∙ map-set-same f (take n ts) i moved noTrade (blind (tradeAt (take n ts) i) cents)
-      go false e = ap (map f) (take-set-le n ts i moved (ltb-false i n e))
+-- what looks at no open par sees no change where these move
+module _ {B : Type 0} (f : Trade → B) (blind : (t : Trade) (cents : ℕ) → f (withOpenPar t cents) ≡ f t) (off : List Pool) (ds : List Due) where
+  pub moved-blind : (i : ℕ) (ts : List Trade) → map f (parsMoved off ds i ts) ≡ map f ts
+  moved-blind i [] = refl
+  moved-blind i (t ∷ ts) = ap₂ (λ (x : B) (xs : List B). x ∷ xs) (blind t ((t .openPar + tradeWeight i off) - dueWeight i ds)) (moved-blind (i + 1) ts)
 
 all-bits : {A : Type 0} (p : A → Bool) (xs : List A) → all (λ (b : Bool). b) (map p xs) ≡ all p xs
 all-bits p xs = all-of-map (λ (b : Bool). b) p xs

@@ -14,8 +14,9 @@ use Rattle.terminator.specs.declared.Kind.{Kind}
 use Rattle.terminator.specs.declared.Kind.the-variants.{Good, Odd, Bad}
 use Rattle.terminator.specs.Lots.{Lot, poolsOf, lotKind, lotMillions, lotWeight, weightOf, currentCents, millionCents}
 use Rattle.book.specs.declared.Pool.{Pool}
+use Rattle.book.specs.Dues.{Due}
 use Rattle.book.specs.Records.{Fields, poolOf, recordsOf, kindGood, kindNumber, sameLot, LiveLot, livePools, joinLot, liveLots, liveWeight, liveMillions, ofTrade}
-use Rattle.book.specs.History.{Brought, due, bring, stands, takeOff}
+use Rattle.book.specs.History.{Brought, bring, stands, takeOff}
 use Rattle.book.proofs.ListLaws.{sum-keep}
 
 -- the record of a pool of a brought lot, and all its records
@@ -43,9 +44,9 @@ pub flat-takeOff : (s : Brought → Bool) (byDk : Bool) (tgt : Field) (fs : List
 flat-takeOff s byDk tgt fs [] = refl
 flat-takeOff s byDk tgt fs (h ∷ hs) = rw (flat-takeOff s byDk tgt fs hs)
 
-pub flat-bring : (id : ℕ) (byOn : Bool) (t o : ℕ) (ls : List Lot) → flat stands (bring id byOn o (map (due t) ls)) ≡ recordsOf id t o ls
-flat-bring id byOn t o [] = refl
-flat-bring id byOn t o (l ∷ ls) = rw (flat-bring id byOn t (o + 1) ls)
+pub flat-bring : (id : ℕ) (byOn : Bool) (o : ℕ) (ds : List Due) → flat stands (bring id byOn o ds) ≡ recordsOf id o ds
+flat-bring id byOn o [] = refl
+flat-bring id byOn o (d ∷ ds) = rw (flat-bring id byOn (o + 1) ds)
 
 pub flat-keep : (q : Pool → Bool) (s u : Brought → Bool) (hs : List Brought)
     → ((h : Brought) → h ∈ hs → s h ≡ true → keep q (laid h) ≡ cond (u h) (laid h) [])
@@ -150,6 +151,11 @@ trade-flat value of k t s hs a =
     sum-keep value (ofTrade t) (liveLots (flat s hs))
     ∙ sum-flat (λ l. cond (ofTrade t l) (value l) 0) (λ h. cond (eqb (h .trade) t) (of h) 0)
     (λ h. rw (k h, first-from (λ (r : Pool). r .trade) (h .trade) h (λ e. refl) (h .lot .middles))) s hs a
+
+pub cond-swap : (s b : Bool) (x : ℕ) → cond s (cond b x 0) 0 ≡ cond b (cond s x 0) 0
+cond-swap true b x = refl
+cond-swap false true x = refl
+cond-swap false false x = refl
 
 -- ---- what a lot counts for: its weight and its millions
 

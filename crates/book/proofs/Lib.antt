@@ -2,6 +2,7 @@ pub mod ListLaws
 pub mod Firsts
 pub mod Passed
 pub mod Through
+pub mod Dues
 pub mod Pools
 pub mod Ordered
 pub mod ByRecord

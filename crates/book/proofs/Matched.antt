@@ -11,13 +11,15 @@ use borrow.Author.Tests.{eqb-true, leb-true, ne-eqb, not-true}
 use Rattle.lists.specs.Lists.{same, keep, any, all}
 use Rattle.lists.proofs.Tests.{and-left, and-right, both, same-equal}
 use Rattle.fields.specs.declared.Field.{Field}
-use Rattle.terminator.specs.Lots.{Lot, poolsOf}
+use Rattle.terminator.specs.Lots.{poolsOf}
 use Rattle.book.specs.declared.Pool.{Pool}
+use Rattle.book.specs.Dues.{Due}
 use Rattle.book.specs.Records.{Fields, liveFields, sameFields, hasFields, distinct, poolOf, recordsOf}
 use Rattle.book.specs.Messages.{under}
 use Rattle.book.specs.Soundness.{fieldsOnce}
 use Rattle.book.specs.Checks.{isTaken}
 use Rattle.book.specs.History.{fieldsOfLots}
+use Rattle.book.proofs.Dues.{dueLots}
 use Rattle.book.proofs.ByRecord.{allLive}
 use Rattle.book.proofs.ListLaws.{or-left, or-right, all-keep, all-implied, not-any, keep-some, keep-two, pairwise, pairwise-keep, pairwise-append, pairwise-map}
 use Rattle.book.proofs.Ordered.{isFrom, records-from, isOld}
@@ -50,34 +52,34 @@ distinct-apart : (fs : List Fields) → distinct fs ≡ pairwise otherFields fs
 distinct-apart [] = refl
 distinct-apart (f ∷ fs) = ap₂ (λ (a b : Bool). a && b) (not-any (sameFields f) fs) (distinct-apart fs)
 
-pub records-fields : (id t o : ℕ) (ls : List Lot) → map liveFields (recordsOf id t o ls) ≡ fieldsOfLots ls
-records-fields id t o [] = refl
-records-fields id t o (l ∷ ls) =
-    map-append liveFields (map (poolOf id o t l) (poolsOf l)) (recordsOf id t (o + 1) ls)
-    ∙ rw (records-fields id t (o + 1) ls, map-map liveFields (poolOf id o t l) (poolsOf l))
+pub records-fields : (id o : ℕ) (ds : List Due) → map liveFields (recordsOf id o ds) ≡ fieldsOfLots (dueLots ds)
+records-fields id o [] = refl
+records-fields id o (d ∷ ds) =
+    map-append liveFields (map (poolOf id o (d .to) (d .lot)) (poolsOf (d .lot))) (recordsOf id (o + 1) ds)
+    ∙ rw (records-fields id (o + 1) ds, map-map liveFields (poolOf id o (d .to) (d .lot)) (poolsOf (d .lot)))
 
 other-apart : (r s : Pool) → otherFields (liveFields r) (liveFields s) ≡ true → apart r s ≡ true
 other-apart r s e = rw (not-true (sameFields (liveFields r) (liveFields s)) e, and-false (eqb (r .message) (s .message)))
 
-new-apart : (id t o : ℕ) (ls : List Lot) → distinct (fieldsOfLots ls) ≡ true → pairwise apart (recordsOf id t o ls) ≡ true
-new-apart id t o ls e =
-    pairwise-map apart otherFields liveFields other-apart (recordsOf id t o ls)
-    (ap (pairwise otherFields) (records-fields id t o ls) ∙ sym (distinct-apart (fieldsOfLots ls)) ∙ e)
+new-apart : (id o : ℕ) (ds : List Due) → distinct (fieldsOfLots (dueLots ds)) ≡ true → pairwise apart (recordsOf id o ds) ≡ true
+new-apart id o ds e =
+    pairwise-map apart otherFields liveFields other-apart (recordsOf id o ds)
+    (ap (pairwise otherFields) (records-fields id o ds) ∙ sym (distinct-apart (fieldsOfLots (dueLots ds))) ∙ e)
 
-old-apart : (last t : ℕ) (q r : Pool) → isOld last q ≡ true → isFrom (last + 1) t 1 r ≡ true → apart q r ≡ true
-old-apart last t q r e f =
-    let m : r .message ≡ last + 1 = eqb-true (r .message) (last + 1) (and-left (eqb (r .message) (last + 1)) (eqb (r .trade) t && leb 1 (r .ordinal)) f) in
+old-apart : (last : ℕ) (q r : Pool) → isOld last q ≡ true → isFrom (last + 1) 1 r ≡ true → apart q r ≡ true
+old-apart last q r e f =
+    let m : r .message ≡ last + 1 = eqb-true (r .message) (last + 1) (and-left (eqb (r .message) (last + 1)) (leb 1 (r .ordinal)) f) in
     let h : q .message ≤ last = leb-true (q .message) last e in
     rw (ne-eqb (q .message) (r .message) (λ p. omega arith))
 
-pub once-after : (last t : ℕ) (p : Pool → Bool) (rs : List Pool) (ls : List Lot) → all (isOld last) rs ≡ true → fieldsOnce rs ≡ true → distinct (fieldsOfLots ls) ≡ true
-    → fieldsOnce (keep p rs ++ recordsOf (last + 1) t 1 ls) ≡ true
-once-after last t p rs ls old e d =
-    let new : List Pool = recordsOf (last + 1) t 1 ls in
+pub once-after : (last : ℕ) (p : Pool → Bool) (rs : List Pool) (ds : List Due) → all (isOld last) rs ≡ true → fieldsOnce rs ≡ true → distinct (fieldsOfLots (dueLots ds)) ≡ true
+    → fieldsOnce (keep p rs ++ recordsOf (last + 1) 1 ds) ≡ true
+once-after last p rs ds old e d =
+    let new : List Pool = recordsOf (last + 1) 1 ds in
     once-apart (keep p rs ++ new)
-    ∙ pairwise-append apart (keep p rs) new (pairwise-keep apart p rs (sym (once-apart rs) ∙ e)) (new-apart (last + 1) t 1 ls d)
+    ∙ pairwise-append apart (keep p rs) new (pairwise-keep apart p rs (sym (once-apart rs) ∙ e)) (new-apart (last + 1) 1 ds d)
     (all-implied (isOld last) (λ (q : Pool). all (apart q) new)
-    (λ (q : Pool) h. all-implied (isFrom (last + 1) t 1) (apart q) (λ (r : Pool) f. old-apart last t q r h f) new (records-from (last + 1) t 1 ls))
+    (λ (q : Pool) h. all-implied (isFrom (last + 1) 1) (apart q) (λ (r : Pool) f. old-apart last q r h f) new (records-from (last + 1) 1 ds))
     (keep p rs) (all-keep (isOld last) p rs old))
 
 -- ---- the records taken off

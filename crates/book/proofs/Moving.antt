@@ -6,26 +6,27 @@ use mathlib.Core.List.{List, [], _∷_, _++_, map}
 use Prim.Native.Nat.{ℕ, zero, suc, _+_, _-_, _*_, _≤_, _<_}
 use native.Mathlib.Omega.{arith}
 use native.Mathlib.Nat.{add-zero, zero-add}
-use native.Mathlib.Decide.{ℕ-discrete}
 use lib.Dec.{eqb}
-use lib.ListN.{length, getD, set, length-map, List·getD-map}
-use lib.Seq.{getD-set-same, getD-set-other, ext-getD, map-set-same}
-use borrow.Author.Tests.{eq-eqb, ne-eqb}
+use lib.ListN.{length, getD, length-map, List·getD-map}
+use lib.Seq.{ext-getD}
 use Rattle.lists.specs.Lists.{keep, sumOf}
 use Rattle.lists.proofs.Tests.{_∈_, clash, sum-append, sum-same, sum-add, sum-map}
 use Rattle.fields.specs.declared.Field.{Field}
-use Rattle.terminator.specs.Lots.{Lot, lotWeight, lotMillions}
+use Rattle.terminator.specs.Lots.{lotWeight, lotMillions}
 use Rattle.book.specs.declared.Trade.{Trade}
 use Rattle.book.specs.declared.Values.{Values}
 use Rattle.book.specs.declared.Pool.{Pool}
-use Rattle.book.specs.Records.{Fields, distinct, recordsOf, weightOfRecords}
+use Rattle.book.specs.Dues.{Due, dueShare, dueWeight}
+use Rattle.book.specs.Records.{Fields, distinct, recordsOf, tradeWeight}
 use Rattle.book.specs.Trades.{tradesOf, openPars}
 use Rattle.book.specs.Opening.{atPar}
 use Rattle.book.specs.Checks.{isTaken, tradeAt, noTrade}
-use Rattle.book.specs.Step.{withOpenPar}
-use Rattle.book.specs.History.{Brought, History, touches, once, takeOff, due, bring, stands, tradeShare, standingWeight, millionsByOns, millionsByDks, historySums, fieldsOfLots}
+use Rattle.book.specs.Step.{parsMoved}
+use Rattle.book.specs.History.{Brought, History, touches, once, takeOff, bring, stands, tradeShare, standingWeight, millionsByOns, millionsByDks, historySums, fieldsOfLots}
+use Rattle.book.proofs.Dues.{dueLots, AllTo}
+use Rattle.book.proofs.Kept.{moved-blind}
 use Rattle.book.proofs.Laid.{flat, flat-append, flat-bring}
-use Rattle.book.proofs.Taking.{Lots, Exact, standing, gone, left-flat, first-time, lots-take, standing-take, gone-weight, gone-there, gone-elsewhere}
+use Rattle.book.proofs.Taking.{Lots, Exact, standing, gone, left-flat, first-time, lots-take, standing-take, gone-weight}
 use Rattle.book.proofs.Bringing.{standing-bring, ons-bring, dks-bring, lots-bring}
 
 -- the last ID, the trades and the live records of a book, beside the history of the same calls
@@ -97,78 +98,60 @@ module _ (tgt : Field) (fs : List Fields) (hs : List Brought) (t : ℕ) where
 
 -- ---- the move
 
--- what a message must satisfy: which lots go (37), to which trade the new ones come, that it has room for them (38), that none repeats (36), and that
--- the millions that go and come agree with what ONs bring and DKs take off (21)
-pub record Move (ts : List Trade) (rs : List Pool) (hs : List Brought) (t : ℕ) (tgt : Field) (fs : List Fields) (ls : List Lot) (byOn byDk : Bool) : Type 0 where
+-- what a message must satisfy: which lots go (37), that the new ones come to one trade that is opened, that each trade has room for them (38), that none
+-- repeats (36), and that for each trade the millions that go and come agree with what ONs bring and DKs take off (21)
+pub record Move (ts : List Trade) (rs : List Pool) (hs : List Brought) (tgt : Field) (fs : List Fields) (ds : List Due) (byOn byDk : Bool) : Type 0 where
   pub exact : Exact tgt fs rs
-  pub range : t < length ts
-  pub there : (g : Brought) → g ∈ hs → touches tgt fs g ≡ true → g .trade ≡ t
-  pub room : sumOf lotWeight ls ≤ tradeAt ts t .openPar + weightOfRecords (keep (isTaken tgt fs) rs)
-  pub apart : distinct (fieldsOfLots ls) ≡ true
-  pub even : (u : ℕ) → cond byDk (sumOf (tradeShare u (gone tgt fs lotMillions)) hs) 0 + cond (eqb t u) (sumOf lotMillions ls) 0
-      ≡ sumOf (tradeShare u (gone tgt fs lotMillions)) hs + cond byOn (cond (eqb t u) (sumOf lotMillions ls) 0) 0
+  pub range : (d : Due) → d ∈ ds → d .to < length ts
+  pub one : (t : ℕ) × AllTo t ds
+  pub room : (u : ℕ) → dueWeight u ds ≤ tradeAt ts u .openPar + tradeWeight u (keep (isTaken tgt fs) rs)
+  pub apart : distinct (fieldsOfLots (dueLots ds)) ≡ true
+  pub even : (u : ℕ) → cond byDk (sumOf (tradeShare u (gone tgt fs lotMillions)) hs) 0 + sumOf (dueShare u lotMillions) ds
+      ≡ sumOf (tradeShare u (gone tgt fs lotMillions)) hs + cond byOn (sumOf (dueShare u lotMillions) ds) 0
 
 -- the trades, the records and the lots that it leaves
-abbrev pub movedTrades : List Trade → List Pool → ℕ → Field → List Fields → List Lot → List Trade
-movedTrades ts rs t tgt fs ls = set ts t (withOpenPar (tradeAt ts t) ((tradeAt ts t .openPar + weightOfRecords (keep (isTaken tgt fs) rs)) - sumOf lotWeight ls))
+abbrev pub movedTrades : List Trade → List Pool → Field → List Fields → List Due → List Trade
+movedTrades ts rs tgt fs ds = parsMoved (keep (isTaken tgt fs) rs) ds 0 ts
 
-abbrev pub movedRecords : ℕ → List Pool → ℕ → Field → List Fields → List Lot → List Pool
-movedRecords last rs t tgt fs ls = keep (λ (r : Pool). not (isTaken tgt fs r)) rs ++ recordsOf (last + 1) t 1 ls
+abbrev pub movedRecords : ℕ → List Pool → Field → List Fields → List Due → List Pool
+movedRecords last rs tgt fs ds = keep (λ (r : Pool). not (isTaken tgt fs r)) rs ++ recordsOf (last + 1) 1 ds
 
-abbrev pub movedLots : ℕ → List Brought → ℕ → Field → List Fields → List Lot → Bool → Bool → List Brought
-movedLots last hs t tgt fs ls byOn byDk = map (takeOff byDk tgt fs) hs ++ bring (last + 1) byOn 1 (map (due t) ls)
+abbrev pub movedLots : ℕ → List Brought → Field → List Fields → List Due → Bool → Bool → List Brought
+movedLots last hs tgt fs ds byOn byDk = map (takeOff byDk tgt fs) hs ++ bring (last + 1) byOn 1 ds
 
-module _ (v : Values) (ts : List Trade) (h : History) (t : ℕ) (tgt : Field) (fs : List Fields) (ls : List Lot) (byOn byDk : Bool)
-    (w : Beside v (h .lastMessageId) ts (flat stands (h .lots)) h) (mv : Move ts (flat stands (h .lots)) (h .lots) t tgt fs ls byOn byDk) where
-  range : t < length (tradesOf v)
-  range = omega (arith, mv .range, same-count v ts (w .terms))
+-- a trade's open par after it
+moved-at : (off : List Pool) (ds : List Due) (i : ℕ) (ts : List Trade) (j : ℕ) → j < length ts
+    → tradeAt (parsMoved off ds i ts) j .openPar ≡ (tradeAt ts j .openPar + tradeWeight (i + j) off) - dueWeight (i + j) ds
+moved-at off ds i [] j lt = absurd (omega arith)
+moved-at off ds i (t ∷ ts) zero lt = rw add-zero
+moved-at off ds i (t ∷ ts) (suc j) lt =
+    let e : i + 1 + j ≡ i + suc j = omega arith in
+    moved-at off ds (i + 1) ts j (omega arith) ∙ ap (λ (k : ℕ). (tradeAt ts j .openPar + tradeWeight k off) - dueWeight k ds) e
 
-  move-pars : (u : ℕ) → u < length (tradesOf v)
-      → tradeAt (movedTrades ts (flat stands (h .lots)) t tgt fs ls) u .openPar + standingWeight u (movedLots (h .lastMessageId) (h .lots) t tgt fs ls byOn byDk) ≡ tradeAt (tradesOf v) u .par
-  unfolding standingWeight
-  move-pars u lu = by (ℕ-discrete u t)
-    where
-      W : ℕ
-      W = weightOfRecords (keep (isTaken tgt fs) (flat stands (h .lots)))
+module _ (v : Values) (ts : List Trade) (h : History) (tgt : Field) (fs : List Fields) (ds : List Due) (byOn byDk : Bool)
+    (w : Beside v (h .lastMessageId) ts (flat stands (h .lots)) h) (mv : Move ts (flat stands (h .lots)) (h .lots) tgt fs ds byOn byDk) where
+  abbrev next : List Brought
+  next = movedLots (h .lastMessageId) (h .lots) tgt fs ds byOn byDk
 
-      X : Trade
-      X = withOpenPar (tradeAt ts t) ((tradeAt ts t .openPar + W) - sumOf lotWeight ls)
+  -- a sum over the lots after it is that over the old ones and that over the new ones
+  parted : (f : Brought → ℕ) → sumOf f next ≡ sumOf f (map (takeOff byDk tgt fs) (h .lots)) + sumOf f (bring (h .lastMessageId + 1) byOn 1 ds)
+  parted f = sum-append f (map (takeOff byDk tgt fs) (h .lots)) (bring (h .lastMessageId + 1) byOn 1 ds)
 
-      weighs : W ≡ sumOf (gone tgt fs lotWeight) (h .lots)
-      weighs = gone-weight tgt fs (h .lots) (length (tradesOf v)) (h .lastMessageId) (w .lots) (mv .exact .whole)
+  move-pars : (u : ℕ) → u < length (tradesOf v) → tradeAt (movedTrades ts (flat stands (h .lots)) tgt fs ds) u .openPar + standingWeight u next ≡ tradeAt (tradesOf v) u .par
+  unfolding standingWeight dueWeight
+  move-pars u lu =
+      rw (moved-at (keep (isTaken tgt fs) (flat stands (h .lots))) ds 0 ts u (omega (arith, same-count v ts (w .terms))), zero-add)
+      (omega (
+        arith,
+        mv .room u,
+        w .pars u lu,
+        gone-weight tgt fs (h .lots) (length (tradesOf v)) (h .lastMessageId) (w .lots) (mv .exact .whole) u,
+        standing-take tgt fs (h .lots) lotWeight byDk u,
+        parted (tradeShare u (standing lotWeight)),
+        standing-bring (h .lastMessageId + 1) byOn lotWeight u 1 ds,
+      ))
 
-      sums : sumOf (tradeShare u (standing lotWeight)) (map (takeOff byDk tgt fs) (h .lots) ++ bring (h .lastMessageId + 1) byOn 1 (map (due t) ls))
-          ≡ sumOf (tradeShare u (standing lotWeight)) (map (takeOff byDk tgt fs) (h .lots)) + cond (eqb t u) (sumOf lotWeight ls) 0
-      sums =
-          sum-append (tradeShare u (standing lotWeight)) (map (takeOff byDk tgt fs) (h .lots)) (bring (h .lastMessageId + 1) byOn 1 (map (due t) ls))
-          ∙ ap (λ (x : ℕ). sumOf (tradeShare u (standing lotWeight)) (map (takeOff byDk tgt fs) (h .lots)) + x) (standing-bring (h .lastMessageId + 1) byOn t lotWeight u 1 ls)
-
-      by : Dec (u ≡ t)
-          → tradeAt (set ts t X) u .openPar + sumOf (tradeShare u (standing lotWeight)) (map (takeOff byDk tgt fs) (h .lots) ++ bring (h .lastMessageId + 1) byOn 1 (map (due t) ls))
-          ≡ tradeAt (tradesOf v) u .par
-      by (yes e) =
-          rw (e, getD-set-same ts t X noTrade (mv .range))
-          (omega (
-            arith,
-            mv .room,
-            weighs,
-            rw e at (w .pars u lu),
-            rw (e, eq-eqb t t refl) at sums,
-            standing-take tgt fs (h .lots) lotWeight byDk t,
-            gone-there tgt fs (h .lots) lotWeight t (mv .there),
-          ))
-      by (no e) =
-          rw (getD-set-other ts t u X noTrade e)
-          (omega (
-            arith,
-            w .pars u lu,
-            rw (ne-eqb t u (λ p. e (sym p))) at sums,
-            standing-take tgt fs (h .lots) lotWeight byDk u,
-            gone-elsewhere tgt fs (h .lots) lotWeight t u (mv .there) e,
-          ))
-
-  move-millions : (u : ℕ) → sumOf (tradeShare u (standing lotMillions)) (movedLots (h .lastMessageId) (h .lots) t tgt fs ls byOn byDk)
-      + millionsByDks u (movedLots (h .lastMessageId) (h .lots) t tgt fs ls byOn byDk) ≡ millionsByOns u (movedLots (h .lastMessageId) (h .lots) t tgt fs ls byOn byDk)
+  move-millions : (u : ℕ) → sumOf (tradeShare u (standing lotMillions)) next + millionsByDks u next ≡ millionsByOns u next
   unfolding millionsByOns millionsByDks
   move-millions u =
       omega (
@@ -178,30 +161,33 @@ module _ (v : Values) (ts : List Trade) (h : History) (t : ℕ) (tgt : Field) (f
         standing-take tgt fs (h .lots) lotMillions byDk u,
         dks-take tgt fs (h .lots) u byDk (first-time tgt fs (h .lots) (length (tradesOf v)) (h .lastMessageId) (w .lots) (mv .exact .live)),
         ons-take tgt fs (h .lots) u byDk,
-        sum-append (tradeShare u (standing lotMillions)) (map (takeOff byDk tgt fs) (h .lots)) (bring (h .lastMessageId + 1) byOn 1 (map (due t) ls)),
-        sum-append (tradeShare u (λ (g : Brought). g .dks * lotMillions (g .lot))) (map (takeOff byDk tgt fs) (h .lots)) (bring (h .lastMessageId + 1) byOn 1 (map (due t) ls)),
-        sum-append (tradeShare u (λ (g : Brought). cond (g .byOn) (lotMillions (g .lot)) 0)) (map (takeOff byDk tgt fs) (h .lots)) (bring (h .lastMessageId + 1) byOn 1 (map (due t) ls)),
-        standing-bring (h .lastMessageId + 1) byOn t lotMillions u 1 ls,
-        dks-bring (h .lastMessageId + 1) byOn t u 1 ls,
-        ons-bring (h .lastMessageId + 1) byOn t u 1 ls,
+        parted (tradeShare u (standing lotMillions)),
+        parted (tradeShare u (λ (g : Brought). g .dks * lotMillions (g .lot))),
+        parted (tradeShare u (λ (g : Brought). cond (g .byOn) (lotMillions (g .lot)) 0)),
+        standing-bring (h .lastMessageId + 1) byOn lotMillions u 1 ds,
+        dks-bring (h .lastMessageId + 1) byOn u 1 ds,
+        ons-bring (h .lastMessageId + 1) byOn u 1 ds,
       )
 
-  move-flat : Beside v (h .lastMessageId + 1) (movedTrades ts (flat stands (h .lots)) t tgt fs ls) (movedRecords (h .lastMessageId) (flat stands (h .lots)) t tgt fs ls)
-      (record { lastMessageId = h .lastMessageId + 1; lots = movedLots (h .lastMessageId) (h .lots) t tgt fs ls byOn byDk })
+  move-flat : Beside v (h .lastMessageId + 1) (movedTrades ts (flat stands (h .lots)) tgt fs ds) (movedRecords (h .lastMessageId) (flat stands (h .lots)) tgt fs ds)
+      (record { lastMessageId = h .lastMessageId + 1; lots = next })
   move-flat =
       record {
         last = refl;
         table = rw (left-flat tgt fs (h .lots) (mv .exact .whole) byDk, flat-append, flat-bring);
-        terms = map-set-same atPar ts t (withOpenPar (tradeAt ts t) ((tradeAt ts t .openPar + weightOfRecords (keep (isTaken tgt fs) (flat stands (h .lots)))) - sumOf lotWeight ls)) noTrade refl ∙ w .terms;
+        terms = moved-blind atPar (λ t cents. refl) (keep (isTaken tgt fs) (flat stands (h .lots))) ds 0 ts ∙ w .terms;
         pars = move-pars;
-        lots = lots-bring (length (tradesOf v)) (h .lastMessageId) (map (takeOff byDk tgt fs) (h .lots)) (lots-take tgt fs (h .lots) (length (tradesOf v)) (h .lastMessageId) (w .lots) (mv .exact .live) byDk) t range byOn ls (mv .apart);
+        lots =
+            lots-bring (length (tradesOf v)) (h .lastMessageId) (map (takeOff byDk tgt fs) (h .lots))
+            (lots-take tgt fs (h .lots) (length (tradesOf v)) (h .lastMessageId) (w .lots) (mv .exact .live) byDk) byOn ds (mv .one .0)
+            (λ d m. omega (arith, mv .range d m, same-count v ts (w .terms))) (mv .one .1) (mv .apart);
         millions = move-millions;
       }
 
 -- a move keeps book and history side by side
 pub move : (v : Values) (last : ℕ) (ts : List Trade) (rs : List Pool) (h : History) → Beside v last ts rs h
-    → (t : ℕ) (tgt : Field) (fs : List Fields) (ls : List Lot) (byOn byDk : Bool) → Move ts rs (h .lots) t tgt fs ls byOn byDk
-    → Beside v (last + 1) (movedTrades ts rs t tgt fs ls) (movedRecords last rs t tgt fs ls) (record { lastMessageId = h .lastMessageId + 1; lots = movedLots (h .lastMessageId) (h .lots) t tgt fs ls byOn byDk })
-move v last ts rs h w t tgt fs ls byOn byDk mv =
+    → (tgt : Field) (fs : List Fields) (ds : List Due) (byOn byDk : Bool) → Move ts rs (h .lots) tgt fs ds byOn byDk
+    → Beside v (last + 1) (movedTrades ts rs tgt fs ds) (movedRecords last rs tgt fs ds) (record { lastMessageId = h .lastMessageId + 1; lots = movedLots (h .lastMessageId) (h .lots) tgt fs ds byOn byDk })
+move v last ts rs h w tgt fs ds byOn byDk mv =
     let w₀ : Beside v (h .lastMessageId) ts (flat stands (h .lots)) h = record { last = refl; table = refl; terms = w .terms; pars = w .pars; lots = w .lots; millions = w .millions } in
-    rw (w .table, w .last) (move-flat v ts h t tgt fs ls byOn byDk w₀ (rw (w .table) at mv))
+    rw (w .table, w .last) (move-flat v ts h tgt fs ds byOn byDk w₀ (rw (w .table) at mv))

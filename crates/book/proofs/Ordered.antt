@@ -3,19 +3,21 @@
 use Prim.Native.Nat.{ℕ, _+_, _≤_, _<_}
 use mathlib.Core.Path.{_≡_, refl, sym, _∙_}
 use mathlib.Core.Logic.{_⊎_, inl, inr}
-use mathlib.Core.List.{List, [], _∷_, _++_, map}
+use mathlib.Core.List.{List, [], _∷_, _++_, map, List·Memᴰ·head, List·Memᴰ·tail}
 use mathlib.Core.Bool.{Bool, true, _&&_, _||_, and-false}
 use native.Mathlib.Omega.{arith}
 use native.Mathlib.Decide.{ℕ-discrete, decLt}
 use lib.Dec.{eqb, leb, ltb}
 use borrow.Author.Tests.{ltb-true, leb-true, eqb-true, lt-ltb, le-ltb, le-leb, lt-leb, eq-eqb, ne-eqb}
 use Rattle.lists.specs.Lists.{keep, all}
-use Rattle.lists.proofs.Tests.{and-left, and-right, both, implied}
+use Rattle.lists.proofs.Tests.{_∈_, and-left, and-right, both, implied, all-in, all-out}
 use Rattle.layout.specs.declared.Detail.{Detail}
 use Rattle.terminator.specs.Lots.{Lot, poolsOf}
 use Rattle.book.specs.declared.Pool.{Pool}
+use Rattle.book.specs.Dues.{Due}
 use Rattle.book.specs.Records.{poolOf, recordsOf, sameLot}
 use Rattle.book.specs.Soundness.{notFalling, agreeOnTrade, agreeOnLot, follows, inOrder}
+use Rattle.book.proofs.Dues.{AllTo}
 use Rattle.book.proofs.ListLaws.{or-split, or-right, all-keep, all-implied, all-both, all-map, pairwise, pairwise-keep, pairwise-append}
 
 -- ---- the test as an order
@@ -179,29 +181,37 @@ pub ordered-keep : (p : Pool → Bool) (rs : List Pool) → inOrder rs ≡ true 
 ordered-keep p rs e = chained-order (keep p rs) (pairwise-keep follows p rs (order-chained rs e))
 
 -- ---- the records of new lots
--- a record under a message ID and a trade, with an ordinal from a number on
-abbrev pub isFrom : ℕ → ℕ → ℕ → Pool → Bool
-isFrom id t o r = eqb (r .message) id && (eqb (r .trade) t && leb o (r .ordinal))
+-- a record under a message ID, with an ordinal from a number on
+abbrev pub isFrom : ℕ → ℕ → Pool → Bool
+isFrom id o r = eqb (r .message) id && leb o (r .ordinal)
 
-from-next : (id t o : ℕ) (r : Pool) → isFrom id t (o + 1) r ≡ true → isFrom id t o r ≡ true
-from-next id t o r e =
-    let f : (eqb (r .trade) t && leb (o + 1) (r .ordinal)) ≡ true = and-right (eqb (r .message) id) (eqb (r .trade) t && leb (o + 1) (r .ordinal)) e in
-    let g : o + 1 ≤ r .ordinal = leb-true (o + 1) (r .ordinal) (and-right (eqb (r .trade) t) (leb (o + 1) (r .ordinal)) f) in
-    rw (and-left (eqb (r .message) id) (eqb (r .trade) t && leb (o + 1) (r .ordinal)) e, and-left (eqb (r .trade) t) (leb (o + 1) (r .ordinal)) f, le-leb o (r .ordinal) (omega arith))
+from-next : (id o : ℕ) (r : Pool) → isFrom id (o + 1) r ≡ true → isFrom id o r ≡ true
+from-next id o r e =
+    let g : o + 1 ≤ r .ordinal = leb-true (o + 1) (r .ordinal) (and-right (eqb (r .message) id) (leb (o + 1) (r .ordinal)) e) in
+    rw (and-left (eqb (r .message) id) (leb (o + 1) (r .ordinal)) e, le-leb o (r .ordinal) (omega arith))
 
-pub records-from : (id t o : ℕ) (ls : List Lot) → all (isFrom id t o) (recordsOf id t o ls) ≡ true
-records-from id t o [] = refl
-records-from id t o (l ∷ ls) =
-    all-both (isFrom id t o) (map (poolOf id o t l) (poolsOf l)) (recordsOf id t (o + 1) ls)
-    (all-map (isFrom id t o) (poolOf id o t l) (λ (d : Detail). rw (eq-eqb id id refl, eq-eqb t t refl, le-leb o o (omega arith))) (poolsOf l))
-    (all-implied (isFrom id t (o + 1)) (isFrom id t o) (from-next id t o) (recordsOf id t (o + 1) ls) (records-from id t (o + 1) ls))
+pub records-from : (id o : ℕ) (ds : List Due) → all (isFrom id o) (recordsOf id o ds) ≡ true
+records-from id o [] = refl
+records-from id o (d ∷ ds) =
+    all-both (isFrom id o) (map (poolOf id o (d .to) (d .lot)) (poolsOf (d .lot))) (recordsOf id (o + 1) ds)
+    (all-map (isFrom id o) (poolOf id o (d .to) (d .lot)) (λ (p : Detail). rw (eq-eqb id id refl, le-leb o o (omega arith))) (poolsOf (d .lot)))
+    (all-implied (isFrom id (o + 1)) (isFrom id o) (from-next id o) (recordsOf id (o + 1) ds) (records-from id (o + 1) ds))
 
-follows-from : (id t o : ℕ) (l : Lot) (d : Detail) (r : Pool) → isFrom id t (o + 1) r ≡ true → follows (poolOf id o t l d) r ≡ true
-follows-from id t o l d r e =
-    let f : (eqb (r .trade) t && leb (o + 1) (r .ordinal)) ≡ true = and-right (eqb (r .message) id) (eqb (r .trade) t && leb (o + 1) (r .ordinal)) e in
-    let m : r .message ≡ id = eqb-true (r .message) id (and-left (eqb (r .message) id) (eqb (r .trade) t && leb (o + 1) (r .ordinal)) e) in
-    let u : r .trade ≡ t = eqb-true (r .trade) t (and-left (eqb (r .trade) t) (leb (o + 1) (r .ordinal)) f) in
-    let g : o + 1 ≤ r .ordinal = leb-true (o + 1) (r .ordinal) (and-right (eqb (r .trade) t) (leb (o + 1) (r .ordinal)) f) in
+-- lots due to one trade have records of that trade
+abbrev isOf : ℕ → Pool → Bool
+isOf t r = eqb (r .trade) t
+
+records-of : (id o t : ℕ) (ds : List Due) → AllTo t ds → all (isOf t) (recordsOf id o ds) ≡ true
+records-of id o t [] k = refl
+records-of id o t (d ∷ ds) k =
+    all-both (isOf t) (map (poolOf id o (d .to) (d .lot)) (poolsOf (d .lot))) (recordsOf id (o + 1) ds)
+    (all-map (isOf t) (poolOf id o (d .to) (d .lot)) (λ (p : Detail). eq-eqb (d .to) t (k d (List·Memᴰ·head refl))) (poolsOf (d .lot)))
+    (records-of id (o + 1) t ds (λ e m. k e (List·Memᴰ·tail m)))
+
+follows-from : (id t o : ℕ) (l : Lot) (d : Detail) (r : Pool) → isFrom id (o + 1) r ≡ true → r .trade ≡ t → follows (poolOf id o t l d) r ≡ true
+follows-from id t o l d r e u =
+    let m : r .message ≡ id = eqb-true (r .message) id (and-left (eqb (r .message) id) (leb (o + 1) (r .ordinal)) e) in
+    let g : o + 1 ≤ r .ordinal = leb-true (o + 1) (r .ordinal) (and-right (eqb (r .message) id) (leb (o + 1) (r .ordinal)) e) in
     is-follows (poolOf id o t l d) r (inr (sym m, sym u, inl (omega arith)))
 
 lot-chained : (id t o : ℕ) (l : Lot) (ds : List Detail) → chained (map (poolOf id o t l) ds) ≡ true
@@ -211,30 +221,38 @@ lot-chained id t o l (d ∷ ds) =
     (all-map (follows (poolOf id o t l d)) (poolOf id o t l) (λ (e : Detail). is-follows (poolOf id o t l d) (poolOf id o t l e) (inr (refl, refl, inr (refl, refl, refl)))) ds)
     (lot-chained id t o l ds)
 
-records-chained : (id t o : ℕ) (ls : List Lot) → chained (recordsOf id t o ls) ≡ true
-records-chained id t o [] = refl
-records-chained id t o (l ∷ ls) =
-    pairwise-append follows (map (poolOf id o t l) (poolsOf l)) (recordsOf id t (o + 1) ls) (lot-chained id t o l (poolsOf l)) (records-chained id t (o + 1) ls)
-    (all-map (λ (q : Pool). all (follows q) (recordsOf id t (o + 1) ls)) (poolOf id o t l)
-    (λ (d : Detail). all-implied (isFrom id t (o + 1)) (follows (poolOf id o t l d)) (follows-from id t o l d) (recordsOf id t (o + 1) ls) (records-from id t (o + 1) ls))
-    (poolsOf l))
+records-chained : (id o t : ℕ) (ds : List Due) → AllTo t ds → chained (recordsOf id o ds) ≡ true
+records-chained id o t [] k = refl
+records-chained id o t (d ∷ ds) k =
+    pairwise-append follows (map (poolOf id o (d .to) (d .lot)) (poolsOf (d .lot))) (recordsOf id (o + 1) ds) (lot-chained id (d .to) o (d .lot) (poolsOf (d .lot)))
+    (records-chained id (o + 1) t ds rest)
+    (all-map (λ (q : Pool). all (follows q) (recordsOf id (o + 1) ds)) (poolOf id o (d .to) (d .lot))
+    (λ (p : Detail). all-in (follows (poolOf id o (d .to) (d .lot) p)) (recordsOf id (o + 1) ds)
+    (λ r m. follows-from id (d .to) o (d .lot) p r (all-out (isFrom id (o + 1)) m (records-from id (o + 1) ds)) (here r m)))
+    (poolsOf (d .lot)))
+  where
+    rest : AllTo t ds
+    rest e m = k e (List·Memᴰ·tail m)
+
+    here : (r : Pool) → r ∈ recordsOf id (o + 1) ds → r .trade ≡ d .to
+    here r m = eqb-true (r .trade) t (all-out (isOf t) m (records-of id (o + 1) t ds rest)) ∙ sym (k d (List·Memᴰ·head refl))
 
 -- ---- old records, then new ones
 abbrev pub isOld : ℕ → Pool → Bool
 isOld last r = leb (r .message) last
 
-old-before : (last t : ℕ) (q r : Pool) → isOld last q ≡ true → isFrom (last + 1) t 1 r ≡ true → follows q r ≡ true
-old-before last t q r e f =
-    let m : r .message ≡ last + 1 = eqb-true (r .message) (last + 1) (and-left (eqb (r .message) (last + 1)) (eqb (r .trade) t && leb 1 (r .ordinal)) f) in
+old-before : (last : ℕ) (q r : Pool) → isOld last q ≡ true → isFrom (last + 1) 1 r ≡ true → follows q r ≡ true
+old-before last q r e f =
+    let m : r .message ≡ last + 1 = eqb-true (r .message) (last + 1) (and-left (eqb (r .message) (last + 1)) (leb 1 (r .ordinal)) f) in
     let h : q .message ≤ last = leb-true (q .message) last e in
     is-follows q r (inl (omega arith))
 
-pub ordered-after : (last t : ℕ) (p : Pool → Bool) (rs : List Pool) (ls : List Lot) → all (isOld last) rs ≡ true → inOrder rs ≡ true
-    → inOrder (keep p rs ++ recordsOf (last + 1) t 1 ls) ≡ true
-ordered-after last t p rs ls old e =
-    let new : List Pool = recordsOf (last + 1) t 1 ls in
+pub ordered-after : (last t : ℕ) (p : Pool → Bool) (rs : List Pool) (ds : List Due) → AllTo t ds → all (isOld last) rs ≡ true → inOrder rs ≡ true
+    → inOrder (keep p rs ++ recordsOf (last + 1) 1 ds) ≡ true
+ordered-after last t p rs ds k old e =
+    let new : List Pool = recordsOf (last + 1) 1 ds in
     chained-order (keep p rs ++ new)
-    (pairwise-append follows (keep p rs) new (pairwise-keep follows p rs (order-chained rs e)) (records-chained (last + 1) t 1 ls)
+    (pairwise-append follows (keep p rs) new (pairwise-keep follows p rs (order-chained rs e)) (records-chained (last + 1) 1 t ds k)
     (all-implied (isOld last) (λ (q : Pool). all (follows q) new)
-    (λ (q : Pool) h. all-implied (isFrom (last + 1) t 1) (follows q) (λ (r : Pool) f. old-before last t q r h f) new (records-from (last + 1) t 1 ls))
+    (λ (q : Pool) h. all-implied (isFrom (last + 1) 1) (follows q) (λ (r : Pool) f. old-before last q r h f) new (records-from (last + 1) 1 ds))
     (keep p rs) (all-keep (isOld last) p rs old)))

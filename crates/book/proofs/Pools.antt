@@ -17,10 +17,12 @@ use Rattle.terminator.specs.Groups.{Group, groupsFrom, groups, lotCanceled}
 use Rattle.faces.specs.Faces.{newLots, newPools, isNewLot}
 use Rattle.message_type.specs.declared.MessageType.{MessageType}
 use Rattle.message_type.specs.Questions.{bringsLots, listsLots}
+use Rattle.book.specs.Dues.{Due}
 use Rattle.book.specs.Records.{fieldsOf, poolOf, recordsOf}
 use Rattle.book.specs.Messages.{typeOf, listedOf, listed, brought}
 use Rattle.book.specs.Checks.{canceledLots}
 use Rattle.book.specs.History.{fieldsOfLots}
+use Rattle.book.proofs.Dues.{dueLots}
 
 -- the pools of some lots, in order
 abbrev pub flatPools : List Lot → List Detail
@@ -110,14 +112,14 @@ pub canceled-fields : (cc : Bool) (ds : List Detail) → formedFor cc ds ≡ tru
 canceled-fields cc ds f = fields-flat (canceledLots ds) ∙ ap (map fieldsOf) (flat-canceled cc ds f)
 
 -- new lots have as many records as pools
-pub length-records : (id t o : ℕ) (ls : List Lot) → length (recordsOf id t o ls) ≡ length (flatPools ls)
-length-records id t o [] = refl
-length-records id t o (l ∷ ls) =
-    length-append (map (poolOf id o t l) (poolsOf l)) (recordsOf id t (o + 1) ls)
-    ∙ rw (length-map (poolsOf l) (poolOf id o t l), length-records id t (o + 1) ls) (sym (length-append (poolsOf l) (flatPools ls)))
+length-records : (id o : ℕ) (us : List Due) → length (recordsOf id o us) ≡ length (flatPools (dueLots us))
+length-records id o [] = refl
+length-records id o (u ∷ us) =
+    length-append (map (poolOf id o (u .to) (u .lot)) (poolsOf (u .lot))) (recordsOf id (o + 1) us)
+    ∙ rw (length-map (poolsOf (u .lot)) (poolOf id o (u .to) (u .lot)), length-records id (o + 1) us) (sym (length-append (poolsOf (u .lot)) (flatPools (dueLots us))))
 
-pub records-new : (id t o : ℕ) (cc : Bool) (ds : List Detail) → formedFor cc ds ≡ true → length (recordsOf id t o (newLots ds)) ≡ length (newPools ds)
-records-new id t o cc ds f = length-records id t o (newLots ds) ∙ ap length (flat-new cc ds f)
+pub records-new : (id o : ℕ) (us : List Due) (cc : Bool) (ds : List Detail) → dueLots us ≡ newLots ds → formedFor cc ds ≡ true → length (recordsOf id o us) ≡ length (newPools ds)
+records-new id o us cc ds e f = length-records id o us ∙ ap (λ (ls : List Lot). length (flatPools ls)) e ∙ ap length (flat-new cc ds f)
 
 -- ---- the pools that a body lists and the lots that it brings
 pub listed-as : (body : List ℕ) (k : MessageType) → typeOf body ≡ k → listed body ≡ map fieldsOf (listedOf k (details body))

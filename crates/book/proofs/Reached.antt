@@ -6,12 +6,12 @@ use mathlib.Core.Logic.{_⊎_, inl, inr}
 use mathlib.Core.List.{List, [], _∷_, _++_, map}
 use mathlib.Core.Bool.{Bool, true, false, cond, not, _&&_}
 use native.Mathlib.Omega.{arith}
-use lib.Dec.{eqb, leb, ltb}
+use lib.Dec.{eqb, leb}
 use lib.ListN.{length, take, drop, replicate, length-append, length-replicate}
 use lib.Seq.{take-append-seam, drop-append-seam, length-take-le}
-use borrow.Author.Tests.{ltb-true, leb-true, leb-false, le-leb, lt-ltb, eq-eqb}
+use borrow.Author.Tests.{leb-true, leb-false, le-leb, eq-eqb}
 use Rattle.lists.specs.Lists.{keep, all}
-use Rattle.lists.proofs.Tests.{and-left, and-right, both, take-map}
+use Rattle.lists.proofs.Tests.{_∈_, and-left, and-right, both, take-map}
 use Rattle.layout.specs.declared.Detail.{Detail}
 use Rattle.layout.specs.Details.{details}
 use Rattle.terminator.specs.Lots.{Lot}
@@ -24,25 +24,27 @@ use Rattle.book.specs.declared.Book.{Book}
 use Rattle.book.specs.declared.Pool.{Pool}
 use Rattle.book.specs.declared.Answer.{Answer}
 use Rattle.book.specs.Reasons.{isAccepted, isSilent}
-use Rattle.book.specs.Records.{distinct, recordsOf, noPool, tradeWeight, weightOfRecords}
-use Rattle.book.specs.Messages.{typeOf, targetOf, listed, brought}
-use Rattle.book.specs.Trades.{tradesOf, tradeName, broughtWeight}
+use Rattle.book.specs.Dues.{Due}
+use Rattle.book.specs.Records.{distinct, recordsOf, noPool, tradeWeight}
+use Rattle.book.specs.Messages.{typeOf, targetOf, listed}
+use Rattle.book.specs.Trades.{tradesOf, tradeName}
 use Rattle.book.specs.Opening.{recordsMax, elevenDigitsMax, holidaysOf, tradeFine, valuesFine, openingFine, atPar, opened, cleared}
 use Rattle.book.specs.Soundness.{liveOf, recordFine, inOrder, fieldsOnce, isNone, parsFrom, Sound, isSound}
-use Rattle.book.specs.Checks.{Call, live, trades, arrived, concerned, isTaken, taken, tradeAt, answerOf}
+use Rattle.book.specs.Checks.{Call, live, trades, arrived, tradeDue, dues, isTaken, taken, answerOf}
 use Rattle.message_type.specs.Questions.{isOn, bringsLots, listsLots, isCc}
-use Rattle.book.specs.Step.{gapAt, lineOf, beforeAa, outboundOf, tradesMoved, liveMoved, tableMoved, accepted, bookAfter, tableAfter}
+use Rattle.book.specs.Step.{gapAt, lineOf, beforeAa, outboundOf, withOpenPar, tradesMoved, liveMoved, tableMoved, accepted, bookAfter, tableAfter}
 use Rattle.book.specs.History.{fieldsOfLots}
 use Rattle.book.specs.Promise.{State, Put, callOf, after, afterAll, openedState}
 use Rattle.book.proofs.ByRecord.{allLive, wholeLots, exactByRecord, listedByRecord}
+use Rattle.book.proofs.Dues.{dueLots, held-range, dues-lots, dues-all, dues-none}
 use Rattle.book.proofs.ListLaws.{or-right, neither-left, all-keep, all-implied, all-both, all-replicate, length-keep}
 use Rattle.book.proofs.Passed.{Fine, fine}
 use Rattle.book.proofs.Pools.{lots-formed-fields, records-new, listed-none, brought-new, brought-none}
 use Rattle.book.proofs.LiveLots.{listed-by-record}
 use Rattle.book.proofs.Ordered.{isOld, ordered-after}
 use Rattle.book.proofs.Matched.{once-after, taken-enough}
-use Rattle.book.proofs.Stored.{new-ends, records-fine, record-stays, record-old}
-use Rattle.book.proofs.Kept.{moved-blind, trades-alike, exchange, values-stay, last-within, outbound-within, next-within}
+use Rattle.book.proofs.Stored.{hasEnd, new-ends, records-fine, record-stays, record-old}
+use Rattle.book.proofs.Kept.{take-moved, moved-blind, trades-alike, exchange, values-stay, last-within, outbound-within, next-within}
 
 -- ---- the test and the facts
 pub is-sound : (b : Book) (table : List Pool) → isSound b table ≡ true → Sound b table
@@ -118,12 +120,15 @@ module _ (c : Call) (ok : isAccepted (answerOf c) ≡ true) where
   last = c .book .values .lastMessageId
 
   -- new lots, or none
-  brought-either : ((bringsLots (typeOf (c .body)) ≡ true) × (brought (c .body) ≡ newLots ds)) ⊎ (brought (c .body) ≡ [])
-  brought-either = go (bringsLots (typeOf (c .body))) refl
+  abbrev Either : Type 0
+  Either = ((bringsLots (typeOf (c .body)) ≡ true) × (dueLots (dues c) ≡ newLots ds)) ⊎ (dues c ≡ [])
+
+  dues-either : Either
+  dues-either = go (bringsLots (typeOf (c .body))) refl
     where
-      go : (b : Bool) → bringsLots (typeOf (c .body)) ≡ b → ((bringsLots (typeOf (c .body)) ≡ true) × (brought (c .body) ≡ newLots ds)) ⊎ (brought (c .body) ≡ [])
-      go true e = inl (e, brought-new (c .body) e)
-      go false e = inr (brought-none (c .body) e)
+      go : (b : Bool) → bringsLots (typeOf (c .body)) ≡ b → Either
+      go true e = inl (e, dues-lots (c .body) (trades c) (live c) ∙ brought-new (c .body) e)
+      go false e = inr (dues-none (c .body) (trades c) (live c) (brought-none (c .body) e))
 
   -- fields to take off are found, or none are listed
   listed-either : (listsLots (typeOf (c .body)) ≡ true) ⊎ (listed (c .body) ≡ [])
@@ -153,12 +158,12 @@ module _ (c : Call) (ok : isAccepted (answerOf c) ≡ true) where
   stays r = not (isTaken (targetOf (c .body)) (listed (c .body)) r)
 
   abbrev new : List Pool
-  new = recordsOf (last + 1) (concerned c) 1 (brought (c .body))
+  new = recordsOf (last + 1) 1 (dues c)
 
   -- the live records after it fit the table
   pub moved-fits : Sound (c .book) (c .table) → length (liveMoved c) ≤ length (c .table)
   unfolding liveMoved
-  moved-fits s = go brought-either
+  moved-fits s = go dues-either
     where
       split : length (keep stays (live c)) + length (taken c) ≡ length (live c)
       split = length-keep (isTaken (targetOf (c .body)) (listed (c .body))) (live c)
@@ -172,15 +177,14 @@ module _ (c : Call) (ok : isAccepted (answerOf c) ≡ true) where
       sum : length (keep stays (live c) ++ new) ≡ length (keep stays (live c)) + length new
       sum = length-append (keep stays (live c)) new
 
-      go : ((bringsLots (typeOf (c .body)) ≡ true) × (brought (c .body) ≡ newLots ds)) ⊎ (brought (c .body) ≡ []) → length (keep stays (live c) ++ new) ≤ length (c .table)
+      go : Either → length (keep stays (live c) ++ new) ≤ length (c .table)
       go (inl (t, e)) =
-          let count : length new ≡ length (newPools ds) =
-          ap (λ (ls : List Lot). length (recordsOf (last + 1) (concerned c) 1 ls)) e ∙ records-new (last + 1) (concerned c) 1 (isCc (typeOf (c .body))) ds (fine c ok .formed t) in
+          let count : length new ≡ length (newPools ds) = records-new (last + 1) 1 (dues c) (isCc (typeOf (c .body))) ds e (fine c ok .formed t) in
           let room : length (live c) + length (newPools ds) ≤ length (c .table) + length (listed (c .body)) =
           leb-true (length (live c) + length (newPools ds)) (length (c .table) + length (listed (c .body))) (fine c ok .tableFits t) in
           omega (arith, sum, split, gone-enough)
       go (inr e) =
-          let count : length new ≡ 0 = ap (λ (ls : List Lot). length (recordsOf (last + 1) (concerned c) 1 ls)) e in
+          let count : length new ≡ 0 = ap (λ (us : List Due). length (recordsOf (last + 1) 1 us)) e in
           omega (arith, sum, split, size, within)
 
   -- they are in order
@@ -189,26 +193,25 @@ module _ (c : Call) (ok : isAccepted (answerOf c) ≡ true) where
 
   moved-ordered : Sound (c .book) (c .table) → inOrder (liveMoved c) ≡ true
   unfolding liveMoved
-  moved-ordered s = ordered-after last (concerned c) stays (live c) (brought (c .body)) (old s) (s .ordered)
+  moved-ordered s = ordered-after last (tradeDue (c .body) (trades c) (live c)) stays (live c) (dues c) (dues-all (c .body) (trades c) (live c)) (old s) (s .ordered)
 
   -- no matched fields stand twice under one message ID
-  new-distinct : distinct (fieldsOfLots (brought (c .body))) ≡ true
-  new-distinct = go brought-either
+  new-distinct : distinct (fieldsOfLots (dueLots (dues c))) ≡ true
+  new-distinct = go dues-either
     where
-      go : ((bringsLots (typeOf (c .body)) ≡ true) × (brought (c .body) ≡ newLots ds)) ⊎ (brought (c .body) ≡ []) → distinct (fieldsOfLots (brought (c .body))) ≡ true
+      go : Either → distinct (fieldsOfLots (dueLots (dues c))) ≡ true
       go (inl (t, e)) =
           ap (λ (ls : List Lot). distinct (fieldsOfLots ls)) e ∙ ap distinct (lots-formed-fields (isCc (typeOf (c .body))) ds (fine c ok .formed t)) ∙ fine c ok .repeated t
-      go (inr e) = ap (λ (ls : List Lot). distinct (fieldsOfLots ls)) e
+      go (inr e) = ap (λ (us : List Due). distinct (fieldsOfLots (dueLots us))) e
 
   moved-once : Sound (c .book) (c .table) → fieldsOnce (liveMoved c) ≡ true
   unfolding liveMoved
-  moved-once s = once-after last (concerned c) stays (live c) (brought (c .body)) (old s) (s .once) new-distinct
+  moved-once s = once-after last stays (live c) (dues c) (old s) (s .once) new-distinct
 
   -- each is fine by itself
-  opened-trade : bringsLots (typeOf (c .body)) ≡ true → ltb (concerned c) (c .book .values .lent .tradeCount) ≡ true
-  opened-trade t =
-      let h : concerned c < length (trades c) = ltb-true (concerned c) (length (trades c)) (and-left (ltb (concerned c) (length (trades c))) _ (fine c ok .parEnough t)) in
-      lt-ltb (concerned c) (c .book .values .lent .tradeCount) (omega (arith, short (c .book .values .lent .tradeCount) (c .book .values .trades)))
+  opened-trade : bringsLots (typeOf (c .body)) ≡ true → (u : Due) → u ∈ dues c → u .to < c .book .values .lent .tradeCount
+  opened-trade t u m =
+      omega (arith, held-range (trades c) (taken c) (dues c) (fine c ok .parEnough t) u m, short (c .book .values .lent .tradeCount) (c .book .values .trades))
     where
       short : (n : ℕ) (ts : List Trade) → length (take n ts) ≤ n
       short zero ts = omega arith
@@ -220,15 +223,14 @@ module _ (c : Call) (ok : isAccepted (answerOf c) ≡ true) where
   moved-records s w ec el =
       all-both (recordFine w) (keep stays (live c)) new
       (all-keep (recordFine w) stays (live c) (all-implied (recordFine (c .book .values)) (recordFine w) (record-stays (c .book .values) w ec (omega arith)) (live c) (s .records)))
-      (go brought-either)
+      (go dues-either)
     where
-      go : ((bringsLots (typeOf (c .body)) ≡ true) × (brought (c .body) ≡ newLots ds)) ⊎ (brought (c .body) ≡ []) → all (recordFine w) new ≡ true
+      go : Either → all (recordFine w) new ≡ true
       go (inl (t, e)) =
           let low : leb 1 (last + 1) ≡ true = le-leb 1 (last + 1) (omega arith) in
           let high : leb (last + 1) (w .lastMessageId) ≡ true = le-leb (last + 1) (w .lastMessageId) (omega arith) in
-          ap (λ (ls : List Lot). all (recordFine w) (recordsOf (last + 1) (concerned c) 1 ls)) e
-          ∙ records-fine w (last + 1) (concerned c) 1 (newLots ds) (ap (ltb (concerned c)) ec ∙ opened-trade t) (rw (low, high)) (omega arith) (new-ends ds)
-      go (inr e) = ap (λ (ls : List Lot). all (recordFine w) (recordsOf (last + 1) (concerned c) 1 ls)) e
+          records-fine w (last + 1) 1 (dues c) (λ u m. rw ec (opened-trade t u m)) (rw (low, high)) (omega arith) (ap (all hasEnd) e ∙ new-ends ds)
+      go (inr e) = ap (λ (us : List Due). all (recordFine w) (recordsOf (last + 1) 1 us)) e
 
 -- ---- the counters of any call
 line-sound : (c : Call) (a : Answer) → soundLine (c .book .values .connection .line) ≡ true → soundLine (lineOf (c .book) (c .body) a) ≡ true
@@ -263,8 +265,7 @@ moved-values c ok s =
     values-stay v (tradesMoved c) (v .lastMessageId + 1) (lineOf (c .book) (c .body) (answerOf c)) (outboundOf (c .book) (c .body) (answerOf c)) (s .values) (le-leb (v .lastMessageId + 1) elevenDigitsMax (omega (arith, spare)))
     (outbound-fits c (answerOf c) (outbound-within v (s .values)))
     (trades-alike (holidaysOf v) (take (v .lent .tradeCount) (tradesMoved c)) (tradesOf v)
-    (moved-blind (tradeFine (holidaysOf v)) (λ (t : Trade) (cents : ℕ). refl) (v .lent .tradeCount) (v .trades) (concerned c) left)
-    (moved-blind tradeName (λ (t : Trade) (cents : ℕ). refl) (v .lent .tradeCount) (v .trades) (concerned c) left))
+    (alike (tradeFine (holidaysOf v)) (λ t cents. refl)) (alike tradeName (λ t cents. refl)))
   where
     v : Values
     v = c .book .values
@@ -272,8 +273,8 @@ moved-values c ok s =
     spare : v .lastMessageId < elevenDigitsMax
     spare = leb-false elevenDigitsMax (v .lastMessageId) (neither-left (leb elevenDigitsMax (v .lastMessageId)) (outboundSpent (v .connection .outbound)) (fine c ok .notSpent))
 
-    left : ℕ
-    left = (tradeAt (trades c) (concerned c) .openPar + weightOfRecords (taken c)) - broughtWeight (c .body)
+    alike : {B : Type 0} (f : Trade → B) → ((t : Trade) (cents : ℕ) → f (withOpenPar t cents) ≡ f t) → map f (take (v .lent .tradeCount) (tradesMoved c)) ≡ map f (tradesOf v)
+    alike f blind = ap (map f) (take-moved (taken c) (dues c) 0 (v .lent .tradeCount) (v .trades)) ∙ moved-blind f blind (taken c) (dues c) 0 (tradesOf v)
 
 moved-zeros : (c : Call) → all isNone (drop (length (liveMoved c)) (tableMoved c)) ≡ true
 unfolding tableMoved

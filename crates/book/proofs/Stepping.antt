@@ -1,8 +1,8 @@
 -- What the checks of an accepted ON, CC or DK give is what its move asks for; and the lots that the history makes of the message are those of the move.
 use mathlib.Core.Path.{_≡_, refl, sym, ap, _∙_}
 use mathlib.Core.Bool.{Bool, true, false, cond, and-false}
-use mathlib.Core.List.{List, [], _∷_, map, append-nil}
-use Prim.Native.Nat.{ℕ, _+_, _≤_, _<_}
+use mathlib.Core.List.{List, [], _∷_, map, List·Memᴰ·not-nil}
+use Prim.Native.Nat.{ℕ, _+_, _≤_}
 use native.Mathlib.Omega.{arith}
 use native.Mathlib.Nat.{add-zero}
 use native.Mathlib.Decide.{ℕ-discrete}
@@ -13,26 +13,28 @@ use Rattle.lists.specs.Lists.{keep, any, all, sumOf}
 use Rattle.lists.proofs.Tests.{_∈_, clash, cond-zero, all-in, any-none, sum-same, sum-zero}
 use Rattle.fields.specs.declared.Field.{Field}
 use Rattle.layout.specs.Details.{details}
-use Rattle.terminator.specs.Lots.{Lot, poolsOf, lotWeight, lotMillions, formedFor}
+use Rattle.terminator.specs.Lots.{Lot, poolsOf, lotMillions, formedFor}
 use Rattle.terminator.specs.Groups.{groups, groupsFormed, groupsBalanced}
 use Rattle.faces.specs.Faces.{newPools}
-use Rattle.message_type.specs.declared.MessageType.{MessageType}
 use Rattle.message_type.specs.declared.MessageType.the-variants.{On, Cc, Dk}
 use Rattle.trade_id.specs.declared.TradeId.{TradeId}
 use Rattle.trade_id.specs.declared.TradeId.the-variants.{Whole, Broken, Absent}
 use Rattle.book.specs.declared.Trade.{Trade}
 use Rattle.book.specs.declared.Values.{Values}
 use Rattle.book.specs.declared.Pool.{Pool}
-use Rattle.book.specs.Records.{fieldsOf, distinct, weightOfRecords}
-use Rattle.book.specs.Messages.{typeOf, idIn, targetOf, under, listed, broughtBy, brought}
+use Rattle.message_type.specs.Questions.{isOn, bringsLots}
+use Rattle.book.specs.Dues.{due, dueShare, dueWeight}
+use Rattle.book.specs.Records.{fieldsOf, distinct, tradeWeight}
+use Rattle.book.specs.Messages.{typeOf, idIn, targetOf, under, listed, brought}
 use Rattle.book.specs.Trades.{tradesOf, agrees, firstTrade, mayTake, tradeOfOn, openPars}
 use Rattle.book.specs.Opening.{atPar}
-use Rattle.book.specs.Checks.{targetTrade, tradeAt, isTaken, canceledLots}
-use Rattle.book.specs.History.{Brought, History, isTarget, touches, takeOff, tradeShare, stands, due, fieldsOfLots, dueByGroups, lotsAfter}
+use Rattle.book.specs.Checks.{targetTrade, tradeAt, tradeDue, duesBy, isTaken, canceledLots, duesFit}
+use Rattle.book.specs.History.{Brought, History, isTarget, touches, takeOff, tradeShare, stands, fieldsOfLots, dueByGroups, lotsAfter}
+use Rattle.book.proofs.Dues.{dueLots, sum-due, held-range, held-room, dues-lots, dues-all, dues-none, dues-on, dues-target}
 use Rattle.book.proofs.ByRecord.{exactByRecord, oneByRecord}
-use Rattle.book.proofs.Pools.{listed-as, lots-formed-fields, canceled-fields, groups-canceled, groups-new}
-use Rattle.book.proofs.Taking.{Exact, exact, isListed, touches-target, gone, gone-there, gone-elsewhere, target-trade, target-range}
-use Rattle.book.proofs.Moving.{Beside, Move, same-count, same-opens, movedLots}
+use Rattle.book.proofs.Pools.{replacementOf, listed-as, brought-new, brought-none, lots-formed-fields, canceled-fields, groups-canceled, groups-new}
+use Rattle.book.proofs.Taking.{Exact, exact, isListed, touches-target, gone, gone-there, gone-elsewhere, target-trade}
+use Rattle.book.proofs.Moving.{Beside, Move, same-opens, movedLots}
 use Rattle.book.proofs.Substituting.{gone-canceled, due-there, groups-even}
 
 -- ---- a message that lists nothing touches nothing
@@ -72,33 +74,32 @@ unfolding tradeOfOn
 same-trade body os ts us e =
     sym (first-atPar body (idIn body) 0 ts os) ∙ ap (λ (xs : List Trade). firstTrade (mayTake body (idIn body)) 0 xs os) e ∙ first-atPar body (idIn body) 0 us os
 
--- ---- what a body of a type lists and brings
-
-brought-as : (body : List ℕ) (k : MessageType) → typeOf body ≡ k → brought body ≡ broughtBy k (details body)
-unfolding brought
-brought-as body k e = ap (λ (x : MessageType). broughtBy x (details body)) e
-
 -- ---- the moves of the three types
 
 module _ (v : Values) (last : ℕ) (ts : List Trade) (rs : List Pool) (h : History) (w : Beside v last ts rs h) (body : List ℕ) where
+  -- what 36 and 38 give of the new lots
+  new-apart : bringsLots (typeOf body) ≡ true → (cc : Bool) → formedFor cc (details body) ≡ true → distinct (map fieldsOf (newPools (details body))) ≡ true
+      → distinct (fieldsOfLots (dueLots (duesBy body ts rs))) ≡ true
+  new-apart b cc fo di = rw (dues-lots body ts rs, brought-new body b, lots-formed-fields cc (details body) fo) di
+
   -- an ON
   pub on-move : typeOf body ≡ On → (cc : Bool) → formedFor cc (details body) ≡ true → distinct (map fieldsOf (newPools (details body))) ≡ true
-      → (t : ℕ) → t < length ts → sumOf lotWeight (brought body) ≤ tradeAt ts t .openPar + weightOfRecords (keep (isTaken (targetOf body) (listed body)) rs)
-      → Move ts rs (h .lots) t (targetOf body) (listed body) (brought body) true false
-  on-move e cc fo di t lt le =
+      → duesFit ts (keep (isTaken (targetOf body) (listed body)) rs) (duesBy body ts rs) ≡ true
+      → Move ts rs (h .lots) (targetOf body) (listed body) (duesBy body ts rs) true false
+  on-move e cc fo di ho =
       record {
         exact = rw (listed-as body On e) (exact-none (targetOf body) rs);
-        range = lt;
-        there = λ g m q. clash (rw (listed-as body On e) at q) (touches-none (targetOf body) g);
-        room = le;
-        apart = rw (brought-as body On e, lots-formed-fields cc (details body) fo) di;
+        range = held-range ts (keep (isTaken (targetOf body) (listed body)) rs) (duesBy body ts rs) ho;
+        one = (tradeDue body ts rs, dues-all body ts rs);
+        room = held-room ts (keep (isTaken (targetOf body) (listed body)) rs) (duesBy body ts rs) ho;
+        apart = new-apart (ap bringsLots e) cc fo di;
         even = λ u. rw (listed-as body On e, gone-none (targetOf body) lotMillions u (h .lots));
       }
 
   pub on-lots : typeOf body ≡ On
-      → movedLots (h .lastMessageId) (h .lots) (tradeOfOn body ts (openPars ts)) (targetOf body) (listed body) (brought body) true false ≡ lotsAfter On v (h .lastMessageId + 1) body (h .lots)
+      → movedLots (h .lastMessageId) (h .lots) (targetOf body) (listed body) (duesBy body ts rs) true false ≡ lotsAfter On v (h .lastMessageId + 1) body (h .lots)
   on-lots e =
-      rw (same-opens v last ts rs h w, same-trade body (openPars ts) (tradesOf v) ts (sym (w .terms)), listed-as body On e, take-none (targetOf body) (h .lots))
+      rw (dues-on body ts rs (ap isOn e), same-opens v last ts rs h w, same-trade body (openPars ts) (tradesOf v) ts (sym (w .terms)), listed-as body On e, take-none (targetOf body) (h .lots))
 
   -- a CC or DK: its lots are of the target's trade
   module _ (un : any (under (targetOf body)) rs ≡ true) (ex : exactByRecord (targetOf body) (listed body) rs ≡ true) where
@@ -109,30 +110,33 @@ module _ (v : Values) (last : ℕ) (ts : List Trade) (rs : List Pool) (h : Histo
     listed-there : (g : Brought) → g ∈ h .lots → touches (targetOf body) (listed body) g ≡ true → g .trade ≡ targetTrade body rs
     listed-there g m q = target-there g m (touches-target (targetOf body) (listed body) g q)
 
-    target-opened : targetTrade body rs < length ts
-    unfolding targetTrade
-    target-opened = rw (same-count v ts (w .terms), w .table) (target-range (length (tradesOf v)) (h .lastMessageId) (targetOf body) (h .lots) (w .lots) (rw (w .table) at un))
-
     -- a DK
-    pub dk-move : typeOf body ≡ Dk → Move ts rs (h .lots) (targetTrade body rs) (targetOf body) (listed body) (brought body) false true
+    dk-dues : typeOf body ≡ Dk → duesBy body ts rs ≡ []
+    dk-dues e = dues-none body ts rs (brought-none body (ap bringsLots e))
+
+    pub dk-move : typeOf body ≡ Dk → Move ts rs (h .lots) (targetOf body) (listed body) (duesBy body ts rs) false true
+    unfolding dueWeight
     dk-move e =
         record {
           exact = exact (targetOf body) (listed body) rs ex;
-          range = target-opened;
-          there = listed-there;
-          room = rw (brought-as body Dk e) (omega arith);
-          apart = rw (brought-as body Dk e);
-          even = λ u. rw (brought-as body Dk e, cond-zero (eqb (targetTrade body rs) u));
+          range = rw (dk-dues e) (λ d m. absurd (List·Memᴰ·not-nil m));
+          one = (tradeDue body ts rs, dues-all body ts rs);
+          room = λ u. rw (dk-dues e) (omega arith);
+          apart = rw (dk-dues e);
+          even = λ u. rw (dk-dues e);
         }
 
     pub dk-lots : typeOf body ≡ Dk
-        → movedLots (h .lastMessageId) (h .lots) (targetTrade body rs) (targetOf body) (listed body) (brought body) false true ≡ lotsAfter Dk v (h .lastMessageId + 1) body (h .lots)
-    dk-lots e = rw (brought-as body Dk e) (append-nil (map (takeOff true (targetOf body) (listed body)) (h .lots)))
+        → movedLots (h .lastMessageId) (h .lots) (targetOf body) (listed body) (duesBy body ts rs) false true ≡ lotsAfter Dk v (h .lastMessageId + 1) body (h .lots)
+    dk-lots e = rw (dk-dues e)
 
     -- a CC
     module _ (e : typeOf body ≡ Cc) (cc : Bool) (fo : formedFor cc (details body) ≡ true) where
       listed-canceled : listed body ≡ fieldsOfLots (canceledLots (details body))
       listed-canceled = listed-as body Cc e ∙ sym (canceled-fields cc (details body) fo)
+
+      brought-replaces : replacementOf (groups (details body)) ≡ brought body
+      brought-replaces = groups-new (details body) ∙ sym (brought-new body (ap bringsLots e))
 
       cc-gone : groupsBalanced (details body) ≡ true → all (oneByRecord (targetOf body) rs) (canceledLots (details body)) ≡ true
           → sumOf (gone (targetOf body) (listed body) lotMillions) (h .lots) ≡ sumOf lotMillions (brought body)
@@ -143,39 +147,45 @@ module _ (v : Values) (last : ℕ) (ts : List Trade) (rs : List Pool) (h : Histo
           (rw (w .table, listed-canceled) at (exact (targetOf body) (listed body) rs ex .live)) (rw listed-canceled at (exact (targetOf body) (listed body) rs ex .distinct)) (rw (w .table) at on))
           ∙ ap (sumOf lotMillions) (sym (groups-canceled (details body)))
           ∙ groups-even (groups (details body)) ba
-          ∙ ap (sumOf lotMillions) (groups-new (details body) ∙ sym (brought-as body Cc e))
+          ∙ ap (sumOf lotMillions) brought-replaces
+
+      -- for each trade what goes has the millions of what comes
+      cc-even : groupsBalanced (details body) ≡ true → all (oneByRecord (targetOf body) rs) (canceledLots (details body)) ≡ true
+          → (u : ℕ) → sumOf (dueShare u lotMillions) (duesBy body ts rs) ≡ sumOf (tradeShare u (gone (targetOf body) (listed body) lotMillions)) (h .lots)
+      cc-even ba on u =
+          rw (dues-target body ts rs (ap isOn e)) (sum-due (targetTrade body rs) lotMillions u (brought body)) ∙ go (ℕ-discrete u (targetTrade body rs))
+        where
+          go : Dec (u ≡ targetTrade body rs) → cond (eqb (targetTrade body rs) u) (sumOf lotMillions (brought body)) 0 ≡ sumOf (tradeShare u (gone (targetOf body) (listed body) lotMillions)) (h .lots)
+          go (yes q) =
+              rw (q, eq-eqb (targetTrade body rs) (targetTrade body rs) refl)
+              (sym (gone-there (targetOf body) (listed body) (h .lots) lotMillions (targetTrade body rs) listed-there ∙ cc-gone ba on))
+          go (no q) =
+              rw (ne-eqb (targetTrade body rs) u (λ p. q (sym p)))
+              (sym (gone-elsewhere (targetOf body) (listed body) (h .lots) lotMillions (targetTrade body rs) u listed-there q))
 
       pub cc-move : distinct (map fieldsOf (newPools (details body))) ≡ true → groupsBalanced (details body) ≡ true
           → all (oneByRecord (targetOf body) rs) (canceledLots (details body)) ≡ true
-          → sumOf lotWeight (brought body) ≤ tradeAt ts (targetTrade body rs) .openPar + weightOfRecords (keep (isTaken (targetOf body) (listed body)) rs)
-          → Move ts rs (h .lots) (targetTrade body rs) (targetOf body) (listed body) (brought body) false false
-      cc-move di ba on le =
+          → duesFit ts (keep (isTaken (targetOf body) (listed body)) rs) (duesBy body ts rs) ≡ true
+          → Move ts rs (h .lots) (targetOf body) (listed body) (duesBy body ts rs) false false
+      cc-move di ba on ho =
           record {
             exact = exact (targetOf body) (listed body) rs ex;
-            range = target-opened;
-            there = listed-there;
-            room = le;
-            apart = rw (brought-as body Cc e, lots-formed-fields cc (details body) fo) di;
-            even = λ u. omega (arith, even u (ℕ-discrete u (targetTrade body rs)));
+            range = held-range ts (keep (isTaken (targetOf body) (listed body)) rs) (duesBy body ts rs) ho;
+            one = (tradeDue body ts rs, dues-all body ts rs);
+            room = held-room ts (keep (isTaken (targetOf body) (listed body)) rs) (duesBy body ts rs) ho;
+            apart = new-apart (ap bringsLots e) cc fo di;
+            even = λ u. omega (arith, cc-even ba on u);
           }
-        where
-          even : (u : ℕ) → Dec (u ≡ targetTrade body rs)
-              → sumOf (tradeShare u (gone (targetOf body) (listed body) lotMillions)) (h .lots) ≡ cond (eqb (targetTrade body rs) u) (sumOf lotMillions (brought body)) 0
-          even u (yes q) =
-              rw (q, eq-eqb (targetTrade body rs) (targetTrade body rs) refl)
-              (gone-there (targetOf body) (listed body) (h .lots) lotMillions (targetTrade body rs) listed-there ∙ cc-gone ba on)
-          even u (no q) =
-              rw (ne-eqb (targetTrade body rs) u (λ p. q (sym p)))
-              (gone-elsewhere (targetOf body) (listed body) (h .lots) lotMillions (targetTrade body rs) u listed-there q)
 
-      cc-due : groupsFormed (details body) ≡ true → dueByGroups (targetOf body) (h .lots) (groups (details body)) ≡ map (due (targetTrade body rs)) (brought body)
+      cc-due : groupsFormed (details body) ≡ true → dueByGroups (targetOf body) (h .lots) (groups (details body)) ≡ duesBy body ts rs
       unfolding groupsFormed
       cc-due gf =
           due-there (length (tradesOf v)) (h .lastMessageId) (targetOf body) (h .lots) (w .lots) (targetTrade body rs) target-there
           (listed body) (rw (w .table) at (exact (targetOf body) (listed body) rs ex .live)) (groups (details body)) gf
           (λ f m. rw (listed-canceled, ← groups-canceled (details body)) m)
-          ∙ ap (map (due (targetTrade body rs))) (groups-new (details body) ∙ sym (brought-as body Cc e))
+          ∙ ap (map (due (targetTrade body rs))) brought-replaces
+          ∙ sym (dues-target body ts rs (ap isOn e))
 
       pub cc-lots : groupsFormed (details body) ≡ true
-          → movedLots (h .lastMessageId) (h .lots) (targetTrade body rs) (targetOf body) (listed body) (brought body) false false ≡ lotsAfter Cc v (h .lastMessageId + 1) body (h .lots)
+          → movedLots (h .lastMessageId) (h .lots) (targetOf body) (listed body) (duesBy body ts rs) false false ≡ lotsAfter Cc v (h .lastMessageId + 1) body (h .lots)
       cc-lots gf = rw (cc-due gf)

@@ -2,13 +2,13 @@
 -- Old records stay fine, since the last message ID only grows.
 use Prim.Native.Nat.{ℕ, zero, suc, _+_, _≤_, _<_}
 use mathlib.Core.Path.{_≡_, refl, ap, _∙_}
-use mathlib.Core.List.{List, [], _∷_, _++_, map}
+use mathlib.Core.List.{List, [], _∷_, _++_, map, List·Memᴰ·head, List·Memᴰ·tail}
 use mathlib.Core.Bool.{Bool, true, false, cond, _&&_, _||_, false≢true}
 use native.Mathlib.Omega.{arith}
 use lib.Dec.{eqb, leb, ltb}
-use borrow.Author.Tests.{leb-true, le-leb, eqb-false}
+use borrow.Author.Tests.{leb-true, le-leb, lt-ltb, eqb-false}
 use Rattle.lists.specs.Lists.{all, between}
-use Rattle.lists.proofs.Tests.{and-left, and-right, both}
+use Rattle.lists.proofs.Tests.{_∈_, and-left, and-right, both}
 use Rattle.fields.specs.Fields.{readNumber, isNumber, valueOf}
 use Rattle.layout.specs.declared.Detail.{Detail}
 use Rattle.terminator.specs.declared.Terminator.{Terminator}
@@ -19,9 +19,11 @@ use Rattle.terminator.proofs.Found.{cents-small}
 use Rattle.faces.specs.Faces.{isNewLot, newLots}
 use Rattle.book.specs.declared.Values.{Values}
 use Rattle.book.specs.declared.Pool.{Pool}
+use Rattle.book.specs.Dues.{Due}
 use Rattle.book.specs.Records.{kindGood, kindOdd, kindBad, kindNumber, poolOf, recordsOf}
 use Rattle.book.specs.Opening.{elevenDigitsMax}
 use Rattle.book.specs.Soundness.{kindFine, recordFine}
+use Rattle.book.proofs.Dues.{dueLots}
 use Rattle.book.proofs.ListLaws.{all-keep, all-both, all-map}
 
 -- ---- what an end gives
@@ -81,20 +83,21 @@ unfolding lots
 new-ends ds = all-keep hasEnd isNewLot (lotsFrom [] ds) (ends-from [] ds)
 
 -- ---- records
-pub records-fine : (v : Values) (id t o : ℕ) (ls : List Lot) → ltb t (v .lent .tradeCount) ≡ true → between 1 (v .lastMessageId) id ≡ true → 1 ≤ o → all hasEnd ls ≡ true
-    → all (recordFine v) (recordsOf id t o ls) ≡ true
-records-fine v id t o [] et ei ho e = refl
-records-fine v id t o (l ∷ ls) et ei ho e =
-    all-both (recordFine v) (map (poolOf id o t l) (poolsOf l)) (recordsOf id t (o + 1) ls)
-    (all-map (recordFine v) (poolOf id o t l) one (poolsOf l))
-    (records-fine v id t (o + 1) ls et ei (omega arith) (and-right (hasEnd l) (all hasEnd ls) e))
+pub records-fine : (v : Values) (id o : ℕ) (us : List Due) → ((u : Due) → u ∈ us → u .to < v .lent .tradeCount) → between 1 (v .lastMessageId) id ≡ true → 1 ≤ o
+    → all hasEnd (dueLots us) ≡ true → all (recordFine v) (recordsOf id o us) ≡ true
+records-fine v id o [] et ei ho e = refl
+records-fine v id o (u ∷ us) et ei ho e =
+    all-both (recordFine v) (map (poolOf id o (u .to) (u .lot)) (poolsOf (u .lot))) (recordsOf id (o + 1) us)
+    (all-map (recordFine v) (poolOf id o (u .to) (u .lot)) one (poolsOf (u .lot)))
+    (records-fine v id (o + 1) us (λ w m. et w (List·Memᴰ·tail m)) ei (omega arith) (and-right (hasEnd (u .lot)) (all hasEnd (dueLots us)) e))
   where
-    one : (d : Detail) → recordFine v (poolOf id o t l d) ≡ true
+    one : (d : Detail) → recordFine v (poolOf id o (u .to) (u .lot) d) ≡ true
     one d =
+        let t : ltb (u .to) (v .lent .tradeCount) ≡ true = lt-ltb (u .to) (v .lent .tradeCount) (et u (List·Memᴰ·head refl)) in
         let a : leb 1 o ≡ true = le-leb 1 o ho in
         let k : currentCents d < 100000000000 = cents-small d in
         let b : leb (currentCents d) elevenDigitsMax ≡ true = le-leb (currentCents d) elevenDigitsMax (omega arith) in
-        rw (et, ei, a, b) (term-gives (l .last) (and-left (hasEnd l) (all hasEnd ls) e))
+        rw (t, ei, a, b) (term-gives (u .lot .last) (and-left (hasEnd (u .lot)) (all hasEnd (dueLots us)) e))
 
 pub record-stays : (v w : Values) → w .lent .tradeCount ≡ v .lent .tradeCount → v .lastMessageId ≤ w .lastMessageId → (r : Pool) → recordFine v r ≡ true → recordFine w r ≡ true
 record-stays v w ec h r e =

@@ -15,10 +15,11 @@ use Rattle.layout.specs.declared.Detail.{Detail}
 use Rattle.terminator.specs.Lots.{Lot, poolsOf, lotKind, lotMillions}
 use Rattle.terminator.specs.Groups.{Group, groupFormed, groupBalanced}
 use Rattle.book.specs.declared.Pool.{Pool}
+use Rattle.book.specs.Dues.{due}
 use Rattle.book.specs.Records.{Fields, fieldsOf, liveFields, sameFields, hasFields, distinct, kindNumber, joinLot, liveLots, liveMillions}
 use Rattle.book.specs.Messages.{under}
 use Rattle.book.specs.Checks.{isTaken, lotFields}
-use Rattle.book.specs.History.{Brought, isTarget, touches, stands, due, tradeOfFirst, fieldsOfLots, dueByGroups}
+use Rattle.book.specs.History.{Brought, isTarget, touches, stands, tradeOfFirst, fieldsOfLots, dueByGroups}
 use Rattle.book.proofs.ByRecord.{allLive, wholeLots, firstOrdinal, oneByRecord}
 use Rattle.book.proofs.Pools.{canceledOf, replacementOf}
 use Rattle.book.proofs.Targets.{has-in, has-out, last-fields, distinct-right, distinct-cross, fieldsOfLots-append, target-one}

@@ -15,14 +15,14 @@ use Rattle.fields.specs.declared.Field.{Field}
 use Rattle.layout.specs.declared.Detail.{Detail}
 use Rattle.terminator.specs.Lots.{Lot, poolsOf, lotWeight}
 use Rattle.book.specs.declared.Pool.{Pool}
-use Rattle.book.specs.Records.{Fields, fieldsOf, liveFields, sameFields, hasFields, distinct, sameLot, liveWeight, weightOfRecords}
+use Rattle.book.specs.Records.{Fields, fieldsOf, liveFields, sameFields, hasFields, distinct, sameLot, liveWeight, tradeWeight}
 use Rattle.book.specs.Messages.{under}
 use Rattle.book.specs.Checks.{isTaken, firstUnder, lotFields}
 use Rattle.book.specs.History.{Brought, isTarget, touches, once, takeOff, stands, tradeShare}
 use Rattle.book.proofs.ByRecord.{allLive, wholeLots, exactByRecord}
 use Rattle.book.proofs.Matched.{fields-equal}
 use Rattle.book.proofs.Targets.{target-one}
-use Rattle.book.proofs.Laid.{recordOf, laid, flat, flat-same, flat-takeOff, flat-keep, in-flat, flat-in, Apart, sum-flat, laid-weight}
+use Rattle.book.proofs.Laid.{recordOf, laid, flat, flat-same, flat-takeOff, flat-keep, in-flat, flat-in, Apart, trade-flat, cond-swap, laid-weight}
 
 -- ---- what holds of the history's lots: each by itself, and any two under one ID
 
@@ -195,12 +195,15 @@ module _ (tgt : Field) (fs : List Fields) (hs : List Brought) where
       go true false u w = refl
       go false s u w = refl
 
-  -- the table's sum over what is taken is the history's over what is gone
+  -- a trade's sum over what the table loses is the history's over what is gone
   pub gone-weight : (n last : ℕ) → Lots n last hs → wholeLots tgt fs (flat stands hs) ≡ true
-      → weightOfRecords (keep (isTaken tgt fs) (flat stands hs)) ≡ sumOf (gone tgt fs lotWeight) hs
-  unfolding weightOfRecords
-  gone-weight n last lots w =
-      rw (taken-flat w) (sum-flat liveWeight (λ h. lotWeight (h .lot)) laid-weight (λ h. stands h && touches tgt fs h) hs (lots .apart))
+      → (t : ℕ) → tradeWeight t (keep (isTaken tgt fs) (flat stands hs)) ≡ sumOf (tradeShare t (gone tgt fs lotWeight)) hs
+  unfolding tradeWeight
+  gone-weight n last lots w t =
+      rw (taken-flat w)
+      (trade-flat liveWeight (λ h. lotWeight (h .lot)) laid-weight t (λ h. stands h && touches tgt fs h) hs (lots .apart)
+      ∙ sum-same (λ h. cond (stands h && touches tgt fs h) (cond (eqb (h .trade) t) (lotWeight (h .lot)) 0) 0) (tradeShare t (gone tgt fs lotWeight)) hs
+      (λ h m. cond-swap (stands h && touches tgt fs h) (eqb (h .trade) t) (lotWeight (h .lot))))
 
   -- all of it is of one trade
   pub gone-there : (v : Lot → ℕ) (t : ℕ) → ((g : Brought) → g ∈ hs → touches tgt fs g ≡ true → g .trade ≡ t)

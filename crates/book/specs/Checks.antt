@@ -24,7 +24,6 @@ use Rattle.sequence.specs.declared.Line.{Line}
 use Rattle.sequence.specs.Sequence.{inbound, isRefused, arrivalOf, outboundSpent}
 use Rattle.acknowledgment.specs.Frames.{version, txLength, aaLength}
 use Rattle.message_type.specs.declared.MessageType.{MessageType}
-use Rattle.message_type.specs.declared.MessageType.the-variants.{On, Cc, Dk, Cx, Other}
 use Rattle.trade_id.specs.declared.TradeId.{TradeId}
 use Rattle.trade_id.specs.declared.TradeId.the-variants.{Whole, Broken, Absent}
 use Rattle.message_type.specs.Questions.{isOn, isCc, isDk, isCx, isOther, bringsLots, listsLots}
@@ -40,9 +39,10 @@ use Rattle.book.specs.declared.Verdict.the-variants.{Passes, Fails}
 use Rattle.book.specs.declared.Answer.{Answer}
 use Rattle.book.specs.declared.Answer.the-variants.{Accepted}
 use Rattle.book.specs.Reasons.{silent, told, refusal}
-use Rattle.book.specs.Records.{Fields, fieldsOf, liveFields, hasFields, distinct, kindNumber, LiveLot, livePools, liveLots, weightOfRecords}
-use Rattle.book.specs.Messages.{typeOf, ftba, fsti, isStipulated, idIn, targetOf, under, listed}
-use Rattle.book.specs.Trades.{tradesOf, agrees, isNamedBy, firstTrade, broughtWeight, tradeOfOn, openPars}
+use Rattle.book.specs.Dues.{Due, due, dueWeight}
+use Rattle.book.specs.Records.{Fields, fieldsOf, liveFields, hasFields, distinct, kindNumber, LiveLot, livePools, liveLots, tradeWeight}
+use Rattle.book.specs.Messages.{typeOf, ftba, fsti, isStipulated, idIn, targetOf, under, listed, brought}
+use Rattle.book.specs.Trades.{tradesOf, agrees, isNamedBy, firstTrade, tradeOfOn, openPars}
 use Rattle.book.specs.Opening.{holidaysOf, elevenDigitsMax}
 use Rattle.book.specs.Soundness.{liveOf, Held, heldIn, holdsSound}
 
@@ -236,19 +236,16 @@ tradeAt ts i = getD ts i noTrade
 abbrev pub namedTrade : List ℕ → List Trade → ℕ
 namedTrade body ts = firstTrade (λ (t : Trade) (left : ℕ). isNamedBy body (idIn body) t) 0 ts (openPars ts)
 
--- the trade that a message concerns: where an ON goes, the target's of a CC or DK
-abbrev pub concernedFor : MessageType → List ℕ → List Trade → List Pool → ℕ
-concernedFor On body ts rs = tradeOfOn body ts (openPars ts)
-concernedFor Cc body ts rs = targetTrade body rs
-concernedFor Dk body ts rs = targetTrade body rs
-concernedFor Cx body ts rs = targetTrade body rs
-concernedFor Other body ts rs = targetTrade body rs
+-- the trade of a message's new lots: where an ON goes, the target's of a CC
+abbrev pub tradeDue : List ℕ → List Trade → List Pool → ℕ
+tradeDue body ts rs = cond (isOn (typeOf body)) (tradeOfOn body ts (openPars ts)) (targetTrade body rs)
 
-unfoldable pub concernedBy : List ℕ → List Trade → List Pool → ℕ
-concernedBy body ts rs = concernedFor (typeOf body) body ts rs
+-- the new lots with their trades: an ON's all go to one, and a target's lots share one
+unfoldable pub duesBy : List ℕ → List Trade → List Pool → List Due
+duesBy body ts rs = map (due (tradeDue body ts rs)) (brought body)
 
-abbrev pub concerned : Call → ℕ
-concerned c = concernedBy (c .body) (trades c) (live c)
+abbrev pub dues : Call → List Due
+dues c = duesBy (c .body) (trades c) (live c)
 
 -- the named trade is one whose terms agree and, on a CC or DK, the target's
 abbrev pub namedFine : List ℕ → List Trade → ℕ → ℕ → Bool
@@ -347,11 +344,16 @@ listedFine body rs =
 abbrev pub listedFail : Values → List Pool → List ℕ → Bool
 listedFail v rs body = not (listedFine body rs)
 
--- the trade's open par, with what the message takes off, holds what it brings
+-- a trade is opened, and its open par, with what the message takes off it, holds what is due to it
+abbrev pub parHolds : List Trade → List Pool → List Due → ℕ → Bool
+parHolds ts off ds t = ltb t (length ts) && leb (dueWeight t ds) (tradeAt ts t .openPar + tradeWeight t off)
+
+-- every trade to which a lot is due does so
+abbrev pub duesFit : List Trade → List Pool → List Due → Bool
+duesFit ts off ds = all (λ (d : Due). parHolds ts off ds (d .to)) ds
+
 abbrev pub parFine : Values → List Pool → List ℕ → Bool
-parFine v rs body =
-    ltb (concernedBy body (tradesOf v) rs) (length (tradesOf v))
-    && leb (broughtWeight body) (tradeAt (tradesOf v) (concernedBy body (tradesOf v) rs) .openPar + weightOfRecords (takenBy body rs))
+parFine v rs body = duesFit (tradesOf v) (takenBy body rs) (duesBy body (tradesOf v) rs)
 
 -- 38: open par, with what is given back, does not hold what comes
 abbrev pub parShort : Values → List Pool → List ℕ → Bool

@@ -12,10 +12,10 @@ use Rattle.layout.specs.Details.{details}
 use Rattle.terminator.specs.Lots.{Lot, poolsOf, lotMillions, lotWeight}
 use Rattle.terminator.specs.Groups.{Group, groups}
 use Rattle.message_type.specs.declared.MessageType.{MessageType}
-use Rattle.message_type.specs.declared.MessageType.the-variants.{On, Cc, Dk, Cx, Other}
-use Rattle.message_type.specs.Questions.{listsLots}
+use Rattle.message_type.specs.Questions.{isOn, isCc, isDk, listsLots}
 use Rattle.book.specs.declared.Trade.{Trade}
 use Rattle.book.specs.declared.Values.{Values}
+use Rattle.book.specs.Dues.{Due, due}
 use Rattle.book.specs.Records.{Fields, fieldsOf, hasFields}
 use Rattle.book.specs.Messages.{typeOf, targetOf, listed, brought}
 use Rattle.book.specs.Trades.{tradesOf, tradeOfOn}
@@ -66,14 +66,6 @@ takeOff byDk tgt fs h =
     }
 
 -- ---- bringing
--- a lot on its way to a trade
-pub record Due : Type 0 where
-  pub to : ℕ
-  pub lot : Lot
-
-abbrev pub due : ℕ → Lot → Due
-due t l = record { to = t; lot = l }
-
 -- new lots under an ID, with ordinals from a number on
 abbrev pub bring : ℕ → Bool → ℕ → List Due → List Brought
 bring id byOn ordinal [] = []
@@ -119,15 +111,20 @@ dueByGroups tgt hs [] = []
 dueByGroups tgt hs (g ∷ gs) =
     map (due (tradeOfFirst (keep (touches tgt (fieldsOfLots (g .canceled))) hs))) (g .replacement) ++ dueByGroups tgt hs gs
 
--- what a message of each type makes of the lots, under its new ID
+-- an ON's go to the trade that its rule gives for the history's open pars
+abbrev pub dueByRule : Values → List ℕ → List Brought → List Due
+dueByRule v body hs = map (due (tradeOfOn body (tradesOf v) (historySums 0 (tradesOf v) hs))) (brought body)
+
+-- what a message takes off, and the lots that it brings, by its type
+abbrev pub lotsOff : MessageType → List ℕ → List Brought → List Brought
+lotsOff k body hs = cond (listsLots k) (map (takeOff (isDk k) (targetOf body) (listed body)) hs) hs
+
+abbrev pub lotsDue : MessageType → Values → List ℕ → List Brought → List Due
+lotsDue k v body hs = cond (isOn k) (dueByRule v body hs) (cond (isCc k) (dueByGroups (targetOf body) hs (groups (details body))) [])
+
+-- the lots after it: what it takes off goes first, then its new ones come under its ID
 abbrev pub lotsAfter : MessageType → Values → ℕ → List ℕ → List Brought → List Brought
-lotsAfter On v id body hs =
-    hs ++ bring id true 1 (map (due (tradeOfOn body (tradesOf v) (historySums 0 (tradesOf v) hs))) (brought body))
-lotsAfter Cc v id body hs =
-    map (takeOff false (targetOf body) (listed body)) hs ++ bring id false 1 (dueByGroups (targetOf body) hs (groups (details body)))
-lotsAfter Dk v id body hs = map (takeOff true (targetOf body) (listed body)) hs
-lotsAfter Cx v id body hs = hs
-lotsAfter Other v id body hs = hs
+lotsAfter k v id body hs = lotsOff k body hs ++ bring id (isOn k) 1 (lotsDue k v body hs)
 
 -- a refused call changes nothing; an accepted message gets the next ID
 unfoldable pub feed : Values → History → List ℕ → Bool → History

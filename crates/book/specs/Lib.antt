@@ -1,4 +1,5 @@
 pub mod Reasons
+pub mod Dues
 pub mod Records
 pub mod Messages
 pub mod Trades

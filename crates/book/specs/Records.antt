@@ -11,6 +11,7 @@ use Rattle.terminator.specs.declared.Kind.{Kind}
 use Rattle.terminator.specs.declared.Kind.the-variants.{Good, Odd, Bad}
 use Rattle.terminator.specs.Lots.{Lot, poolsOf, lotKind, lotMillions, currentCents, millionCents}
 use Rattle.book.specs.declared.Pool.{Pool}
+use Rattle.book.specs.Dues.{Due}
 
 -- the matched fields of a pool: Lot-ID, pool number and original face, as bytes
 pub record Fields : Type 0 where
@@ -66,10 +67,10 @@ poolOf message ordinal trade l d =
       millions = lotMillions l;
     }
 
--- the records of new lots, whose ordinals run on from a number
-abbrev pub recordsOf : ℕ → ℕ → ℕ → List Lot → List Pool
-recordsOf message trade ordinal [] = []
-recordsOf message trade ordinal (l ∷ ls) = map (poolOf message ordinal trade l) (poolsOf l) ++ recordsOf message trade (ordinal + 1) ls
+-- the records of new lots, each under the trade that it is due to, whose ordinals run on from a number
+abbrev pub recordsOf : ℕ → ℕ → List Due → List Pool
+recordsOf message ordinal [] = []
+recordsOf message ordinal (d ∷ ds) = map (poolOf message ordinal (d .to) (d .lot)) (poolsOf (d .lot)) ++ recordsOf message (ordinal + 1) ds
 
 -- zeros: what stands after the live records
 abbrev pub noPool : Pool

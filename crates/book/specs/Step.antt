@@ -1,8 +1,8 @@
 -- What a frame call leaves (01, "The book", "What goes out"): answer, book, table, output and tally after it, for any book, table, body, caller and output.
 use Prim.Native.Nat.{ℕ, _+_, _-_}
-use mathlib.Core.List.{List, _++_}
+use mathlib.Core.List.{List, [], _∷_, _++_}
 use mathlib.Core.Bool.{Bool, true, false, cond, not}
-use lib.ListN.{length, set, replicate}
+use lib.ListN.{length, replicate}
 use Rattle.lists.specs.Lists.{keep, pasted}
 use Rattle.layout.specs.Columns as columns
 use Rattle.layout.specs.Columns.{bytesIn}
@@ -24,10 +24,10 @@ use Rattle.book.specs.declared.Caller.{Caller}
 use Rattle.book.specs.declared.Answer.{Answer}
 use Rattle.book.specs.declared.Answer.the-variants.{Accepted, Rejected, Dked}
 use Rattle.book.specs.Reasons.{codeOf, idOf, isAccepted, isSilent}
-use Rattle.book.specs.Records.{recordsOf, weightOfRecords, noPool}
-use Rattle.book.specs.Messages.{typeOf, targetOf, listed, brought}
-use Rattle.book.specs.Trades.{broughtWeight}
-use Rattle.book.specs.Checks.{Call, call, askedBy, live, trades, arrived, concerned, isTaken, taken, tradeAt, answerOf}
+use Rattle.book.specs.Dues.{Due, dueWeight}
+use Rattle.book.specs.Records.{recordsOf, tradeWeight, noPool}
+use Rattle.book.specs.Messages.{typeOf, targetOf, listed}
+use Rattle.book.specs.Checks.{Call, call, askedBy, live, arrived, dues, isTaken, taken, answerOf}
 
 -- a gap is told by a TX; a duplicate is none
 abbrev pub isGap : Arrival → Bool
@@ -67,17 +67,19 @@ withOpenPar t cents =
       openPar = cents;
     }
 
--- open par moves by the weights
+-- open par moves by the weights: each trade's by what is taken off it and what is due to it
+abbrev pub parsMoved : List Pool → List Due → ℕ → List Trade → List Trade
+parsMoved off ds i [] = []
+parsMoved off ds i (t ∷ ts) = withOpenPar t ((t .openPar + tradeWeight i off) - dueWeight i ds) ∷ parsMoved off ds (i + 1) ts
+
 unfoldable pub tradesMoved : Call → List Trade
-tradesMoved c =
-    set (c .book .values .trades) (concerned c)
-    (withOpenPar (tradeAt (trades c) (concerned c)) ((tradeAt (trades c) (concerned c) .openPar + weightOfRecords (taken c)) - broughtWeight (c .body)))
+tradesMoved c = parsMoved (taken c) (dues c) 0 (c .book .values .trades)
 
 -- the listed lots go, then the new ones come under the new ID
 unfoldable pub liveMoved : Call → List Pool
 liveMoved c =
     keep (λ (r : Pool). not (isTaken (targetOf (c .body)) (listed (c .body)) r)) (live c)
-    ++ recordsOf (c .book .values .lastMessageId + 1) (concerned c) 1 (brought (c .body))
+    ++ recordsOf (c .book .values .lastMessageId + 1) 1 (dues c)
 
 -- the table closed up, with zeros after the live records
 unfoldable pub tableMoved : Call → List Pool
