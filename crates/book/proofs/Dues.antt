@@ -5,12 +5,12 @@ use native.Mathlib.Decide.{ℕ-discrete}
 use mathlib.Core.Path.{_≡_, refl, sym, ap, _∙_}
 use mathlib.Core.Logic.{_⊎_, inl, inr}
 use mathlib.Core.List.{List, [], _∷_, map, List·Memᴰ·head, List·Memᴰ·tail, Memᴰ·of-map}
-use mathlib.Core.Bool.{Bool, true, false, cond}
+use mathlib.Core.Bool.{Bool, true, false, cond, _&&_}
 use lib.Dec.{eqb, leb, ltb}
 use lib.ListN.{length}
-use borrow.Author.Tests.{ltb-true, leb-true, ne-eqb}
-use Rattle.lists.specs.Lists.{sumOf}
-use Rattle.lists.proofs.Tests.{_∈_, and-left, and-right, cond-zero, all-out}
+use borrow.Author.Tests.{ltb-true, leb-true, eq-eqb, ne-eqb}
+use Rattle.lists.specs.Lists.{all, sumOf}
+use Rattle.lists.proofs.Tests.{_∈_, and-left, and-right, cond-zero, all-in, all-out}
 use Rattle.terminator.specs.Lots.{Lot, lotWeight}
 use Rattle.book.specs.declared.Trade.{Trade}
 use Rattle.book.specs.declared.Pool.{Pool}
@@ -76,6 +76,21 @@ module _ (ts : List Trade) (off : List Pool) (ds : List Due) (e : duesFit ts off
           (and-right (ltb u (length ts)) (leb (dueWeight u ds) (tradeAt ts u .openPar + tradeWeight u off)) (rw q at (held d m)))
       go (inr z) = omega arith
 
+-- where all go to one trade, and some lot does, it is asked of that trade alone
+pub fit-one : (ts : List Trade) (off : List Pool) (t : ℕ) (l : Lot) (ls : List Lot)
+    → duesFit ts off (map (due t) (l ∷ ls)) ≡ (ltb t (length ts) && leb (sumOf lotWeight (l ∷ ls)) (tradeAt ts t .openPar + tradeWeight t off))
+unfolding dueWeight
+fit-one ts off t l ls =
+    alike (map (due t) ls) (all-due t ls)
+    ∙ ap (λ (n : ℕ). ltb t (length ts) && leb n (tradeAt ts t .openPar + tradeWeight t off)) (sum-due t lotWeight t (l ∷ ls) ∙ rw (eq-eqb t t refl))
+  where
+    alike : (ds : List Due) → AllTo t ds → (parHolds ts off (map (due t) (l ∷ ls)) t && all (λ (d : Due). parHolds ts off (map (due t) (l ∷ ls)) (d .to)) ds) ≡ parHolds ts off (map (due t) (l ∷ ls)) t
+    alike ds k = go (parHolds ts off (map (due t) (l ∷ ls)) t) refl
+      where
+        go : (x : Bool) → parHolds ts off (map (due t) (l ∷ ls)) t ≡ x → (x && all (λ (d : Due). parHolds ts off (map (due t) (l ∷ ls)) (d .to)) ds) ≡ x
+        go true e = all-in (λ (d : Due). parHolds ts off (map (due t) (l ∷ ls)) (d .to)) ds (λ d m. rw (k d m) e)
+        go false e = refl
+
 -- ---- the lots that a message brings
 module _ (body : List ℕ) (ts : List Trade) (rs : List Pool) where
   pub dues-lots : dueLots (duesBy body ts rs) ≡ brought body
@@ -98,6 +113,18 @@ module _ (body : List ℕ) (ts : List Trade) (rs : List Pool) where
   pub dues-target : isOn (typeOf body) ≡ false → duesBy body ts rs ≡ map (due (targetTrade body rs)) (brought body)
   unfolding duesBy
   dues-target e = rw e
+
+  -- the first of them
+  pub dues-first : (l : Lot) (ls : List Lot) → brought body ≡ l ∷ ls → due (tradeDue body ts rs) l ∈ duesBy body ts rs
+  unfolding duesBy
+  dues-first l ls e = rw e (List·Memᴰ·head refl)
+
+  -- 38 of them, where there is one
+  pub dues-fit : (off : List Pool) (l : Lot) (ls : List Lot) → brought body ≡ l ∷ ls
+      → duesFit ts off (duesBy body ts rs)
+      ≡ (ltb (tradeDue body ts rs) (length ts) && leb (broughtWeight body) (tradeAt ts (tradeDue body ts rs) .openPar + tradeWeight (tradeDue body ts rs) off))
+  unfolding duesBy broughtWeight
+  dues-fit off l ls e = rw e (fit-one ts off (tradeDue body ts rs) l ls)
 
   -- all that they weigh is due to the one trade
   pub dues-weight : (u : ℕ) → dueWeight u (duesBy body ts rs) ≡ cond (eqb (tradeDue body ts rs) u) (broughtWeight body) 0

@@ -5,9 +5,9 @@ use mathlib.Core.Path.{_≡_, refl, sym, ap, ap₂, _∙_}
 use mathlib.Core.List.{List, [], _∷_, map}
 use mathlib.Core.Bool.{Bool, true, false, cond, not, _&&_}
 use native.Mathlib.Omega.{arith}
-use lib.Dec.{leb, ltb}
-use lib.ListN.{take}
-use borrow.Author.Tests.{ltb-true, ltb-false, le-leb}
+use lib.Dec.{eqb, leb, ltb}
+use lib.ListN.{take, getD, set}
+use borrow.Author.Tests.{ltb-true, ltb-false, le-leb, eq-eqb, ne-eqb}
 use Rattle.lists.specs.Lists.{all}
 use Rattle.lists.proofs.Tests.{and-left, and-right}
 use Rattle.calendar.specs.Calendar.{isDate}
@@ -21,6 +21,7 @@ use Rattle.book.specs.Dues.{Due, dueWeight}
 use Rattle.book.specs.Records.{tradeWeight}
 use Rattle.book.specs.Trades.{tradesOf, tradeName}
 use Rattle.book.specs.Opening.{tradesMax, holidaysMax, elevenDigitsMax, holidaysOf, limitsFine, accountFine, tradeFine, namesRepeat, valuesFine}
+use Rattle.book.specs.Checks.{noTrade}
 use Rattle.book.specs.Step.{withOpenPar, parsMoved}
 use Rattle.book.proofs.ListLaws.{all-of-map}
 
@@ -36,6 +37,31 @@ module _ {B : Type 0} (f : Trade → B) (blind : (t : Trade) (cents : ℕ) → f
   pub moved-blind : (i : ℕ) (ts : List Trade) → map f (parsMoved off ds i ts) ≡ map f ts
   moved-blind i [] = refl
   moved-blind i (t ∷ ts) = ap₂ (λ (x : B) (xs : List B). x ∷ xs) (blind t ((t .openPar + tradeWeight i off) - dueWeight i ds)) (moved-blind (i + 1) ts)
+
+-- where one trade has all that goes and comes, it alone moves
+module _ (off : List Pool) (ds : List Due) (t n m : ℕ) (goes : (u : ℕ) → tradeWeight u off ≡ cond (eqb t u) n 0) (comes : (u : ℕ) → dueWeight u ds ≡ cond (eqb t u) m 0) where
+  abbrev one : Trade → Trade
+  one x = withOpenPar x ((x .openPar + n) - m)
+
+  here : (i : ℕ) → t ≡ i → (x : Trade) → withOpenPar x ((x .openPar + tradeWeight i off) - dueWeight i ds) ≡ one x
+  here i e x = rw (goes i, comes i, eq-eqb t i e)
+
+  elsewhere : (i : ℕ) → (t ≡ i → ⊥) → (x : Trade) → withOpenPar x ((x .openPar + tradeWeight i off) - dueWeight i ds) ≡ x
+  elsewhere i e x =
+      let z : (x .openPar + 0) - 0 ≡ x .openPar = omega arith in
+      rw (goes i, comes i, ne-eqb t i e) (ap (withOpenPar x) z)
+
+  after-it : (i : ℕ) → t < i → (ts : List Trade) → ts ≡ parsMoved off ds i ts
+  after-it i lt [] = refl
+  after-it i lt (x ∷ ts) = ap₂ (λ (y : Trade) (ys : List Trade). y ∷ ys) (sym (elsewhere i (λ e. omega arith) x)) (after-it (i + 1) (omega arith) ts)
+
+  from-there : (i j : ℕ) → t ≡ i + j → (ts : List Trade) → set ts j (one (getD ts j noTrade)) ≡ parsMoved off ds i ts
+  from-there i j e [] = refl
+  from-there i zero e (x ∷ ts) = ap₂ (λ (y : Trade) (ys : List Trade). y ∷ ys) (sym (here i (omega arith) x)) (after-it (i + 1) (omega arith) ts)
+  from-there i (suc j) e (x ∷ ts) = ap₂ (λ (y : Trade) (ys : List Trade). y ∷ ys) (sym (elsewhere i (λ q. omega arith) x)) (from-there (i + 1) j (omega arith) ts)
+
+  pub moved-one : (ts : List Trade) → set ts t (one (getD ts t noTrade)) ≡ parsMoved off ds 0 ts
+  moved-one ts = from-there 0 t (omega arith) ts
 
 all-bits : {A : Type 0} (p : A → Bool) (xs : List A) → all (λ (b : Bool). b) (map p xs) ≡ all p xs
 all-bits p xs = all-of-map (λ (b : Bool). b) p xs

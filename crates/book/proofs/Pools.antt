@@ -1,22 +1,26 @@
 -- Details, lots and groups: where a message's pools are formed into lots (19), all pools of a lot have the position one of its last pool, and
 -- every pool belongs to a lot; so the pools of the canceled lots are the canceled pools, and likewise the new ones. Groups lose no lot and reorder none.
-use Prim.Native.Nat.{ℕ, _+_}
+use Prim.Native.Nat.{ℕ, _+_, _*_, _≤_}
+use native.Mathlib.Omega.{arith}
 use mathlib.Core.Path.{_≡_, refl, sym, ap, _∙_}
 use mathlib.Core.List.{List, [], _∷_, _++_, map, map-append, append-assoc}
 use mathlib.Core.Bool.{Bool, true, false, cond, not, _&&_, _||_, Bool·beq, false≢true, true≢false}
-use lib.Dec.{eqb}
+use lib.Dec.{eqb, leb}
 use lib.ListN.{length, length-append, length-map}
-use borrow.Author.Tests.{eqb-true, not-true}
-use Rattle.lists.specs.Lists.{keep}
+use borrow.Author.Tests.{eqb-true, leb-true, not-true}
+use Rattle.lists.specs.Lists.{keep, all}
 use Rattle.lists.proofs.Tests.{and-left, and-right, keep-append}
 use Rattle.layout.specs.declared.Detail.{Detail}
-use Rattle.layout.specs.Details.{details}
+use Rattle.layout.specs.Columns.{headerWidth, detailWidth}
+use Rattle.layout.specs.Details.{pools, lengthFits, poolCount, details}
+use Rattle.layout.proofs.Reader.{length-details}
 use Rattle.terminator.specs.Terminators.{digitCanceled, isEnd, isWrong, isBad, one, term, isCanceled}
 use Rattle.terminator.specs.Lots.{Lot, poolsOf, lotsFrom, lots, goesOn, lotsFormed, firstOn, firstCc, formedFor}
-use Rattle.terminator.specs.Groups.{Group, groupsFrom, groups, lotCanceled}
+use Rattle.terminator.specs.Groups.{Group, groupsFrom, groups, groupFormed, groupsFormed, lotCanceled}
 use Rattle.faces.specs.Faces.{newLots, newPools, isNewLot}
+use Rattle.faces.proofs.NewPools.{on-new}
 use Rattle.message_type.specs.declared.MessageType.{MessageType}
-use Rattle.message_type.specs.Questions.{bringsLots, listsLots}
+use Rattle.message_type.specs.Questions.{isCc, bringsLots, listsLots}
 use Rattle.book.specs.Dues.{Due}
 use Rattle.book.specs.Records.{fieldsOf, poolOf, recordsOf}
 use Rattle.book.specs.Messages.{typeOf, listedOf, listed, brought}
@@ -177,3 +181,51 @@ groups-canceled ds = canceled-from [] [] (lots ds)
 pub groups-new : (ds : List Detail) → replacementOf (groups ds) ≡ newLots ds
 unfolding groups
 groups-new ds = replacement-from [] [] (lots ds)
+
+-- ---- an ON or a CC brings some lot: 10 gives an ON a pool and 19 puts it into a lot, and a CC has a group (20) with a replacement
+abbrev pub Some : List Lot → Type 0
+Some ls = (l : Lot) × ((xs : List Lot) × (ls ≡ l ∷ xs))
+
+pub some-lot : (ls : List Lot) → 1 ≤ length ls → Some ls
+some-lot [] h = absurd (omega arith)
+some-lot (l ∷ ls) h = (l, (ls, refl))
+
+some-pools : (ls : List Lot) (d : Detail) (ds : List Detail) → flatPools ls ≡ d ∷ ds → Some ls
+some-pools [] d ds e = absurd (omega (arith, ap length e))
+some-pools (l ∷ ls) d ds e = (l, (ls, refl))
+
+some-details : (ds : List Detail) → 1 ≤ length ds → formedFor false ds ≡ true → Some (newLots ds)
+some-details [] h f = absurd (omega arith)
+some-details (d ∷ ds) h f = some-pools (newLots (d ∷ ds)) d ds (flat-new false (d ∷ ds) f ∙ on-new (d ∷ ds) f)
+
+some-append : (ls ms : List Lot) → 1 ≤ length ls → Some (ls ++ ms)
+some-append [] ms h = absurd (omega arith)
+some-append (l ∷ ls) ms h = (l, (ls ++ ms, refl))
+
+some-group : (gs : List Group) → 1 ≤ length gs → all groupFormed gs ≡ true → Some (replacementOf gs)
+some-group [] h f = absurd (omega arith)
+some-group (g ∷ gs) h f =
+    some-append (g .replacement) (replacementOf gs)
+    (leb-true 1 (length (g .replacement))
+    (and-right (leb 1 (length (g .canceled))) (leb 1 (length (g .replacement))) (and-left (leb 1 (length (g .canceled)) && leb 1 (length (g .replacement))) _ (and-left (groupFormed g) (all groupFormed gs) f))))
+
+group-there : (os ns ls : List Lot) → 1 ≤ length (groupsFrom os ns ls)
+group-there os ns [] = omega arith
+group-there os [] (l ∷ ls) =
+    elim (lotCanceled l) as (λ b. 1 ≤ length (cond b (groupsFrom (os ++ (l ∷ [])) [] ls) (groupsFrom os (l ∷ []) ls)))
+    [ true ↦ group-there (os ++ (l ∷ [])) [] ls | false ↦ group-there os (l ∷ []) ls ]
+group-there os (n ∷ ns) (l ∷ ls) =
+    elim (lotCanceled l) as (λ b. 1 ≤ length (cond b (record { canceled = os; replacement = n ∷ ns } ∷ groupsFrom (l ∷ []) [] ls) (groupsFrom os ((n ∷ ns) ++ (l ∷ [])) ls)))
+    [ true ↦ omega arith | false ↦ group-there os ((n ∷ ns) ++ (l ∷ [])) ls ]
+
+pub brings-some : (body : List ℕ) → lengthFits body ≡ true → (bringsLots (typeOf body) ≡ true → formedFor (isCc (typeOf body)) (details body) ≡ true)
+    → (isCc (typeOf body) ≡ true → groupsFormed (details body) ≡ true) → bringsLots (typeOf body) ≡ true → 1 ≤ length (brought body)
+unfolding groupsFormed groups lengthFits poolCount
+brings-some body le fo gr b = let (l, (ls, e)) = go (isCc (typeOf body)) refl in rw (brought-new body b, e) (omega arith)
+  where
+    go : (c : Bool) → isCc (typeOf body) ≡ c → Some (newLots (details body))
+    go true e = rw (groups-new (details body)) at (some-group (groups (details body)) (group-there [] [] (lots (details body))) (gr e))
+    go false e =
+        some-details (details body)
+        (rw (length-details body, le) (leb-true 1 (pools body) (and-left (leb 1 (pools body)) _ (and-right (eqb (length body) (headerWidth + pools body * detailWidth)) _ le))))
+        (rw e at (fo b))

@@ -5,16 +5,19 @@ use mathlib.Core.Bool.{true, not}
 use mathlib.Core.List.{List, [], _∷_, _++_, append-assoc, List·Memᴰ·head, List·Memᴰ·tail, List·Memᴰ·not-nil, List·Memᴰ·cases-cons, Memᴰ·append-left, Memᴰ·append-right, Memᴰ·map, Memᴰ·cast}
 use Prim.Native.Nat.{ℕ}
 use borrow.Author.Tests.{eqb-true, not-true}
-use Rattle.lists.proofs.Tests.{_∈_, and-left, and-right, both, clash, any-in, any-out, any-append, same-refl}
+use Rattle.lists.specs.Lists.{keep, all}
+use Rattle.lists.proofs.Tests.{_∈_, and-left, and-right, both, clash, all-out, any-in, any-out, any-append, keep-in, same-refl}
 use Rattle.fields.specs.declared.Field.{Field}
 use Rattle.fields.specs.Fields.{isNumber, valueOf}
 use Rattle.terminator.specs.Lots.{Lot}
 use Rattle.book.specs.declared.Pool.{Pool}
 use Rattle.book.specs.Records.{Fields, fieldsOf, sameFields, hasFields, distinct}
-use Rattle.book.specs.Messages.{under}
-use Rattle.book.specs.Checks.{lotFields}
+use Rattle.book.specs.Messages.{targetOf, under}
+use Rattle.book.specs.Soundness.{follows, inOrder}
+use Rattle.book.specs.Checks.{firstUnder, targetTrade, lotFields}
 use Rattle.book.specs.History.{isTarget, fieldsOfLots}
-use Rattle.book.proofs.ListLaws.{neither-left}
+use Rattle.book.proofs.ListLaws.{neither-left, keep-member}
+use Rattle.book.proofs.Ordered.{chained, order-chained, ordered-keep, follows-trade}
 use Rattle.book.proofs.Matched.{fields-equal}
 
 -- ---- matched fields
@@ -80,3 +83,17 @@ under-one tgt q r a b = target-one tgt (q .message) (r .message) a b
 
 pub under-message : (tgt : Field) (q r : Pool) → under tgt q ≡ true → q .message ≡ r .message → under tgt r ≡ true
 under-message tgt q r a e = rw e at a
+
+-- on records in order they have one trade, the target's
+pub under-trade : (body : List ℕ) (rs : List Pool) → inOrder rs ≡ true → (r : Pool) → r ∈ rs → under (targetOf body) r ≡ true → r .trade ≡ targetTrade body rs
+unfolding targetTrade
+under-trade body rs e r m u = go (keep (under (targetOf body)) rs) (order-chained (keep (under (targetOf body)) rs) (ordered-keep (under (targetOf body)) rs e)) (keep-member (under (targetOf body)) m u) (λ q n. keep-in (under (targetOf body)) rs n .1)
+  where
+    go : (ks : List Pool) → chained ks ≡ true → r ∈ ks → ((q : Pool) → q ∈ ks → under (targetOf body) q ≡ true) → r .trade ≡ firstUnder ks
+    go [] c n k = absurd (List·Memᴰ·not-nil n)
+    go (q ∷ ks) c n k = by (List·Memᴰ·cases-cons n)
+      where
+        by : (r ≡ q) ⊎ (r ∈ ks) → r .trade ≡ q .trade
+        by (inl p) = ap (λ (x : Pool). x .trade) p
+        by (inr p) =
+            sym (follows-trade q r (all-out (follows q) p (and-left (all (follows q) ks) (chained ks) c)) (under-one (targetOf body) q r (k q (List·Memᴰ·head refl)) u))

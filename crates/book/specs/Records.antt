@@ -123,10 +123,7 @@ liveMillions l = l .first .millions
 abbrev pub ofTrade : ℕ → LiveLot → Bool
 ofTrade t l = eqb (l .first .trade) t
 
--- what the lots of some records weigh, and those of one trade
-unfoldable pub weightOfRecords : List Pool → ℕ
-weightOfRecords rs = sumOf liveWeight (liveLots rs)
-
+-- what a trade's lots among some records weigh
 unfoldable pub tradeWeight : ℕ → List Pool → ℕ
 tradeWeight t rs = sumOf liveWeight (keep (ofTrade t) (liveLots rs))
 

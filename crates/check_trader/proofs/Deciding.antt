@@ -2,14 +2,15 @@
 use Prim.Native.Nat.{ℕ, _+_, _≤_, _<_}
 use native.Mathlib.Omega.{arith}
 use mathlib.Core.Path.{_≡_, refl, sym, ap, _∙_}
-use mathlib.Core.List.{List, map}
+use mathlib.Core.List.{List, [], map}
 use mathlib.Core.Bool.{Bool, true, false, cond, not, _&&_, _||_, true≢false}
 use lib.ListN.{length, take, drop, getD, length-map}
-use lib.Dec.{leb, ltb}
+use lib.Dec.{eqb, leb, ltb}
 use lib.Seq.{length-take-le, getD-take}
-use borrow.Author.Tests.{leb-true, lt-ltb, le-ltb, not-true, not-false}
+use borrow.Author.Tests.{leb-true, lt-ltb, le-ltb, eq-eqb, not-true, not-false}
 use native.Mathlib.Decide.{decLt}
 use Rattle.lists.specs.Lists.{any, keep}
+use Rattle.lists.proofs.Tests.{_∈_, and-left, and-right, keep-in}
 use Rattle.layout.specs.Details.{details}
 use Rattle.terminator.specs.Terminators.{isCanceled}
 use Rattle.terminator.specs.Lots.{formedFor}
@@ -22,21 +23,26 @@ use Rattle.book.specs.declared.Reason.{Reason}
 use Rattle.book.specs.declared.Reason.the-variants as by
 use Rattle.book.specs.Reasons.{told}
 use Rattle.book.specs.declared.Verdict.the-variants.{Passes, Fails}
-use Rattle.book.specs.Records.{fieldsOf, noPool, weightOfRecords}
+use Rattle.book.specs.Dues.{dueWeight}
+use Rattle.book.specs.Records.{fieldsOf, liveFields, hasFields, noPool, tradeWeight}
+use Rattle.book.specs.Messages as messages
 use Rattle.book.specs.Messages.{typeOf, targetOf, under, listed, listedOf}
 use Rattle.book.specs.Trades.{tradesOf, openPars, broughtWeight, tradeOfOn}
 use Rattle.book.specs.Opening.{recordsMax}
 use Rattle.book.specs.Soundness.{recordFine, heldIn, Sound}
-use Rattle.book.specs.Checks.{Check, live, targetTrade, tradeAt, concerned, concernedBy, concernedFor, isTaken, taken, listedFine, parFine, tableFine, termsChecks, movesChecks, traderChecks, firstFailing, Asked}
+use Rattle.book.specs.Checks.{Check, targetTrade, tradeAt, tradeDue, duesBy, isTaken, listedFine, parFine, tableFine, termsChecks, movesChecks, traderChecks, firstFailing, Asked}
 use Rattle.message_type.specs.Questions.{isOn, isCc, bringsLots, listsLots}
 use Rattle.book.proofs.ListLaws.{all-keep}
+use Rattle.book.proofs.Dues.{dues-fit, dues-weight}
+use Rattle.book.proofs.Pools.{some-lot, listed-none}
+use Rattle.book.proofs.Targets.{under-trade}
 use Rattle.book.proofs.Ordered.{ordered-keep}
 use Rattle.book.proofs.Reached.{is-sound}
 use Rattle.book.proofs.ListLaws.{or-right}
 use Rattle.rows.specs.Rows.{recordAt, numberAt, tableOf}
 use Rattle.rows.specs.Runs.{runSum, weightShare}
 use Rattle.rows.proofs.Rows.{length-table, table-at}
-use Rattle.rows.proofs.Runs.{weight-runs}
+use Rattle.rows.proofs.Runs.{weight-one}
 use Rattle.rows_find.specs.declared.Run.{Run}
 use Rattle.rows_find.specs.Runs.{runOf}
 use Rattle.rows_find.specs.Marks.{marked, Weighable}
@@ -78,6 +84,11 @@ takes-all : (a b f : Bool) → f ≡ (not a || b) → f ≡ true → (a && not b
 takes-all true true f e h = refl
 takes-all true false f e h = absurd (true≢false (sym h ∙ e))
 takes-all false b f e h = refl
+
+-- a test that is asked of some types, by the code's own answers
+same-test : (o fine q b : Bool) → b ≡ o → (o ≡ true → q ≡ fine) → (o && not fine) ≡ (b && not q)
+same-test true fine q b e k = rw (e, k refl)
+same-test false fine q b e k = rw e
 
 -- ---- what soundness gives
 module _ (book : Book) (ns ks : List (List ℕ)) (body : List ℕ) (y : Ready book ns ks body) where
@@ -155,39 +166,65 @@ module _ (book : Book) (ns ks : List (List ℕ)) (body : List ℕ) (y : Ready bo
       tests : (listsLots (typeOf body) && not (listedFine body (take (book .live) (tableOf ns ks)))) ≡ false
       tests = takes-all (listsLots (typeOf body)) (listedFine body (take (book .live) (tableOf ns ks))) (t .fine) (tk .fine) (not-false (t .fine) h37)
 
-      pub concerned-is : trade ≡ concerned (callOn book ns ks body asked)
-      unfolding concernedBy
-      concerned-is = er ∙ rw (eo, ek, sym et) (sym (go (typeOf body)))
-        where
-          go : (j : MessageType)
-              → concernedFor j body (tradesOf (book .values)) (take (book .live) (tableOf ns ks))
-              ≡ cond (isOn j) (tradeOfOn body (tradesOf (book .values)) (openPars (tradesOf (book .values)))) (targetTrade body (take (book .live) (tableOf ns ks)))
-          go On = refl
-          go Cc = refl
-          go Dk = refl
-          go Cx = refl
-          go Other = refl
+      -- the one trade of its lots
+      trade-is : trade ≡ tradeDue body (tradesOf (book .values)) (take (book .live) (tableOf ns ks))
+      trade-is = er ∙ rw (eo, ek, sym et)
 
-      pub off-is : off ≡ weightOfRecords (taken (callOn book ns ks body asked))
-      off-is =
-          ef ks
-          ∙ ap (runSum weightShare 0 0)
-          (marked-keep (isTaken (targetOf body) (listed body)) (t .marks) (take (book .live) (tableOf ns ks)) (omega (arith, size, within, few, tk .size), tk .marked (not-false (t .fine) h37)))
-          ∙ weight-runs (book .values) (keep (isTaken (targetOf body) (listed body)) (take (book .live) (tableOf ns ks)))
+      abbrev gone : List Pool
+      gone = keep (isTaken (targetOf body) (listed body)) (take (book .live) (tableOf ns ks))
+
+      -- all that goes is of that trade: an ON lists nothing, and a target's records have one trade
+      gone-there : (r : Pool) → r ∈ gone → r .trade ≡ trade
+      gone-there r m = go (isOn (typeOf body)) refl
+        where
+          kept : (r ∈ take (book .live) (tableOf ns ks)) × (isTaken (targetOf body) (listed body) r ≡ true)
+          kept = keep-in (isTaken (targetOf body) (listed body)) (take (book .live) (tableOf ns ks)) m
+
+          on-lists : (j : MessageType) → isOn j ≡ true → listsLots j ≡ false
+          on-lists On e = refl
+          on-lists Cc e = absurd (true≢false (sym e))
+          on-lists Dk e = absurd (true≢false (sym e))
+          on-lists Cx e = refl
+          on-lists Other e = refl
+
+          go : (o : Bool) → isOn (typeOf body) ≡ o → r .trade ≡ trade
+          go true e =
+              let z : hasFields (liveFields r) [] ≡ true = rw (listed-none body (on-lists (typeOf body) e)) at (and-right (under (targetOf body) r) (hasFields (liveFields r) (listed body)) (kept .1)) in
+              absurd (true≢false (sym z))
+          go false e =
+              under-trade body (take (book .live) (tableOf ns ks)) (sure .ordered) r (kept .0) (and-left (under (targetOf body) r) (hasFields (liveFields r) (listed body)) (kept .1))
+              ∙ sym (trade-is ∙ rw e)
+
+      off-is : (u : ℕ) → tradeWeight u gone ≡ cond (eqb trade u) off 0
+      off-is u =
+          weight-one (book .values) gone
           (ordered-keep (isTaken (targetOf body) (listed body)) (take (book .live) (tableOf ns ks)) (sure .ordered))
-          (all-keep (recordFine (book .values)) (isTaken (targetOf body) (listed body)) (take (book .live) (tableOf ns ks)) (sure .records))
+          (all-keep (recordFine (book .values)) (isTaken (targetOf body) (listed body)) (take (book .live) (tableOf ns ks)) (sure .records)) trade gone-there u
+          ∙ ap (λ (n : ℕ). cond (eqb trade u) n 0)
+          (sym (ef ks
+          ∙ ap (runSum weightShare 0 0)
+          (marked-keep (isTaken (targetOf body) (listed body)) (t .marks) (take (book .live) (tableOf ns ks)) (omega (arith, size, within, few, tk .size), tk .marked (not-false (t .fine) h37)))))
+
+      brought-is : (u : ℕ) → dueWeight u (duesBy body (tradesOf (book .values)) (take (book .live) (tableOf ns ks))) ≡ cond (eqb trade u) brought 0
+      brought-is u = rw (trade-is, eb) (dues-weight body (tradesOf (book .values)) (take (book .live) (tableOf ns ks)) u)
 
       module _ (p : Bool) (ep : p ≡ (ltb trade (length (tradesOf (book .values))) && leb brought (tradeAt (tradesOf (book .values)) trade .openPar + off))) where
-        par-is : p ≡ parFine (book .values) (take (book .live) (tableOf ns ks)) body
-        par-is = rw (sym concerned-is, sym off-is, sym eb) ep
+        par-is : bringsLots (typeOf body) ≡ true → p ≡ parFine (book .values) (take (book .live) (tableOf ns ks)) body
+        par-is o =
+            let (l, (ls, e)) = some-lot (messages.brought body) (y .some o) in
+            let w : tradeWeight trade gone ≡ off = off-is trade ∙ rw (eq-eqb trade trade refl) in
+            ep ∙ rw (sym w, trade-is, eb) (sym (dues-fit body (tradesOf (book .values)) (take (book .live) (tableOf ns ks)) gone l ls e))
 
         module _ (b : Bool) (ebo : b ≡ (on || cc)) where
           both-is : b ≡ bringsLots (typeOf body)
           both-is = ebo ∙ rw (eo, ec, ek)
 
+          par-test : (bringsLots (typeOf body) && not (parFine (book .values) (take (book .live) (tableOf ns ks)) body)) ≡ (b && not p)
+          par-test = same-test (bringsLots (typeOf body)) (parFine (book .values) (take (book .live) (tableOf ns ks)) body) p b both-is par-is
+
           pub par-fails : (b && not p) ≡ true → Fails (by.Trader 38 told) ≡ firstFailing movesChecks (callOn book ns ks body asked)
           unfolding movesChecks
-          par-fails h = rw (tests, rw (both-is, par-is) at h)
+          par-fails h = rw (tests, par-test ∙ h)
 
           module _ (h38 : (b && not p) ≡ false) (q : Bool)
               (eq : formedFor cc (details body) ≡ true → q ≡ leb (book .live + length (newPools (details body))) (length ns + cond cc (length (keep isCanceled (details body))) 0)) where
@@ -202,27 +239,23 @@ module _ (book : Book) (ns ks : List (List ℕ)) (body : List ℕ) (y : Ready bo
                 go Cx o = absurd (true≢false (sym o))
                 go Other o = absurd (true≢false (sym o))
 
-            both-fits : (x : Bool) → (b && not q) ≡ x → (bringsLots (typeOf body) && not (tableFine book (heldIn book (tableOf ns ks)) body)) ≡ x
-            both-fits x h = go (bringsLots (typeOf body)) refl
-              where
-                go : (o : Bool) → bringsLots (typeOf body) ≡ o → (bringsLots (typeOf body) && not (tableFine book (heldIn book (tableOf ns ks)) body)) ≡ x
-                go true e = rw (sym (fits-is e), sym both-is) h
-                go false e = rw e (rw (both-is, e) at h)
+            table-test : (bringsLots (typeOf body) && not (tableFine book (heldIn book (tableOf ns ks)) body)) ≡ (b && not q)
+            table-test = same-test (bringsLots (typeOf body)) (tableFine book (heldIn book (tableOf ns ks)) body) q b both-is fits-is
 
             pub table-fails : (b && not q) ≡ true → Fails (by.Operator 40 told) ≡ firstFailing movesChecks (callOn book ns ks body asked)
             unfolding movesChecks
-            table-fails h = rw (tests, rw (both-is, par-is) at h38, both-fits true h)
+            table-fails h = rw (tests, par-test ∙ h38, table-test ∙ h)
 
             pub all-pass : (b && not q) ≡ false
                 → DecidedBy movesChecks (callOn book ns ks body asked) (record { verdict = Passes; trade = trade; off = off; brought = brought; marks = t .marks })
             unfolding movesChecks
             all-pass h =
                 record {
-                  verdict = rw (tests, rw (both-is, par-is) at h38, both-fits false h);
+                  verdict = rw (tests, par-test ∙ h38, table-test ∙ h);
                   refused = λ r p. fails-not (sym p);
-                  trade = λ z. concerned-is;
+                  trade = λ z. trade-is;
                   off = λ z. off-is;
-                  brought = λ z. eb;
+                  brought = λ z. brought-is;
                   marks = λ z. tk .whole (not-false (t .fine) h37);
                   marked = λ z. tk .marked (not-false (t .fine) h37);
                 }

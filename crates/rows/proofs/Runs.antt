@@ -1,19 +1,19 @@
 -- A loop's sum over records is the sum over their live lots, where the records are in order, so that those of a lot stand together and agree,
 -- and the first has a message ID, so that it begins a lot after none.
 use mathlib.Core.Path.{_≡_, refl, sym, ap, _∙_}
-use mathlib.Core.List.{List, [], _∷_}
+use mathlib.Core.List.{List, [], _∷_, List·Memᴰ·head, List·Memᴰ·tail}
 use mathlib.Core.Bool.{Bool, true, false, cond, not, _&&_, true≢false}
 use Prim.Native.Nat.{ℕ, _+_, _<_}
 use native.Mathlib.Omega.{arith}
 use lib.Dec.{eqb, leb, ltb}
 use borrow.Author.Tests.{leb-true, ne-eqb}
 use Rattle.lists.specs.Lists.{keep, all, sumOf}
-use Rattle.lists.proofs.Tests.{and-left, and-right}
+use Rattle.lists.proofs.Tests.{_∈_, and-left, and-right, cond-zero}
 use Rattle.book.specs.declared.Pool.{Pool}
 use Rattle.book.specs.declared.Values.{Values}
 use Rattle.book.specs.Opening.{elevenDigitsMax}
 use Rattle.lists.specs.Lists.{between}
-use Rattle.book.specs.Records.{kindGood, goodWeight, sameLot, LiveLot, livePools, joinLot, liveLots, liveWeight, liveMillions, ofTrade, weightOfRecords, tradeWeight, standingMillions}
+use Rattle.book.specs.Records.{kindGood, goodWeight, sameLot, LiveLot, livePools, joinLot, liveLots, liveWeight, liveMillions, ofTrade, tradeWeight, standingMillions}
 use Rattle.book.specs.Soundness.{kindFine, recordFine, follows, inOrder}
 use Rattle.book.proofs.ListLaws.{sum-keep}
 use Rattle.book.proofs.LiveLots.{alone, joined}
@@ -82,6 +82,17 @@ module _ (share : Bool → Pool → ℕ) (value : LiveLot → ℕ) (single : Sin
   trade-runs : (v : Values) (rs : List Pool) → inOrder rs ≡ true → all (recordFine v) rs ≡ true → runSum (shareOf t share) 0 0 rs ≡ sumOf value (keep (ofTrade t) (liveLots rs))
   trade-runs v rs o f = runs (shareOf t share) (λ (l : LiveLot). cond (ofTrade t l) (value l) 0) trade-single trade-more v rs o f ∙ sym (sum-keep value (ofTrade t) (liveLots rs))
 
+-- where all records are of one trade
+share-one : (share : Bool → Pool → ℕ) (t u m o : ℕ) (rs : List Pool) → ((r : Pool) → r ∈ rs → r .trade ≡ t) → runSum (shareOf u share) m o rs ≡ cond (eqb t u) (runSum share m o rs) 0
+share-one share t u m o [] k = sym (cond-zero (eqb t u))
+share-one share t u m o (r ∷ rs) k =
+    rw (ap (λ (n : ℕ). eqb n u) (k r (List·Memᴰ·head refl)), share-one share t u (r .message) (r .ordinal) rs (λ q n. k q (List·Memᴰ·tail n))) (go (eqb t u))
+  where
+    go : (b : Bool) → cond b (share (not (eqb (r .message) m && eqb (r .ordinal) o)) r) 0 + cond b (runSum share (r .message) (r .ordinal) rs) 0
+        ≡ cond b (share (not (eqb (r .message) m && eqb (r .ordinal) o)) r + runSum share (r .message) (r .ordinal) rs) 0
+    go true = refl
+    go false = refl
+
 -- ---- weights and millions
 weight-single : Single weightShare liveWeight
 weight-single r = go (eqb (r .kind) kindGood)
@@ -105,10 +116,6 @@ millions-more : More millionsShare liveMillions
 millions-more q l f s = omega arith
 
 module _ (v : Values) (rs : List Pool) (order : inOrder rs ≡ true) (fine : all (recordFine v) rs ≡ true) where
-  pub weight-runs : runSum weightShare 0 0 rs ≡ weightOfRecords rs
-  unfolding weightOfRecords
-  weight-runs = runs weightShare liveWeight weight-single weight-more v rs order fine
-
   pub trade-weight-runs : (t : ℕ) → runSum (shareOf t weightShare) 0 0 rs ≡ tradeWeight t rs
   unfolding tradeWeight
   trade-weight-runs t = trade-runs weightShare liveWeight weight-single weight-more t v rs order fine
@@ -116,3 +123,7 @@ module _ (v : Values) (rs : List Pool) (order : inOrder rs ≡ true) (fine : all
   pub standing-runs : (t : ℕ) → runSum (shareOf t millionsShare) 0 0 rs ≡ standingMillions t rs
   unfolding standingMillions
   standing-runs t = trade-runs millionsShare liveMillions millions-single millions-more t v rs order fine
+
+  -- where all records are of one trade, it has the whole sum
+  pub weight-one : (t : ℕ) → ((r : Pool) → r ∈ rs → r .trade ≡ t) → (u : ℕ) → tradeWeight u rs ≡ cond (eqb t u) (runSum weightShare 0 0 rs) 0
+  weight-one t k u = sym (trade-weight-runs u) ∙ share-one weightShare t u 0 0 rs k

@@ -19,6 +19,7 @@ use Rattle.terminator.specs.Terminators.{digitCanceled, kindOf, millionsOf, one
 use Rattle.terminator.specs.Lots.{Lot, poolsOf, lotKind, lotMillions, lots}
 use Rattle.faces.specs.Faces.{isNewLot, newLots}
 use Rattle.book.specs.declared.Pool.{Pool}
+use Rattle.book.specs.Dues.{due}
 use Rattle.book.specs.Records.{kindNumber, poolOf, recordsOf}
 use Rattle.rows_bring.specs.declared.Common.{Common}
 use Rattle.rows_bring.specs.Staged.{terminatorNumber, numberOne, numberTerm}
@@ -40,11 +41,11 @@ paste-nil t at = go (within t at 0) refl
 module _ (message trade at : ℕ) (body : List ℕ) (t₀ : List Pool) where
   -- the records of the new lots from a pool on
   abbrev left : ℕ → ℕ → List Pool
-  left next ordinal = recordsOf message trade ordinal (newLots (drop next (details body)))
+  left next ordinal = recordsOf message ordinal (map (due trade) (newLots (drop next (details body))))
 
   -- all that are to be stored
   abbrev whole : List Pool
-  whole = recordsOf message trade 1 (newLots (details body))
+  whole = recordsOf message 1 (map (due trade) (newLots (details body)))
 
   pub record Storing (t : List Pool) (place ordinal next : ℕ) : Type 0 where
     pub table : pasted t place (left next ordinal) ≡ pasted t₀ at whole
@@ -55,7 +56,7 @@ module _ (message trade at : ℕ) (body : List ℕ) (t₀ : List Pool) where
 
   module _ (t : List Pool) (place ordinal next : ℕ) (inv : Storing t place ordinal next) where
     ended : lots (drop next (details body)) ≡ [] → left next ordinal ≡ []
-    ended e = ap (λ (ls : List Lot). recordsOf message trade ordinal (keep isNewLot ls)) e
+    ended e = ap (λ (ls : List Lot). recordsOf message ordinal (map (due trade) (keep isNewLot ls))) e
 
     module _ (e : lots (drop next (details body)) ≡ []) where
       pub place-after : place ≡ at + length whole
@@ -82,7 +83,7 @@ module _ (message trade at : ℕ) (body : List ℕ) (t₀ : List Pool) where
       pub storing-canceled : numberOne number ≡ digitCanceled → Storing t place ordinal (last + 1)
       storing-canceled e =
           let c : eqb (one (s .lot .last)) digitCanceled ≡ true = eq-eqb (one (s .lot .last)) digitCanceled (sym same-one ∙ e) in
-          let k : left next ordinal ≡ left (last + 1) ordinal = ap (λ (ls : List Lot). recordsOf message trade ordinal (keep isNewLot ls)) (s .after) ∙ rw c in
+          let k : left next ordinal ≡ left (last + 1) ordinal = ap (λ (ls : List Lot). recordsOf message ordinal (map (due trade) (keep isNewLot ls))) (s .after) ∙ rw c in
           record { table = ap (pasted t place) (sym k) ∙ inv .table; end = ap (λ (l : List Pool). place + length l) (sym k) ∙ inv .end }
 
       -- the records of the lot
@@ -99,8 +100,8 @@ module _ (message trade at : ℕ) (body : List ℕ) (t₀ : List Pool) where
         brought : left next ordinal ≡ recordsFrom body q next (last + 1 - next) ++ left (last + 1) (ordinal + 1)
         brought =
             let c : eqb (one (s .lot .last)) digitCanceled ≡ false = ne-eqb (one (s .lot .last)) digitCanceled (λ f. d (same-one ∙ f)) in
-            let k : recordsOf message trade ordinal (keep isNewLot (s .lot ∷ lots (drop (last + 1) (details body)))) ≡ map (poolOf message ordinal trade (s .lot)) (poolsOf (s .lot)) ++ left (last + 1) (ordinal + 1) = rw c in
-            ap (λ (ls : List Lot). recordsOf message trade ordinal (keep isNewLot ls)) (s .after) ∙ k
+            let k : recordsOf message ordinal (map (due trade) (keep isNewLot (s .lot ∷ lots (drop (last + 1) (details body))))) ≡ map (poolOf message ordinal trade (s .lot)) (poolsOf (s .lot)) ++ left (last + 1) (ordinal + 1) = rw c in
+            ap (λ (ls : List Lot). recordsOf message ordinal (map (due trade) (keep isNewLot ls))) (s .after) ∙ k
             ∙ ap (λ (l : List Pool). l ++ left (last + 1) (ordinal + 1)) (lot-records q e)
 
         counted : place + (last + 1 - next) + length (left (last + 1) (ordinal + 1)) ≡ at + length whole

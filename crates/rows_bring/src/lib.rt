@@ -5,12 +5,14 @@ use layout::Detail;
 use terminator::Kind;
 use terminator::Terminator;
 ghost use mathlib.Core.Path.{_≡_};
+ghost use mathlib.Core.List.{map};
 ghost use Prim.Native.Nat.{_+_, _*_, _≤_};
 ghost use lib.ListN.{length};
 ghost use Rattle.lists.specs.Lists.{pasted};
 ghost use Rattle.layout.specs.Details.{details, poolCount, poolsMax};
 ghost use Rattle.terminator.specs.Lots.{currentCents};
 ghost use Rattle.faces.specs.Faces.{newLots};
+ghost use Rattle.book.specs.Dues.{due};
 ghost use Rattle.book.specs.Records.{kindNumber, recordsOf};
 ghost use Rattle.rows.specs.Rows.{tableOf};
 ghost use Rattle.rows_bring.specs.Staged.{threeDigits, terminatorNumber, numberTerm, staged, AreStaged};
@@ -185,10 +187,10 @@ pub fn put_lots(
     message: u64,
     trade: u64,
 ) -> usize
-    requires { ⌜ (length (now keys) ≡ length (now numbers)) × (at + length (recordsOf message trade 1 (newLots (details (now body)))) ≤ length (now numbers)) ⌝ }
+    requires { ⌜ (length (now keys) ≡ length (now numbers)) × (at + length (recordsOf message 1 (map (due trade) (newLots (details (now body))))) ≤ length (now numbers)) ⌝ }
     requires { ⌜ AreStaged currentCents (now body) (now faces) × AreStaged terminatorNumber (now body) (now terminators) ⌝ }
-    ensures { λ r. ⌜ (r ≡ at + length (recordsOf message trade 1 (newLots (details (now (body .entry))))))
-        × (tableOf (now (numbers .exit)) (now (keys .exit)) ≡ pasted (tableOf (now (numbers .entry)) (now (keys .entry))) at (recordsOf message trade 1 (newLots (details (now (body .entry)))))) ⌝ }
+    ensures { λ r. ⌜ (r ≡ at + length (recordsOf message 1 (map (due trade) (newLots (details (now (body .entry)))))))
+        × (tableOf (now (numbers .exit)) (now (keys .exit)) ≡ pasted (tableOf (now (numbers .entry)) (now (keys .entry))) at (recordsOf message 1 (map (due trade) (newLots (details (now (body .entry))))))) ⌝ }
 {
     let n = layout::pool_count(body);
     let mut place = at;

@@ -14,9 +14,9 @@ use Rattle.message_type.specs.declared.MessageType.{MessageType}
 use Rattle.message_type.specs.declared.MessageType.the-variants.{On, Cc, Dk, Cx, Other}
 use Rattle.book.specs.declared.Pool.{Pool}
 use Rattle.book.specs.Records.{fieldsOf, noPool, recordsOf}
-use Rattle.book.specs.Messages.{typeOf, targetOf, under, listedOf, listed, brought}
+use Rattle.book.specs.Messages.{typeOf, targetOf, under, listedOf, listed}
 use Rattle.book.specs.Soundness.{isNone, Sound}
-use Rattle.book.specs.Checks.{Call, live, concerned, isTaken}
+use Rattle.book.specs.Checks.{Call, live, dues, isTaken}
 use Rattle.message_type.specs.Questions.{isOn}
 use Rattle.book.specs.Step.{liveMoved, tableMoved, accepted, bookAfter, tableAfter}
 use Rattle.book.proofs.ListLaws.{all-replicate}
@@ -46,7 +46,7 @@ on-lists body e = go (typeOf body) e
 
 module _ (c : Call) where
   abbrev new : List Pool
-  new = recordsOf (c .book .values .lastMessageId + 1) (concerned c) 1 (brought (c .body))
+  new = recordsOf (c .book .values .lastMessageId + 1) 1 (dues c)
 
   -- so it takes nothing off
   on-moved : isOn (typeOf (c .body)) ≡ true → liveMoved c ≡ live c ++ new

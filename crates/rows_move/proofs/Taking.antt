@@ -3,7 +3,7 @@ use Prim.Native.Nat.{ℕ, zero, suc, _+_, _-_, _≤_}
 use native.Mathlib.Omega.{arith}
 use native.Mathlib.Nat.{sub-zero, suc-sub-suc}
 use mathlib.Core.Path.{_≡_, sym, ap, _∙_}
-use mathlib.Core.List.{List, [], _++_, append-assoc, append-nil}
+use mathlib.Core.List.{List, [], _++_, map, append-assoc, append-nil}
 use mathlib.Core.Bool.{Bool, true, false, not, and-false}
 use lib.ListN.{length, take, drop, replicate, length-append, length-replicate, replicate-append-replicate, take-append-drop}
 use lib.Seq.{length-take-le, take-append-seam, drop-append-add}
@@ -14,6 +14,7 @@ use Rattle.lists.proofs.Tests.{keep-all}
 use Rattle.layout.specs.Details.{details}
 use Rattle.message_type.specs.declared.MessageType.{MessageType}
 use Rattle.book.specs.declared.Pool.{Pool}
+use Rattle.book.specs.Dues.{due}
 use Rattle.book.specs.Records.{noPool, recordsOf}
 use Rattle.faces.specs.Faces.{newLots}
 use Rattle.book.specs.Messages.{typeOf, targetOf, listed}
@@ -71,14 +72,14 @@ module _ (body : List ℕ) (ns ks : List (List ℕ)) (live : ℕ) (ms : List ℕ
 -- ---- bringing
 module _ (body : List ℕ) (message trade : ℕ) (k : MessageType) (b : Bool) (ek : k ≡ typeOf body) (eb : b ≡ bringsLots k) where
   -- what an ON or a CC brings is its new lots
-  pub brings : b ≡ true → bringing body message trade ≡ recordsOf message trade 1 (newLots (details body))
-  brings e = ap (recordsOf message trade 1) (brought-new body (ap bringsLots (sym ek) ∙ sym eb ∙ e))
+  pub brings : b ≡ true → bringing body message trade ≡ recordsOf message 1 (map (due trade) (newLots (details body)))
+  brings e = ap (recordsOf message 1) (ap (map (due trade)) (brought-new body (ap bringsLots (sym ek) ∙ sym eb ∙ e)))
 
-  pub brings-room : (at n : ℕ) → b ≡ true → at + length (bringing body message trade) ≤ n → at + length (recordsOf message trade 1 (newLots (details body))) ≤ n
+  pub brings-room : (at n : ℕ) → b ≡ true → at + length (bringing body message trade) ≤ n → at + length (recordsOf message 1 (map (due trade) (newLots (details body)))) ≤ n
   brings-room at n e h = rw (sym (brings e)) h
 
-  pub brings-all : (at r : ℕ) (t u : List Pool) → b ≡ true → r ≡ at + length (recordsOf message trade 1 (newLots (details body)))
-      → u ≡ pasted t at (recordsOf message trade 1 (newLots (details body)))
+  pub brings-all : (at r : ℕ) (t u : List Pool) → b ≡ true → r ≡ at + length (recordsOf message 1 (map (due trade) (newLots (details body))))
+      → u ≡ pasted t at (recordsOf message 1 (map (due trade) (newLots (details body))))
       → (r ≡ at + length (bringing body message trade)) × (u ≡ pasted t at (bringing body message trade))
   brings-all at r t u e er eu = rw (brings e) (er, eu)
 
@@ -86,7 +87,7 @@ module _ (body : List ℕ) (message trade : ℕ) (k : MessageType) (b : Bool) (e
   pub brings-none : (n r : ℕ) (rs u : List Pool) → b ≡ false → r ≡ length rs → u ≡ filled n rs
       → (r ≡ length (rs ++ bringing body message trade)) × (u ≡ filled n (rs ++ bringing body message trade))
   brings-none n r rs u e er eu =
-      let q : bringing body message trade ≡ [] = ap (recordsOf message trade 1) (brought-none body (ap bringsLots (sym ek) ∙ sym eb ∙ e)) in
+      let q : bringing body message trade ≡ [] = ap (recordsOf message 1) (ap (map (due trade)) (brought-none body (ap bringsLots (sym ek) ∙ sym eb ∙ e))) in
       rw (q, append-nil) (er, eu)
 
 -- new records in the place of the first zeros

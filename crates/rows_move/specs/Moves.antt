@@ -1,12 +1,13 @@
 -- What an accepted message leaves of a table (01, "The book"): the records that it does not take off, then those that it brings, then zeros.
 use Prim.Native.Nat.{ℕ, _-_, _≤_, _<_}
 use mathlib.Core.Path.{_≡_}
-use mathlib.Core.List.{List, _++_}
+use mathlib.Core.List.{List, _++_, map}
 use mathlib.Core.Bool.{not}
 use lib.ListN.{length, take, drop, getD, replicate}
 use lib.Dec.{eqb}
 use Rattle.lists.specs.Lists.{keep}
 use Rattle.book.specs.declared.Pool.{Pool}
+use Rattle.book.specs.Dues.{due}
 use Rattle.book.specs.Records.{noPool, recordsOf}
 use Rattle.book.specs.Messages.{targetOf, listed, brought}
 use Rattle.book.specs.Checks.{isTaken}
@@ -18,7 +19,7 @@ remaining body rs = keep (λ (r : Pool). not (isTaken (targetOf body) (listed bo
 
 -- what it brings, under its new ID and for its trade
 abbrev pub bringing : List ℕ → ℕ → ℕ → List Pool
-bringing body message trade = recordsOf message trade 1 (brought body)
+bringing body message trade = recordsOf message 1 (map (due trade) (brought body))
 
 -- the first n records: these, and zeros after them
 abbrev pub filled : ℕ → List Pool → List Pool

@@ -5,10 +5,10 @@ use mathlib.Core.Path.{_≡_, refl, sym, ap, _∙_}
 use mathlib.Core.List.{List, [], _∷_, _++_}
 use mathlib.Core.Bool.{Bool, true, false, cond, not, _&&_}
 use lib.ListN.{length, take, drop, getD, set, replicate, length-take, length-drop}
-use lib.Dec.{eqb, leb, ltb}
+use lib.Dec.{leb}
 use native.Mathlib.Decide.{decLt}
 use lib.Seq.{length-take-le, getD-take}
-use borrow.Author.Tests.{leb-true, ltb-true}
+use borrow.Author.Tests.{leb-true, eq-eqb}
 use Rattle.lists.specs.Lists.{any, all, keep}
 use Rattle.lists.proofs.Tests.{and-left, and-right, all-out, keep-first, clash}
 use Rattle.layout.specs.Columns.{headerWidth}
@@ -17,7 +17,6 @@ use Rattle.sequence.specs.declared.Inbound.{Inbound}
 use Rattle.sequence.specs.Sequence.{outboundMax}
 use Rattle.message_type.specs.declared.MessageType.{MessageType}
 use Rattle.message_type.specs.declared.MessageType.the-variants.{On, Cc, Dk, Cx, Other}
-use Rattle.terminator.specs.Lots.{Lot, lotWeight}
 use Rattle.book.specs.declared.Caller.{Caller}
 use Rattle.book.specs.declared.Book.{Book}
 use Rattle.book.specs.declared.Trade.{Trade}
@@ -25,19 +24,22 @@ use Rattle.book.specs.declared.Pool.{Pool}
 use Rattle.book.specs.declared.Answer.the-variants.{Accepted}
 use Rattle.book.specs.declared.Verdict.the-variants.{Passes}
 use Rattle.book.specs.Reasons.{isAccepted, isSilent}
-use Rattle.book.specs.Records.{noPool, weightOfRecords}
-use Rattle.book.specs.Messages.{typeOf, targetOf, under, listed, brought, broughtBy}
-use Rattle.book.specs.Trades.{tradesOf, broughtWeight}
+use Rattle.book.specs.Dues.{due, dueWeight}
+use Rattle.book.specs.Records.{noPool, tradeWeight}
+use Rattle.book.specs.Messages.{typeOf, targetOf, under, listed, brought}
+use Rattle.book.specs.Trades.{tradesOf}
 use Rattle.book.specs.Opening.{tradesMax, recordsMax, elevenDigitsMax, holidaysMax, holidaysOf, limitsFine, accountFine, tradeFine, valuesFine}
 use Rattle.calendar.specs.Calendar.{isDate}
 use Rattle.book.specs.declared.Values.{Values}
 use Rattle.book.specs.Soundness.{recordFine, isNone, Sound}
-use Rattle.book.specs.Checks.{arrived, noTrade, tradeAt, targetTrade, firstUnder, concerned, concernedFor, isTaken, taken, firstFailing, answerOf, traderChecks, concernedBy, Asked, askedBy}
+use Rattle.book.specs.Checks.{arrived, noTrade, tradeAt, targetTrade, tradeDue, duesBy, dues, duesFit, isTaken, taken, firstFailing, answerOf, traderChecks, Asked, askedBy}
 use Rattle.message_type.specs.Questions.{bringsLots, listsLots, isCx, isOther}
 use Rattle.book.specs.Step.{withOpenPar, outputFor, tradesMoved, liveMoved, tableMoved, bookAfter, tableAfter, outputAfter}
 use Rattle.book.proofs.ListLaws.{all-keep}
 use Rattle.book.proofs.Ordered.{ordered-keep}
-use Rattle.book.proofs.Kept.{last-within}
+use Rattle.book.proofs.Dues.{held-range, held-room, dues-none, dues-first}
+use Rattle.book.proofs.Pools.{some-lot, brought-none}
+use Rattle.book.proofs.Kept.{moved-one, last-within}
 use Rattle.book.proofs.Passed.{Fine, fine}
 use Rattle.book.proofs.Reached.{is-sound, moved-fits}
 use Rattle.rows.specs.Rows.{tableOf}
@@ -52,11 +54,6 @@ use Rattle.calls.specs.declared.Stepped.{Stepped}
 use Rattle.rows_step.specs.Frames.{Acceptable, Steps}
 use Rattle.rows_step.proofs.Answering.{accepted-answer, sender-length, header-there}
 use Rattle.rows_step.proofs.Bounds.{weight-most, left-most, zeros-are}
-
--- a DK brings nothing
-nothing-brought : (body : List ℕ) → typeOf body ≡ Dk → broughtWeight body ≡ 0
-unfolding broughtWeight brought
-nothing-brought body e = rw e
 
 -- the trades of values in range are fine
 trades-fine : (v : Values) → valuesFine v ≡ true → all (tradeFine (holidaysOf v)) (tradesOf v) ≡ true
@@ -108,13 +105,17 @@ module _ (b : Book) (ns ks : List (List ℕ)) (body : List ℕ) (asked : Asked) 
   size : length (take (b .live) (tableOf ns ks)) ≡ b .live
   size = length-take-le (b .live) (tableOf ns ks) (rw (length-table ns ks) within)
 
-  -- ---- the trade concerned
+  -- ---- the one trade of its lots
   short : length (tradesOf (b .values)) ≤ b .values .lent .tradeCount
   short = rw length-take (omega arith)
 
-  at-type : (k : MessageType) → typeOf body ≡ k → concerned (callOn b ns ks body asked) ≡ concernedFor k body (tradesOf (b .values)) (take (b .live) (tableOf ns ks))
-  unfolding concernedBy
-  at-type k e = ap (λ (j : MessageType). concernedFor j body (tradesOf (b .values)) (take (b .live) (tableOf ns ks))) e
+  -- every trade to which a lot is due holds what is due to it (38); a DK brings none
+  fit : duesFit (tradesOf (b .values)) (taken (callOn b ns ks body asked)) (dues (callOn b ns ks body asked)) ≡ true
+  fit = go (bringsLots (typeOf body)) refl
+    where
+      go : (o : Bool) → bringsLots (typeOf body) ≡ o → duesFit (tradesOf (b .values)) (taken (callOn b ns ks body asked)) (dues (callOn b ns ks body asked)) ≡ true
+      go true e = facts .parEnough e
+      go false e = rw (dues-none body (tradesOf (b .values)) (take (b .live) (tableOf ns ks)) (brought-none body e))
 
   target-trade : any (under (targetOf body)) (take (b .live) (tableOf ns ks)) ≡ true → targetTrade body (take (b .live) (tableOf ns ks)) < b .values .lent .tradeCount
   unfolding targetTrade
@@ -123,64 +124,69 @@ module _ (b : Book) (ns ks : List (List ℕ)) (body : List ℕ) (asked : Asked) 
       let r = record-light (b .values) (f .0) (all-out (recordFine (b .values)) (f .1) (sure .records)) in
       rw (f .3 .1) (r .0)
 
-  pub trade-known : concerned (callOn b ns ks body asked) < b .values .lent .tradeCount
-  trade-known = go (typeOf body) refl
+  trade-opened : tradeDue body (tradesOf (b .values)) (take (b .live) (tableOf ns ks)) < b .values .lent .tradeCount
+  trade-opened = go (typeOf body) refl
     where
-      by-par : bringsLots (typeOf body) ≡ true → concerned (callOn b ns ks body asked) < b .values .lent .tradeCount
+      by-par : bringsLots (typeOf body) ≡ true → tradeDue body (tradesOf (b .values)) (take (b .live) (tableOf ns ks)) < b .values .lent .tradeCount
       by-par o =
-          let h = ltb-true (concerned (callOn b ns ks body asked)) (length (tradesOf (b .values))) (and-left (ltb (concerned (callOn b ns ks body asked)) (length (tradesOf (b .values)))) _ (facts .parEnough o)) in
-          omega (arith, h, short)
+          let (l, (ls, e)) = some-lot (brought body) (x .ready .some o) in
+          omega (
+            arith,
+            short,
+            held-range (tradesOf (b .values)) (taken (callOn b ns ks body asked)) (dues (callOn b ns ks body asked)) fit
+                (due (tradeDue body (tradesOf (b .values)) (take (b .live) (tableOf ns ks))) l) (dues-first body (tradesOf (b .values)) (take (b .live) (tableOf ns ks)) l ls e),
+          )
 
-      go : (k : MessageType) → typeOf body ≡ k → concerned (callOn b ns ks body asked) < b .values .lent .tradeCount
+      go : (k : MessageType) → typeOf body ≡ k → tradeDue body (tradesOf (b .values)) (take (b .live) (tableOf ns ks)) < b .values .lent .tradeCount
       go On e = by-par (ap bringsLots e)
       go Cc e = by-par (ap bringsLots e)
-      go Dk e = rw (at-type Dk e) (target-trade (facts .targetLive (ap listsLots e)))
+      go Dk e = rw e (target-trade (facts .targetLive (ap listsLots e)))
       go Cx e = clash (ap isCx e) (facts .notCancel)
       go Other e = clash (ap isOther e) (facts .notOther)
+
+  trade-known : d .trade < b .values .lent .tradeCount
+  trade-known = rw (x .decided .trade (x .passes)) trade-opened
 
   pub trade-few : d .trade < tradesMax
-  trade-few = omega (arith, x .decided .trade (x .passes), trade-known, few-trades (b .values) (sure .values))
+  trade-few = omega (arith, trade-known, few-trades (b .values) (sure .values))
 
-  there : tradeAt (tradesOf (b .values)) (concerned (callOn b ns ks body asked)) ≡ getD (b .values .trades) (concerned (callOn b ns ks body asked)) noTrade
-  there = getD-take (b .values .lent .tradeCount) (b .values .trades) (concerned (callOn b ns ks body asked)) noTrade trade-known
+  there : tradeAt (tradesOf (b .values)) (d .trade) ≡ getD (b .values .trades) (d .trade) noTrade
+  there = getD-take (b .values .lent .tradeCount) (b .values .trades) (d .trade) noTrade trade-known
+
+  off-at : tradeWeight (d .trade) (taken (callOn b ns ks body asked)) ≡ d .off
+  off-at = x .decided .off (x .passes) (d .trade) ∙ rw (eq-eqb (d .trade) (d .trade) refl)
+
+  brought-at : dueWeight (d .trade) (dues (callOn b ns ks body asked)) ≡ d .brought
+  brought-at = x .decided .brought (x .passes) (d .trade) ∙ rw (eq-eqb (d .trade) (d .trade) refl)
 
   -- what comes is no more than what stands open and goes
-  covers : broughtWeight body ≤ tradeAt (tradesOf (b .values)) (concerned (callOn b ns ks body asked)) .openPar + weightOfRecords (taken (callOn b ns ks body asked))
-  covers = go (typeOf body) refl
-    where
-      by-par : bringsLots (typeOf body) ≡ true
-          → broughtWeight body ≤ tradeAt (tradesOf (b .values)) (concerned (callOn b ns ks body asked)) .openPar + weightOfRecords (taken (callOn b ns ks body asked))
-      by-par o = leb-true (broughtWeight body) (tradeAt (tradesOf (b .values)) (concerned (callOn b ns ks body asked)) .openPar + weightOfRecords (taken (callOn b ns ks body asked)))
-          (and-right (ltb (concerned (callOn b ns ks body asked)) (length (tradesOf (b .values)))) _ (facts .parEnough o))
-
-      go : (k : MessageType) → typeOf body ≡ k
-          → broughtWeight body ≤ tradeAt (tradesOf (b .values)) (concerned (callOn b ns ks body asked)) .openPar + weightOfRecords (taken (callOn b ns ks body asked))
-      go On e = by-par (ap bringsLots e)
-      go Cc e = by-par (ap bringsLots e)
-      go Dk e = omega (arith, nothing-brought body e)
-      go Cx e = clash (ap isCx e) (facts .notCancel)
-      go Other e = clash (ap isOther e) (facts .notOther)
-
   pub trade-covers : d .brought ≤ getD (b .values .trades) (d .trade) noTrade .openPar + d .off
-  trade-covers = rw (x .decided .trade (x .passes), x .decided .off (x .passes), x .decided .brought (x .passes), sym there) covers
+  trade-covers =
+      omega (
+        arith,
+        held-room (tradesOf (b .values)) (taken (callOn b ns ks body asked)) (dues (callOn b ns ks body asked)) fit (d .trade),
+        off-at,
+        brought-at,
+        ap (λ (t : Trade). t .openPar) there,
+      )
 
-  weight-few : weightOfRecords (taken (callOn b ns ks body asked)) ≤ recordsMax * elevenDigitsMax
+  weight-few : tradeWeight (d .trade) (taken (callOn b ns ks body asked)) ≤ recordsMax * elevenDigitsMax
   weight-few =
-      let w = weight-most (b .values) (taken (callOn b ns ks body asked)) (ordered-keep (isTaken (targetOf body) (listed body)) (take (b .live) (tableOf ns ks)) (sure .ordered)) (all-keep (recordFine (b .values)) (isTaken (targetOf body) (listed body)) (take (b .live) (tableOf ns ks)) (sure .records)) in
+      let w = weight-most (b .values) (taken (callOn b ns ks body asked)) (ordered-keep (isTaken (targetOf body) (listed body)) (take (b .live) (tableOf ns ks)) (sure .ordered)) (all-keep (recordFine (b .values)) (isTaken (targetOf body) (listed body)) (take (b .live) (tableOf ns ks)) (sure .records)) (d .trade) in
       let m : length (taken (callOn b ns ks body asked)) ≤ length (take (b .live) (tableOf ns ks)) = keep-most _ (take (b .live) (tableOf ns ks)) in
       omega (arith, w, m, size, within, few)
 
-  left-few : tradeAt (tradesOf (b .values)) (concerned (callOn b ns ks body asked)) .openPar ≤ elevenDigitsMax
-  left-few = go (decLt (concerned (callOn b ns ks body asked)) (length (tradesOf (b .values))))
+  left-few : tradeAt (tradesOf (b .values)) (d .trade) .openPar ≤ elevenDigitsMax
+  left-few = go (decLt (d .trade) (length (tradesOf (b .values))))
     where
-      go : Dec (concerned (callOn b ns ks body asked) < length (tradesOf (b .values))) → tradeAt (tradesOf (b .values)) (concerned (callOn b ns ks body asked)) .openPar ≤ elevenDigitsMax
+      go : Dec (d .trade < length (tradesOf (b .values))) → tradeAt (tradesOf (b .values)) (d .trade) .openPar ≤ elevenDigitsMax
       go (yes h) =
-          left-most (holidaysOf (b .values)) 0 (concerned (callOn b ns ks body asked)) (tradesOf (b .values)) (take (b .live) (tableOf ns ks)) (sure .pars)
+          left-most (holidaysOf (b .values)) 0 (d .trade) (tradesOf (b .values)) (take (b .live) (tableOf ns ks)) (sure .pars)
           (trades-fine (b .values) (sure .values)) h
-      go (no n) = rw (past-end (tradesOf (b .values)) (concerned (callOn b ns ks body asked)) (omega (arith, n))) (omega arith)
+      go (no n) = rw (past-end (tradesOf (b .values)) (d .trade) (omega (arith, n))) (omega arith)
 
   pub trade-fits : getD (b .values .trades) (d .trade) noTrade .openPar + d .off ≤ 9000000000000000000
-  trade-fits = rw (x .decided .trade (x .passes), x .decided .off (x .passes), sym there) (omega (arith, weight-few, left-few))
+  trade-fits = omega (arith, weight-few, left-few, off-at, ap (λ (t : Trade). t .openPar) there)
 
   -- ---- the table
   pub movable : length (d .marks) ≡ recordsMax → Movable body ns ks (b .live) (d .marks)
@@ -197,7 +203,7 @@ module _ (b : Book) (ns ks : List (List ℕ)) (body : List ℕ) (asked : Asked) 
   after = remaining body (take (b .live) (tableOf ns ks)) ++ bringing body (b .values .lastMessageId + 1) (d .trade)
 
   live-is : liveMoved (callOn b ns ks body asked) ≡ after
-  unfolding liveMoved
+  unfolding liveMoved duesBy
   live-is = rw (x .decided .trade (x .passes))
 
   pub after-fits : length after ≤ length ns
@@ -206,7 +212,8 @@ module _ (b : Book) (ns ks : List (List ℕ)) (body : List ℕ) (asked : Asked) 
   pub moved-is : set (b .values .trades) (d .trade) (withOpenPar (getD (b .values .trades) (d .trade) noTrade) ((getD (b .values .trades) (d .trade) noTrade .openPar + d .off) - d .brought))
       ≡ tradesMoved (callOn b ns ks body asked)
   unfolding tradesMoved
-  moved-is = rw (x .decided .trade (x .passes), x .decided .off (x .passes), x .decided .brought (x .passes), there)
+  moved-is =
+      moved-one (taken (callOn b ns ks body asked)) (dues (callOn b ns ks body asked)) (d .trade) (d .off) (d .brought) (x .decided .off (x .passes)) (x .decided .brought (x .passes)) (b .values .trades)
 
   pub filled-is : filled (length ns) after ≡ tableMoved (callOn b ns ks body asked)
   unfolding tableMoved

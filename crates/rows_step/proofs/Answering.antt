@@ -10,16 +10,18 @@ use Rattle.layout.specs.Columns.{headerWidth}
 use Rattle.layout.specs.Details.{lengthFits, details}
 use Rattle.layout.proofs.Lengths.{fit-length}
 use Rattle.terminator.specs.Lots.{formedFor}
+use Rattle.terminator.specs.Groups.{groupsFormed}
 use Rattle.book.specs.declared.Reason.{Reason}
 use Rattle.book.specs.declared.Reason.the-variants as by
 use Rattle.book.specs.declared.Verdict.{Verdict}
 use Rattle.book.specs.declared.Verdict.the-variants.{Passes, Fails}
 use Rattle.book.specs.declared.Answer.the-variants.{Accepted, Rejected}
 use Rattle.book.specs.Reasons.{silent, isSilentFor, bookUnsound, refusal}
-use Rattle.book.specs.Messages.{typeOf}
+use Rattle.book.specs.Messages.{typeOf, brought}
 use Rattle.book.specs.Soundness.{isSound}
 use Rattle.book.specs.Checks.{Call, numbersSpent, outputShort, soundnessChecks, senderChecks, traderChecks, checks, firstFailing, answerTo, answerOf}
 use Rattle.message_type.specs.Questions.{isCc, bringsLots}
+use Rattle.book.proofs.Pools.{brings-some}
 use Rattle.book.proofs.Passed.{passes, for-type}
 use Rattle.book.proofs.Firsts.{first-late, first-early}
 
@@ -60,7 +62,7 @@ module _ (c : Call) where
       unfolding answerOf
       accepted-answer e = ap (answerTo c) (past-sender ∙ e)
 
-      -- 10 and 19 have passed
+      -- 10 and 19 have passed, and 20: an ON and a CC bring some lot
       pub sender-length : lengthFits (c .body) ≡ true
       unfolding senderChecks
       sender-length = not-false (lengthFits (c .body)) (passes 10 senderChecks c p)
@@ -68,6 +70,10 @@ module _ (c : Call) where
       pub sender-formed : bringsLots (typeOf (c .body)) ≡ true → formedFor (isCc (typeOf (c .body))) (details (c .body)) ≡ true
       unfolding senderChecks
       sender-formed = for-type (bringsLots (typeOf (c .body))) (formedFor (isCc (typeOf (c .body))) (details (c .body))) (passes 19 senderChecks c p)
+
+      pub sender-some : bringsLots (typeOf (c .body)) ≡ true → 1 ≤ length (brought (c .body))
+      unfolding senderChecks
+      sender-some = brings-some (c .body) sender-length sender-formed (for-type (isCc (typeOf (c .body))) (groupsFormed (details (c .body))) (passes 20 senderChecks c p))
 
   -- a number that goes out comes after 10: one that fails before it is silent
   pub loud-length : (r : Reason) → firstFailing senderChecks c ≡ Fails r → isSilentFor r ≡ false → lengthFits (c .body) ≡ true

@@ -13,34 +13,35 @@ use Rattle.calendar.specs.Calendar.{businessDate}
 use Rattle.book.specs.declared.Trade.{Trade}
 use Rattle.book.specs.declared.Values.{Values}
 use Rattle.book.specs.declared.Pool.{Pool}
-use Rattle.book.specs.Records.{kindGood, goodWeight, tradeWeight, noPool, weightOfRecords}
+use Rattle.book.specs.Records.{kindGood, goodWeight, tradeWeight, noPool}
 use Rattle.book.specs.Opening.{elevenDigitsMax, priceMax, idFine, accountFine, tradeFine}
 use Rattle.book.specs.Messages.{ftba, fsti}
 use Rattle.fields.specs.Fields.{allVisible}
 use Rattle.book.specs.Soundness.{recordFine, inOrder, isNone, parsFrom}
 use Rattle.book.specs.Checks.{tradeAt}
-use Rattle.rows.specs.Runs.{runSum, weightShare}
-use Rattle.rows.proofs.Runs.{weight-runs}
+use Rattle.rows.specs.Runs.{runSum, weightShare, shareOf}
+use Rattle.rows.proofs.Runs.{trade-weight-runs}
 use Rattle.check_soundness.proofs.Whole.{record-light}
 
--- a record's share is at most eleven digits
-share-most : (v : Values) (begins : Bool) (r : Pool) → recordFine v r ≡ true → weightShare begins r ≤ elevenDigitsMax
-share-most v begins r e = go (eqb (r .kind) kindGood) begins
+-- a record's share of a trade's weight is at most eleven digits
+share-most : (v : Values) (t : ℕ) (begins : Bool) (r : Pool) → recordFine v r ≡ true → shareOf t weightShare begins r ≤ elevenDigitsMax
+share-most v t begins r e = go (eqb (r .trade) t) (eqb (r .kind) kindGood) begins
   where
-    go : (g b : Bool) → cond g (cond b (goodWeight (r .millions)) 0) (r .current) ≤ elevenDigitsMax
-    go true true = omega (arith, record-light v r e .2)
-    go true false = omega arith
-    go false b = record-light v r e .1
+    go : (h g b : Bool) → cond h (cond g (cond b (goodWeight (r .millions)) 0) (r .current)) 0 ≤ elevenDigitsMax
+    go true true true = omega (arith, record-light v r e .2)
+    go true true false = omega arith
+    go true false b = record-light v r e .1
+    go false g b = omega arith
 
-sum-most : (v : Values) (m o : ℕ) (rs : List Pool) → all (recordFine v) rs ≡ true → runSum weightShare m o rs ≤ length rs * elevenDigitsMax
-sum-most v m o [] e = omega arith
-sum-most v m o (r ∷ rs) e =
-    let a = share-most v (not (eqb (r .message) m && eqb (r .ordinal) o)) r (and-left (recordFine v r) (all (recordFine v) rs) e) in
-    let b = sum-most v (r .message) (r .ordinal) rs (and-right (recordFine v r) (all (recordFine v) rs) e) in
+sum-most : (v : Values) (t m o : ℕ) (rs : List Pool) → all (recordFine v) rs ≡ true → runSum (shareOf t weightShare) m o rs ≤ length rs * elevenDigitsMax
+sum-most v t m o [] e = omega arith
+sum-most v t m o (r ∷ rs) e =
+    let a = share-most v t (not (eqb (r .message) m && eqb (r .ordinal) o)) r (and-left (recordFine v r) (all (recordFine v) rs) e) in
+    let b = sum-most v t (r .message) (r .ordinal) rs (and-right (recordFine v r) (all (recordFine v) rs) e) in
     omega (arith, a, b)
 
-pub weight-most : (v : Values) (rs : List Pool) → inOrder rs ≡ true → all (recordFine v) rs ≡ true → weightOfRecords rs ≤ length rs * elevenDigitsMax
-weight-most v rs o e = omega (arith, weight-runs v rs o e, sum-most v 0 0 rs e)
+pub weight-most : (v : Values) (rs : List Pool) → inOrder rs ≡ true → all (recordFine v) rs ≡ true → (t : ℕ) → tradeWeight t rs ≤ length rs * elevenDigitsMax
+weight-most v rs o e t = omega (arith, trade-weight-runs v rs o e t, sum-most v t 0 0 rs e)
 
 -- a trade's par has eleven digits, and its open par is no more
 par-most : (holidays : List ℕ) (t : Trade) → tradeFine holidays t ≡ true → t .par ≤ elevenDigitsMax

@@ -27,7 +27,7 @@ use Rattle.check_trader.specs.Decisions.{callOn, Ready, DecidedBy}
 use Rattle.calls.specs.declared.Stepped.{Stepped}
 use Rattle.rows_step.specs.Frames.{Acceptable, Steps, Damaged, Frames}
 use Rattle.book.proofs.Passed.{refusal-refuses, refusal-silent}
-use Rattle.rows_step.proofs.Answering.{header-there, unsound-answer, sender-answer, trader-answer, sender-length, sender-formed, loud-length}
+use Rattle.rows_step.proofs.Answering.{header-there, unsound-answer, sender-answer, trader-answer, sender-length, sender-formed, sender-some, loud-length}
 
 module _ (b : Book) (ns ks : List (List ℕ)) (body : List ℕ) (caller : Caller) (out : List ℕ) where
   -- an answer that is not accepted moves the counters alone
@@ -94,7 +94,13 @@ module _ (b : Book) (ns ks : List (List ℕ)) (body : List ℕ) (caller : Caller
         sender-header n = header-there body (loud-length (callOn b ns ks body (askedBy caller (length out))) q e (sym (refusal-silent (typeOf body) q) ∙ n))
 
       pub sender-ready : firstFailing senderChecks (callOn b ns ks body (askedBy caller (length out))) ≡ Passes → Ready b ns ks body
-      sender-ready p = record { paired = paired; sound = sound; formed = sender-formed (callOn b ns ks body (askedBy caller (length out))) sound p }
+      sender-ready p =
+          record {
+            paired = paired;
+            sound = sound;
+            formed = sender-formed (callOn b ns ks body (askedBy caller (length out))) sound p;
+            some = sender-some (callOn b ns ks body (askedBy caller (length out))) sound p;
+          }
 
   -- ---- the trader's checks
   module _ (y : Ready b ns ks body) (p : firstFailing senderChecks (callOn b ns ks body (askedBy caller (length out))) ≡ Passes) (d : Decision)
