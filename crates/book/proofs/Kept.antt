@@ -22,7 +22,7 @@ use Rattle.book.specs.Records.{tradeWeight}
 use Rattle.book.specs.Trades.{tradesOf, tradeName}
 use Rattle.book.specs.Opening.{tradesMax, holidaysMax, elevenDigitsMax, holidaysOf, limitsFine, accountFine, tradeFine, namesRepeat, valuesFine}
 use Rattle.book.specs.Checks.{noTrade}
-use Rattle.book.specs.Step.{withOpenPar, parsMoved}
+use Rattle.book.specs.Step.{withOpenPar, tradeMoved, parsMoved}
 use Rattle.book.proofs.ListLaws.{all-of-map}
 
 -- ---- trades
@@ -30,23 +30,23 @@ use Rattle.book.proofs.ListLaws.{all-of-map}
 pub take-moved : (off : List Pool) (ds : List Due) (i n : ℕ) (ts : List Trade) → take n (parsMoved off ds i ts) ≡ parsMoved off ds i (take n ts)
 take-moved off ds i zero ts = refl
 take-moved off ds i (suc n) [] = refl
-take-moved off ds i (suc n) (t ∷ ts) = ap (λ (xs : List Trade). withOpenPar t ((t .openPar + tradeWeight i off) - dueWeight i ds) ∷ xs) (take-moved off ds (i + 1) n ts)
+take-moved off ds i (suc n) (t ∷ ts) = ap (λ (xs : List Trade). tradeMoved off ds i t ∷ xs) (take-moved off ds (i + 1) n ts)
 
 -- what looks at no open par sees no change where these move
 module _ {B : Type 0} (f : Trade → B) (blind : (t : Trade) (cents : ℕ) → f (withOpenPar t cents) ≡ f t) (off : List Pool) (ds : List Due) where
   pub moved-blind : (i : ℕ) (ts : List Trade) → map f (parsMoved off ds i ts) ≡ map f ts
   moved-blind i [] = refl
-  moved-blind i (t ∷ ts) = ap₂ (λ (x : B) (xs : List B). x ∷ xs) (blind t ((t .openPar + tradeWeight i off) - dueWeight i ds)) (moved-blind (i + 1) ts)
+  moved-blind i (t ∷ ts) = ap₂ (λ (x : B) (xs : List B). x ∷ xs) (blind t _) (moved-blind (i + 1) ts)
 
 -- where one trade has all that goes and comes, it alone moves
 module _ (off : List Pool) (ds : List Due) (t n m : ℕ) (goes : (u : ℕ) → tradeWeight u off ≡ cond (eqb t u) n 0) (comes : (u : ℕ) → dueWeight u ds ≡ cond (eqb t u) m 0) where
   abbrev one : Trade → Trade
   one x = withOpenPar x ((x .openPar + n) - m)
 
-  here : (i : ℕ) → t ≡ i → (x : Trade) → withOpenPar x ((x .openPar + tradeWeight i off) - dueWeight i ds) ≡ one x
+  here : (i : ℕ) → t ≡ i → (x : Trade) → tradeMoved off ds i x ≡ one x
   here i e x = rw (goes i, comes i, eq-eqb t i e)
 
-  elsewhere : (i : ℕ) → (t ≡ i → ⊥) → (x : Trade) → withOpenPar x ((x .openPar + tradeWeight i off) - dueWeight i ds) ≡ x
+  elsewhere : (i : ℕ) → (t ≡ i → ⊥) → (x : Trade) → tradeMoved off ds i x ≡ x
   elsewhere i e x =
       let z : (x .openPar + 0) - 0 ≡ x .openPar = omega arith in
       rw (goes i, comes i, ne-eqb t i e) (ap (withOpenPar x) z)

@@ -68,9 +68,12 @@ withOpenPar t cents =
     }
 
 -- open par moves by the weights: each trade's by what is taken off it and what is due to it
+abbrev pub tradeMoved : List Pool → List Due → ℕ → Trade → Trade
+tradeMoved off ds i t = withOpenPar t ((t .openPar + tradeWeight i off) - dueWeight i ds)
+
 abbrev pub parsMoved : List Pool → List Due → ℕ → List Trade → List Trade
 parsMoved off ds i [] = []
-parsMoved off ds i (t ∷ ts) = withOpenPar t ((t .openPar + tradeWeight i off) - dueWeight i ds) ∷ parsMoved off ds (i + 1) ts
+parsMoved off ds i (t ∷ ts) = tradeMoved off ds i t ∷ parsMoved off ds (i + 1) ts
 
 unfoldable pub tradesMoved : Call → List Trade
 tradesMoved c = parsMoved (taken c) (dues c) 0 (c .book .values .trades)
