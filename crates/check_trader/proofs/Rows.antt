@@ -2,7 +2,7 @@
 use Prim.Native.Nat.{ℕ}
 use mathlib.Core.Path.{_≡_, refl, sym, _∙_}
 use mathlib.Core.List.{List}
-use mathlib.Core.Bool.{Bool, true, false, cond, not, _&&_, _||_}
+use mathlib.Core.Bool.{Bool, true, false, cond, not, _&&_}
 use native.Mathlib.Omega.{arith}
 use denote.Enum.Declared.{tagOf}
 use borrow.Author.Tests.{not-false, not-true}
@@ -21,7 +21,7 @@ use Rattle.book.specs.Messages.{typeOf, idIn, targetOf, under}
 use Rattle.book.specs.Trades.{tradesOf}
 use Rattle.book.specs.Soundness.{liveOf}
 use Rattle.book.specs.Checks.{idFails, termsFail, millionsFail, newFacesFail, newLotsFail, newPoolsRepeat, targetTrade, call, termsChecks, firstFailing, Asked}
-use Rattle.message_type.specs.Questions.{isOn, isCc, isDk, bringsLots, listsLots}
+use Rattle.message_type.specs.Questions.{isOn, isCc, bringsLots, listsLots}
 use Rattle.book.proofs.ListLaws.{neither-left}
 use Rattle.book.proofs.Firsts.{fails-not}
 
@@ -64,57 +64,54 @@ module _ (v : Values) (body : List ℕ) (there : Bool) (target : ℕ) where
   unfolding termsChecks
   by-row r e book table asked ev et eg = rw (et, eg, ev) e
 
-  module _ (k : MessageType) (on cc dk : Bool) (ek : k ≡ typeOf body) (eo : on ≡ isOn k) (ec : cc ≡ isCc k) (ed : dk ≡ isDk k) where
-    pub target-fails : ((cc || dk) && not there) ≡ true → First (Fails (by.Trader 30 told))
-    target-fails a = by-row (Fails (by.Trader 30 told)) (rw (rw (ec, ed, ek) at a))
+  module _ (k : MessageType) (on lists brings : Bool) (ek : k ≡ typeOf body) (eo : on ≡ isOn k) (es : lists ≡ listsLots k) (eb : brings ≡ bringsLots k) where
+    pub target-fails : (lists && not there) ≡ true → First (Fails (by.Trader 30 told))
+    target-fails a = by-row (Fails (by.Trader 30 told)) (rw (rw (es, ek) at a))
 
-    module _ (id : Verdict) (ei : id ≡ cond (idFails body (tradesOf v) target (idIn body)) (Fails (by.Trader 31 told)) Passes) (a : ((cc || dk) && not there) ≡ false) where
+    module _ (id : Verdict) (ei : id ≡ cond (idFails body (tradesOf v) target (idIn body)) (Fails (by.Trader 31 told)) Passes) (a : (lists && not there) ≡ false) where
       pub id-fails : tagOf the-type id ≡ 1 → First id
-      id-fails b = by-row id (ei ∙ rw (rw (ec, ed, ek) at a, failed id (idFails body (tradesOf v) target (idIn body)) (by.Trader 31 told) ei b))
+      id-fails b = by-row id (ei ∙ rw (rw (es, ek) at a, failed id (idFails body (tradesOf v) target (idIn body)) (by.Trader 31 told) ei b))
 
       module _ (tf : Bool) (et : tf ≡ termsFail body (tradesOf v) target (idIn body)) (passes : id ≡ Passes) where
         b : idFails body (tradesOf v) target (idIn body) ≡ false
         b = passed (idFails body (tradesOf v) target (idIn body)) (by.Trader 31 told) (sym passes ∙ ei)
 
         pub terms-fail : tf ≡ true → First (Fails (by.Trader 32 told))
-        terms-fail c = by-row (Fails (by.Trader 32 told)) (rw (rw (ec, ed, ek) at a, b, sym et ∙ c))
+        terms-fail c = by-row (Fails (by.Trader 32 told)) (rw (rw (es, ek) at a, b, sym et ∙ c))
 
         module _ (c : tf ≡ false) where
           -- for a DK there are no more
-          pub no-more : not (on || cc) ≡ true → First Passes
+          pub no-more : not brings ≡ true → First Passes
           no-more d =
-              let q : (on || cc) ≡ false = not-true (on || cc) d in
-              let n : bringsLots (typeOf body) ≡ false = rw (eo, ec, ek) at q in
+              let n : bringsLots (typeOf body) ≡ false = rw (eb, ek) at (not-true brings d) in
               let o : isOn (typeOf body) ≡ false = neither-left (isOn (typeOf body)) (isCc (typeOf body)) n in
-              by-row Passes (rw (rw (ec, ed, ek) at a, b, sym et ∙ c, n, o))
+              by-row Passes (rw (rw (es, ek) at a, b, sym et ∙ c, n, o))
 
-          module _ (d : not (on || cc) ≡ false) (m : Bool) (em : m ≡ millionsFail body) where
+          module _ (d : not brings ≡ false) (m : Bool) (em : m ≡ millionsFail body) where
             more : bringsLots (typeOf body) ≡ true
-            more =
-                let q : (on || cc) ≡ true = not-false (on || cc) d in
-                rw (eo, ec, ek) at q
+            more = rw (eb, ek) at (not-false brings d)
 
             millions : (x : Bool) → (on && m) ≡ x → (isOn (typeOf body) && millionsFail body) ≡ x
             millions x e = rw (eo, ek, em) at e
 
             pub millions-fail : (on && m) ≡ true → First (Fails (by.Trader 33 told))
-            millions-fail e = by-row (Fails (by.Trader 33 told)) (rw (rw (ec, ed, ek) at a, b, sym et ∙ c, millions true e))
+            millions-fail e = by-row (Fails (by.Trader 33 told)) (rw (rw (es, ek) at a, b, sym et ∙ c, millions true e))
 
             module _ (f : Bool) (ef : f ≡ newFacesFail v body) (e : (on && m) ≡ false) where
               pub faces-fail : f ≡ true → First (Fails (by.Trader 34 told))
-              faces-fail g = by-row (Fails (by.Trader 34 told)) (rw (rw (ec, ed, ek) at a, b, sym et ∙ c, millions false e, more, sym ef ∙ g))
+              faces-fail g = by-row (Fails (by.Trader 34 told)) (rw (rw (es, ek) at a, b, sym et ∙ c, millions false e, more, sym ef ∙ g))
 
               module _ (l : Bool) (el : l ≡ newLotsFail v body) (g : f ≡ false) where
                 pub lots-fail : l ≡ true → First (Fails (by.Trader 35 told))
                 lots-fail h =
-                    by-row (Fails (by.Trader 35 told)) (rw (rw (ec, ed, ek) at a, b, sym et ∙ c, millions false e, more, sym ef ∙ g, sym el ∙ h))
+                    by-row (Fails (by.Trader 35 told)) (rw (rw (es, ek) at a, b, sym et ∙ c, millions false e, more, sym ef ∙ g, sym el ∙ h))
 
                 module _ (p : Bool) (ep : p ≡ newPoolsRepeat body) (h : l ≡ false) where
                   pub pools-repeat : p ≡ true → First (Fails (by.Trader 36 told))
                   pools-repeat i =
                       by-row (Fails (by.Trader 36 told))
-                      (rw (rw (ec, ed, ek) at a, b, sym et ∙ c, millions false e, more, sym ef ∙ g, sym el ∙ h, sym ep ∙ i))
+                      (rw (rw (es, ek) at a, b, sym et ∙ c, millions false e, more, sym ef ∙ g, sym el ∙ h, sym ep ∙ i))
 
                   pub all-pass : p ≡ false → First Passes
                   all-pass i =
-                      by-row Passes (rw (rw (ec, ed, ek) at a, b, sym et ∙ c, millions false e, more, sym ef ∙ g, sym el ∙ h, sym ep ∙ i))
+                      by-row Passes (rw (rw (es, ek) at a, b, sym et ∙ c, millions false e, more, sym ef ∙ g, sym el ∙ h, sym ep ∙ i))

@@ -20,7 +20,6 @@ ghost use Rattle.book.specs.Trades.{tradesOf, tradeOfOn, openPars};
 ghost use Rattle.book.specs.Opening.{recordsMax};
 ghost use Rattle.book.specs.Soundness.{liveOf};
 ghost use Rattle.book.specs.Checks.{call, targetTrade, tradeAt, termsChecks, movesChecks, traderChecks, firstFailing, Asked};
-ghost use Rattle.message_type.specs.Questions.{isOn, isCc, isDk};
 ghost use Rattle.book.specs.declared.Pool.{Pool};
 ghost use Rattle.book.specs.declared.Book.{Book};
 ghost use mathlib.Core.List.{List};
@@ -43,10 +42,10 @@ fn first_of_terms(v: Values, body: &[u8], there: bool, target: usize) -> Verdict
 {
     let kind = header::message_type(body);
     let on = message_type::is_on(kind);
-    let cc = message_type::is_cc(kind);
-    let dk = message_type::is_dk(kind);
+    let lists = message_type::lists_lots(kind);
+    let brings = message_type::brings_lots(kind);
     let limits = v.lent.limits;
-    if (cc | dk) & !there {
+    if lists & !there {
         return Verdict::Fails(Reason::Trader(30, book::TOLD));
     }
     let id = check_terms::id_verdict(body, v, target);
@@ -56,7 +55,7 @@ fn first_of_terms(v: Values, body: &[u8], there: bool, target: usize) -> Verdict
     if check_terms::terms_fail(body, v, target) {
         return Verdict::Fails(Reason::Trader(32, book::TOLD));
     }
-    if !(on | cc) {
+    if !brings {
         return Verdict::Passes;
     }
     if on & header::millions_fail(body) {

@@ -1,10 +1,10 @@
 -- An answer in two numbers (01, "Who causes which number"): accepted and the message ID, or rejected or DKed and the number of the reason; and what two numbers tell the tally.
 use Prim.Native.Nat.{ℕ}
-use mathlib.Core.List.{List, [], _∷_}
-use mathlib.Core.Bool.{Bool, true, false, cond, not, _&&_}
+use mathlib.Core.List.{List, [], _∷_, map}
+use mathlib.Core.Bool.{Bool, true, false, cond, not}
 use lib.ListN.{length, getD}
 use lib.Dec.{eqb, ltb}
-use Rattle.lists.specs.Lists.{any}
+use Rattle.lists.specs.Lists.{any, keep}
 use Rattle.tally.specs.declared.Outcome.{Outcome}
 use Rattle.tally.specs.declared.Outcome.the-variants as outcome
 use Rattle.book.specs.declared.Answer.{Answer}
@@ -19,9 +19,12 @@ saidOf (Accepted id) = 0 ∷ id ∷ []
 saidOf (Rejected r) = 1 ∷ numberOf r ∷ []
 saidOf (Dked r) = 2 ∷ numberOf r ∷ []
 
--- a number that some check gives and an AA tells
+-- the numbers that the checks give and an AA tells
+abbrev pub toldBy : List Check → List ℕ
+toldBy ks = map (λ (k : Check). numberOf (k .reason)) (keep (λ (k : Check). not (isSilentFor (k .reason))) ks)
+
 unfoldable pub isTold : ℕ → Bool
-isTold n = any (λ (k : Check). eqb n (numberOf (k .reason)) && not (isSilentFor (k .reason))) checks
+isTold n = any (eqb n) (toldBy checks)
 
 -- what two numbers tell: whether an answer that an AA tells says them, and its column of the tally
 abbrev pub heard : Bool → Outcome → Heard

@@ -2,8 +2,9 @@
 use book::Answer;
 use tally::Outcome;
 ghost use mathlib.Core.Path.{_≡_};
+ghost use lib.Dec.{eqb};
 ghost use Rattle.exports_numbers.specs.Said.{saidOf, isTold, heardAs, heardIn};
-ghost use Rattle.lists.specs.Lists.{pasted};
+ghost use Rattle.lists.specs.Lists.{any, pasted};
 ghost use Rattle.exports_numbers.specs.Bit.{bit};
 
 // What two numbers tell the tally: whether an answer that an AA tells says them, and its column.
@@ -23,13 +24,54 @@ pub fn said_of(answer: Answer) -> [u64; 2]
     }
 }
 
-// The numbers that an AA tells: 12 to 25, 30 to 38 and 40.
+// The numbers that an AA tells, in the order of the checks.
+const TOLD: [u64; 24] = [
+    12,
+    13,
+    14,
+    15,
+    16,
+    17,
+    18,
+    19,
+    20,
+    21,
+    22,
+    23,
+    24,
+    25,
+    30,
+    31,
+    32,
+    33,
+    34,
+    35,
+    36,
+    37,
+    38,
+    40,
+];
+
+// Whether a number stands among others.
+fn is_among(number: u64, numbers: &[u64]) -> bool
+    ensures { λ r. ⌜ r ≡ any (eqb number) (now (numbers .entry)) ⌝ }
+{
+    let mut i: usize = 0;
+    while i < numbers.len() {
+        let n = numbers[i];
+        i += 1;
+        if number == n {
+            return true;
+        }
+    }
+    false
+}
+
 fn is_told(number: u64) -> bool
     ensures { λ r. ⌜ r ≡ isTold number ⌝ }
 {
-    let sender = (12 <= number) & (number <= 25);
-    let trader = (30 <= number) & (number <= 38);
-    (sender | trader) | (number == 40)
+    let told = TOLD;
+    is_among(number, &told)
 }
 
 // What two numbers tell.

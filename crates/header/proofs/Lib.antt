@@ -2,3 +2,4 @@ pub mod Parts
 pub mod Types
 pub mod Joined
 pub mod Ids
+pub mod Tested

@@ -1,4 +1,5 @@
 -- Each column is read and tested as the definition has it.
+use Rattle.header.proofs.Tested.{amounts-are}
 use borrow.Author.Needs.{needs}
 use Rattle.header.proofs.amounts_fail.Statement.{statement}
 use Rattle.header.proofs.amounts_fail.Tie as tie
@@ -22,7 +23,9 @@ over-requires : tie.Need-over-requires
 over-requires c κs = search needs
 
 returns : tie.Need-returns
-returns c = cc
+returns c =
+    amounts-are (c .before .before .before .before .before .before .before .args .ceiling) (c .before .before .before .before .before .before .before .args .body .now) _ _ _ _ _ _ (c .before .before .before .before .before .number-in .ensures) (c .before .before .before .before .number-in2 .ensures) (c .before .before .before .number-in3 .ensures)
+    (c .before .before .is-nothing .ensures) (c .before .is-nothing2 .ensures) (c .over .ensures)
 
 pub amounts-fail-spec : {M : Type 1} → statement M
 amounts-fail-spec =

@@ -1,4 +1,5 @@
 -- Digits are a number that the line refuses, or there are none.
+use Rattle.header.proofs.Tested.{no-sequence}
 use borrow.Author.Needs.{needs}
 use Rattle.header.proofs.is_no_sequence.Statement.{statement}
 use Rattle.header.proofs.is_no_sequence.Tie as tie
@@ -13,7 +14,7 @@ cast-result : tie.Need-cast-result
 cast-result c = search needs
 
 returns : tie.Need-returns
-returns c = cc
+returns c = no-sequence (c .before .before .args .f) _ _ (c .before .value-of .ensures) (c .is-number .ensures)
 
 pub is-no-sequence-spec : {M : Type 1} → statement M
 is-no-sequence-spec = tie.close (tie.spec value-of-requires is-number-requires cast-result returns)

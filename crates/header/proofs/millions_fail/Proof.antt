@@ -1,4 +1,9 @@
 -- The sum of the good millions is compared with the column's number.
+use mathlib.Core.Path.{ap₂, _∙_}
+use Prim.Native.Nat.{ℕ}
+use lib.Dec.{eqb}
+use Rattle.fields.specs.declared.Field.{Field}
+use Rattle.book.specs.Checks.{notNumber}
 use borrow.Author.Needs.{needs}
 use Rattle.header.proofs.millions_fail.Statement.{statement}
 use Rattle.header.proofs.millions_fail.Tie as tie
@@ -13,7 +18,7 @@ is-unlike-requires : tie.Need-is-unlike-requires
 is-unlike-requires c κs = search needs
 
 returns : tie.Need-returns
-returns c = cc
+returns c = c .is-unlike .ensures ∙ ap₂ (λ (k : ℕ) (f : Field). notNumber (eqb k) f) (c .before .before .good-millions .ensures) (c .before .number-in .ensures)
 
 pub millions-fail-spec : {M : Type 1} → statement M
 millions-fail-spec =

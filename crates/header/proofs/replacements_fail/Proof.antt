@@ -1,4 +1,9 @@
 -- The count of replacement pools is compared with the column's number.
+use mathlib.Core.Path.{ap₂, _∙_}
+use Prim.Native.Nat.{ℕ}
+use lib.Dec.{eqb}
+use Rattle.fields.specs.declared.Field.{Field}
+use Rattle.book.specs.Checks.{notNumber}
 use borrow.Author.Needs.{needs}
 use Rattle.header.proofs.replacements_fail.Statement.{statement}
 use Rattle.header.proofs.replacements_fail.Tie as tie
@@ -16,7 +21,7 @@ is-unlike-requires : tie.Need-is-unlike-requires
 is-unlike-requires c κs = search needs
 
 returns : tie.Need-returns
-returns c = cc
+returns c = c .is-unlike .ensures ∙ ap₂ (λ (k : ℕ) (f : Field). notNumber (eqb k) f) (c .before .before .wide .ensures ∙ c .before .before .before .replacement-count .ensures) (c .before .number-in .ensures)
 
 pub replacements-fail-spec : {M : Type 1} → statement M
 replacements-fail-spec =

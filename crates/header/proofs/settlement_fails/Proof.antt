@@ -1,4 +1,5 @@
 -- Of 32 holidays, the first that are opened are lent.
+use Rattle.header.proofs.Tested.{date-is}
 use mathlib.Core.Path.{_≡_, sym, _∙_}
 use native.Mathlib.Omega.{arith}
 use lib.ListN.{length, length-map}
@@ -27,7 +28,10 @@ is-no-business-date-requires : tie.Need-is-no-business-date-requires
 is-no-business-date-requires c κs = search needs
 
 returns : tie.Need-returns
-returns c = cc (take-lesser (c .before .before .before .before .before .before .args .v .lent .holidays) (c .before .before .before .before .before .before .args .v .lent .holidayCount) 32 (thirty-two (c .before .before .before .before .before .before)) _ (c .before .before .before .before .lesser .ensures))
+returns c =
+    let a = c .before .before .before .before .before .before .args in
+    c .is-no-business-date .ensures
+    ∙ date-is _ _ _ _ (take-lesser (a .v .lent .holidays) (a .v .lent .holidayCount) 32 (thirty-two (c .before .before .before .before .before .before)) _ (c .before .before .before .before .lesser .ensures)) (c .before .before .number-in .ensures)
 
 pub settlement-fails-spec : {M : Type 1} → statement M
 settlement-fails-spec =
