@@ -215,9 +215,9 @@ module _ (book : Book) (ns ks : List (List ℕ)) (body : List ℕ) (y : Ready bo
             let w : tradeWeight trade gone ≡ off = off-is trade ∙ rw (eq-eqb trade trade refl) in
             ep ∙ rw (sym w, trade-is, eb) (sym (dues-fit body (tradesOf (book .values)) (take (book .live) (tableOf ns ks)) gone l ls e))
 
-        module _ (b : Bool) (ebo : b ≡ (on || cc)) where
+        module _ (b : Bool) (ebo : b ≡ bringsLots k) where
           both-is : b ≡ bringsLots (typeOf body)
-          both-is = ebo ∙ rw (eo, ec, ek)
+          both-is = ebo ∙ ap bringsLots ek
 
           par-test : (bringsLots (typeOf body) && not (parFine (book .values) (take (book .live) (tableOf ns ks)) body)) ≡ (b && not p)
           par-test = same-test (bringsLots (typeOf body)) (parFine (book .values) (take (book .live) (tableOf ns ks)) body) p b both-is par-is

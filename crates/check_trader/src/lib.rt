@@ -181,11 +181,11 @@ fn decide_moves(
     let off = rows_find::weight_of_marked(numbers, &marks, live);
     let brought = check_terms::brought_weight(body);
     let trade = concerned_by(body, values, on, target);
-    let both = on | cc;
-    if both & !par_fits(trades, values.lent.tradeCount, trade, off, brought) {
+    let brings = message_type::brings_lots(kind);
+    if brings & !par_fits(trades, values.lent.tradeCount, trade, off, brought) {
         return refused(Reason::Trader(38, book::TOLD));
     }
-    if both & !table_fits(body, cc, live, numbers.len()) {
+    if brings & !table_fits(body, cc, live, numbers.len()) {
         return refused(Reason::Operator(40, book::TOLD));
     }
     Decision {
