@@ -127,15 +127,20 @@ bookFrom trades rest =
                   holidayCount = getD rest words.holidayCount 0;
                   subscriber = part rest words.subscriber words.accountWidth;
                   limits =
-                record {
-                  ceiling = getD rest words.ceiling 0;
-                  variance = getD rest words.variance 0;
-                  poolsAMillion = getD rest words.poolsAMillion 0;
-                  least = getD rest words.least 0;
-                };
+                      record {
+                        ceiling = getD rest words.ceiling 0;
+                        variance = getD rest words.variance 0;
+                        poolsAMillion = getD rest words.poolsAMillion 0;
+                        least = getD rest words.least 0;
+                      };
                 };
             lastMessageId = getD rest words.lastMessageId 0;
-            connection = record { id = part rest words.connection words.accountWidth; line = record { received = receivedIn (getD rest words.received 0) (getD rest words.number 0); expected = inbound (getD rest words.expected 0) }; outbound = outbound (getD rest words.outbound 0) };
+            connection =
+                record {
+                  id = part rest words.connection words.accountWidth;
+                  line = record { received = receivedIn (getD rest words.received 0) (getD rest words.number 0); expected = inbound (getD rest words.expected 0) };
+                  outbound = outbound (getD rest words.outbound 0);
+                };
           };
       live = getD rest words.live 0;
     }

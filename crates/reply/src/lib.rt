@@ -2,8 +2,8 @@
 use acknowledgment::Acknowledged;
 use book::Answer;
 use book::Book;
-use book::Connection;
 use book::Caller;
+use book::Connection;
 use sequence::Arrival;
 use sequence::Inbound;
 use sequence::Line;
