@@ -1,6 +1,6 @@
 -- The machine values of what the day passes by value: the day, the day on its way and the place of a frame.
 --     DayR, GoingR, PlaceR     their types in the program logic
---     dayVal, goingVal, placeVals     their machine values
+--     dayVal, goingVal     the machine values of a day and of a day on its way
 --     day-value, going-value, place-value       the laws of these values
 --     day-of       what whoever holds a day on its way knows of the day
 -- Assumes nothing.
@@ -12,7 +12,6 @@ use denote.Struct.Laws as LL
 use Rattle.slice_laws.proofs.Machine.{Machine, machine}
 use Rattle.day.specs.declared.Day.{Day}
 use Rattle.day.specs.declared.Going.{Going}
-use Rattle.day.specs.declared.Place.{Place}
 use Rattle.day.proofs.Day as D
 use Rattle.day.proofs.Day.Laws as D′
 use Rattle.day.proofs.Going as G
@@ -52,9 +51,6 @@ day-of g is = LL.owed G.the-type G′.the-laws g (goingVals g) is .0
 -- ---- the place of a frame
 abbrev pub PlaceR : RattleType
 PlaceR = P.the-row
-
-abbrev pub placeVals : Place → List Val
-placeVals = LL.vals P.the-type P′.the-laws
 
 pub place-value : Machine P.the-type P′.the-laws
 place-value = machine P.the-type P′.the-laws P′.the-plain

@@ -7,6 +7,7 @@ use lib.ListN.{length, replicate, set, length-replicate}
 use Rattle.lists.specs.Lists.{within, part}
 use Rattle.fields.specs.Fields.{allBetween}
 use Rattle.calendar.specs.Calendar.{dayNumber, weekdayOf, isDate, businessDate}
+use Rattle.sequence.specs.declared.Line.{Line}
 use Rattle.sequence.specs.Sequence.{outbound, startLine}
 use Rattle.book.specs.declared.Trade.{Trade}
 use Rattle.book.specs.declared.Values.{Values}
@@ -26,8 +27,8 @@ use Rattle.day.specs.Days.{stateOf, acceptedAmong, othersAmong, Passes}
 use Rattle.daytape.specs.declared.Report.{Report}
 use Rattle.daytape.specs.Program.{theTrade, valuesGiven, startOf, saidOf, reportOf, ReportsOver, Reports}
 
--- the first of 64 trades is the one given
-pub values-given : (b t : Trade) → b ≡ blank → t ≡ theTrade
+-- the first of 64 trades is the one given, and the line has received nothing
+pub values-given : (b t : Trade) (l : Line) → b ≡ blank → t ≡ theTrade → l ≡ startLine
     → record {
       trades = set (replicate 64 b) 0 t;
       lent =
@@ -39,10 +40,10 @@ pub values-given : (b t : Trade) → b ≡ blank → t ≡ theTrade
             limits = record { ceiling = 2500; variance = 10000; poolsAMillion = 3; least = 1000 };
           };
       lastMessageId = 0;
-      connection = record { id = 49 ∷ 50 ∷ 48 ∷ 48 ∷ []; line = startLine; outbound = outbound 0 };
+      connection = record { id = 49 ∷ 50 ∷ 48 ∷ 48 ∷ []; line = l; outbound = outbound 0 };
     } ≡ valuesGiven
 unfolding valuesGiven
-values-given b t e f = rw (e, f)
+values-given b t l e f h = rw (e, f, h)
 
 -- 41 passes the values
 pub given-fine : valuesFine valuesGiven ≡ true

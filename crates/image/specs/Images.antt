@@ -135,7 +135,12 @@ bookFrom trades rest =
                       };
                 };
             lastMessageId = getD rest words.lastMessageId 0;
-            connection = record { id = part rest words.connection words.accountWidth; line = record { received = receivedIn (getD rest words.received 0) (getD rest words.number 0); expected = inbound (getD rest words.expected 0) }; outbound = outbound (getD rest words.outbound 0) };
+            connection =
+                record {
+                  id = part rest words.connection words.accountWidth;
+                  line = record { received = receivedIn (getD rest words.received 0) (getD rest words.number 0); expected = inbound (getD rest words.expected 0) };
+                  outbound = outbound (getD rest words.outbound 0);
+                };
           };
       live = getD rest words.live 0;
     }

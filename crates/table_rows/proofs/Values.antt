@@ -1,6 +1,6 @@
 -- The machine values of what a call passes by value: the book, what a frame call gives back with and without the records that moved, and what the caller gives.
 --     BookR, SteppedR, MovedR, CallerR       their types in the program logic
---     bookVal, steppedVal, callerVals      their machine values
+--     bookVal, callerVal      the machine values of a book and of what the caller gives
 --     book-value, stepped-value, moved-value, caller-value      the laws of these values
 --     live-fits        what whoever holds a book knows of its live pools
 -- Assumes nothing.
@@ -13,7 +13,6 @@ use denote.Struct.Laws as LL
 use Rattle.slice_laws.proofs.Machine.{Machine, machine}
 use Rattle.book.specs.declared.Book.{Book}
 use Rattle.book.specs.declared.Caller.{Caller}
-use Rattle.calls.specs.declared.Stepped.{Stepped}
 use Rattle.book.proofs.Book as B
 use Rattle.book.proofs.Book.Laws as B′
 use Rattle.book.proofs.Caller as C
@@ -42,12 +41,6 @@ live-fits b g = LL.owed B.the-type B′.the-laws b (bookVals b) g .1 .0 .1
 -- ---- what a frame call gives back
 abbrev pub SteppedR : RattleType
 SteppedR = S.the-row
-
-abbrev pub steppedVal : Stepped → Val
-steppedVal = LL.val S.the-type S′.the-laws
-
-abbrev pub steppedVals : Stepped → List Val
-steppedVals = LL.vals S.the-type S′.the-laws
 
 pub stepped-value : Machine S.the-type S′.the-laws
 stepped-value = machine S.the-type S′.the-laws S′.the-plain

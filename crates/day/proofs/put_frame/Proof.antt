@@ -1,6 +1,7 @@
 -- `put_frame` meets its contract, by a walk of its MIR: the place of the frame, a local array that is lent for what goes out, the frame call, and the count.
 -- The table is handed on to the frame call for good, and the tape is lent to both calls that read it.
-use mathlib.Core.Path.{_≡_, refl, sym, _∙_, ap, subst}
+-- What a call gives is known by a variable for its machine value, and the large types by variables too, so that contexts are compared quickly.
+use mathlib.Core.Path.{_≡_, refl, sym, _∙_, subst}
 use Prim.Native.Nat.{ℕ, _-_, _<_, _≤_, _^_}
 use mathlib.Core.List.{List, [], _∷_}
 use lib.ListN.{length}
@@ -11,18 +12,18 @@ use mir.Syntax.{Ty, named, w8, w64, tyInt, tyArray}
 use mir.Table.{spell}
 use mir.Val.{Val, vint, WT, hasTy}
 use base.Logic.{SProp, ent, emp, id⊢, exE, snd∗}
-use base.Fml.{Lft, GName, Share, ftrue, fat, froom, flft, flent}
+use base.Fml.{Lft, GName, Share, ftrue, fat, froom, fdies, flft, flent}
 use prog.Memory.{Memory}
 use prog.Routine.{Routine}
-use prog.Wp.{Heap, WpFn, Tables}
+use prog.Wp.{Heap, Env, Wp, WpFn, atReturn, Tables}
 use ghost.Atoms.{Atoms, sem}
 use contract.Monad.{Fun, fact}
 use contract.Running.{givenOf, tables, tablesOf}
-use types.Kit.{Given, Item, ‵, raw, _⊛_, ⋆, some, later, _$_, _∵_, !, qed, by, move, drop, use0, use1, use2, use3, split, join, pick, rewrite, fsplit, fjoin, feqL, suffices, frame, await, done}
+use types.Kit.{Given, Item, ‵, raw, _⊛_, ⋆, some, later, atRet, _$_, _∵_, !, qed, by, move, drop, use0, use1, use2, use3, split, join, pick, rewrite, fsplit, fjoin, feqL, suffices, frame, await, done}
 use types.SemTy.{cells, Arr}
 use types.Part.{whole, sub, look-in, agg, rep}
 use types.Tokens.{lft-new, lft-end}
-use types.Run.{look, init, forget, stop, hop, fld, from, load, lit, addr, and-then, no-more, assigns, land, returns, enter, alloc1, alloc0, params1, pass1, pass0, free1, free0}
+use types.Run.{look, init, forget, stop, hop, fld, from, load, lit, addr, and-then, no-more, assigns, land, returns, enter, alloc1, alloc0, params1, pass1, pass0, free1, free0, exec}
 use sound.WpLaws.{fmOf, WpFn-mono}
 use denote.RattleType.{owns}
 use denote.Laws.{Is, shows}
@@ -33,7 +34,7 @@ use denote.Ref.{RefT}
 use denote.Slice.{sliceVal, ShrSlice, MutSlice, Room, finally, slice-vals, shr-slice-tells, shr-slice-copy, mut-slice-tells}
 use denote.Lend.{Held, lends-slice, slice-back}
 use denote.Signature.{plain}
-use denote.Steps.{only, owned, peeks, heard, nothing}
+use denote.Steps.{owned, peeks, heard, nothing}
 use denote.Triple.Statement.{Contract, Triple}
 use denote.Triple.Call.{calls-at}
 use denote.Triple.Clauses.{ensured, lasts}
@@ -51,14 +52,17 @@ use Rattle.book.specs.declared.Book.{Book}
 use Rattle.book.specs.declared.Pool.{Pool}
 use Rattle.book.specs.Reasons.{isAccepted}
 use Rattle.calls.specs.declared.Stepped.{Stepped}
+use Rattle.book.proofs.Book.Laws as B′
+use Rattle.calls.proofs.Stepped.Laws as S′
 use Rattle.table_load.proofs.Row.{R}
 use Rattle.calls.specs.Calls.{Framed}
 use Rattle.day.specs.declared.Going.{Going}
+use Rattle.day.proofs.Going.Laws as G′
 use Rattle.day.specs.declared.Place.{Place}
 use Rattle.day.specs.Turns.{placeAfter, countedOf, turn}
 use Rattle.day.proofs.Turning.{outgoing, outgoing-are, outgoing-long, turned}
-use Rattle.table_rows.proofs.Values.{BookR, bookVals, book-value, SteppedR, steppedVals, stepped-value, CallerR, callerVals, caller-value}
-use Rattle.day.proofs.Values.{GoingR, goingVal, goingVals, going-value, PlaceR, placeVals, place-value}
+use Rattle.table_rows.proofs.Values.{BookR, book-value, SteppedR, stepped-value, CallerR, caller-value}
+use Rattle.day.proofs.Values.{GoingR, goingVal, goingVals, going-value, PlaceR, place-value}
 use Rattle.day.proofs.frame_after as fa
 use Rattle.day.proofs.frame_after.Symbol as after-def
 use Rattle.day.proofs.frame_after.Symbol.{name as #day·frame-after}
@@ -95,6 +99,16 @@ use Rattle.day.proofs.put_frame.Code.Mir as body
 
 abbrev τ : ℕ → Ty
 τ = tyOf code.function
+
+-- the types of a day on its way, of a book, and of what a frame call gives
+abbrev goingTy : Ty
+goingTy = G′.mir
+
+abbrev bookTy : Ty
+bookTy = B′.mir
+
+abbrev steppedTy : Ty
+steppedTy = S′.mir
 
 abbrev Arg : Type 0
 Arg = Going × (RefT (List Pool) × (RefT (List ℕ) × Unit {0}))
@@ -143,7 +157,7 @@ module _ {M : Type 1} (𝓤 : URA M) (H : Heap 𝓤) (A : Atoms 𝓤) (W : Given
   zeros-out : (l : ℕ) → ent 𝓤 (sem 𝓤 H A (fat fullShare (spell body.table (tyArray (tyInt w8) m)) l 0 (repeatVal m (vint w8 0)))) (sem 𝓤 H A (cells (memory.mem u8) (outgoing m) l 0))
   zeros-out l = subst (λ (zs : List ℕ). ent 𝓤 (sem 𝓤 H A (fat fullShare (tyArray (tyInt w8) m) l 0 (repeatVal m (vint w8 0)))) (sem 𝓤 H A (cells (memory.mem u8) zs l 0))) (outgoing-are m) (repeat-out u8 𝓤 H A W (uint-makes 𝓤 H A W w8) tt m 0 (vint w8 0) (refl, lit< tt) l)
 
-module _ {M : Type 1} (𝓤 : URA M) (H : Heap 𝓤) (A : Atoms 𝓤) (W : Given 𝓤 H A) (mem : Memory → SProp 𝓤) (run : Routine → Fun 𝓤) (κ κ₂ : Lft) (q q₂ : Share) (g : Going) (gg : Is GoingR g (goingVals g)) (b o : ℕ) (γ : GName) (ys : List Pool) (t : RefT (List ℕ)) where
+module _ {M : Type 1} (𝓤 : URA M) (H : Heap 𝓤) (A : Atoms 𝓤) (W : Given 𝓤 H A) (mem : Memory → SProp 𝓤) (run : Routine → Fun 𝓤) (κ κ₂ : Lft) (q q₂ : Share) (g : Going) (v : Val) (gg : Is GoingR g (v ∷ [])) (b o : ℕ) (γ : GName) (ys : List Pool) (t : RefT (List ℕ)) where
   abbrev x : RefT (List Pool)
   x = record { ptr = (b, o); name = γ; now = ys }
 
@@ -162,7 +176,7 @@ module _ {M : Type 1} (𝓤 : URA M) (H : Heap 𝓤) (A : Atoms 𝓤) (W : Given
   s₂ = sliceVal (t .ptr) (length (t .now))
 
   abbrev at : Vals f.signature (κ, (κ₂, tt))
-  at = (goingVals g, (s ∷ [], (s₂ ∷ [], tt)))
+  at = (v ∷ [], (s ∷ [], (s₂ ∷ [], tt)))
 
   -- the place of the frame
   abbrev place : Place
@@ -192,15 +206,15 @@ module _ {M : Type 1} (𝓤 : URA M) (H : Heap 𝓤) (A : Atoms 𝓤) (W : Given
   abbrev Left : List Pool → List (Item 𝓤)
   Left ps = ‵ ftrue ∷ ‵ (flft κ₂ q₂) ∷ ‵ (flft κ q) ∷ ‵ ftrue ∷ ‵ (finally R γ ps) ∷ Tape ∷ []
 
-  exits : (r : Going) (ps : List Pool) → (r ≡ turn (t .now) g ys .0) × (ps ≡ turn (t .now) g ys .1) → Is GoingR r (goingVals r) → length ps ≡ length ys → ent 𝓤 (⋆ 𝓤 H A (Left ps)) (Post (goingVal r))
-  exits r ps e gr long′ =
-      qed W (Left ps) ∵ suffices ! _ (ends-at 𝓤 H A f.ended stayed (f.clauses 𝓤 H A mem run) W bound (goingVal r) r (tt, (ps, (tt, tt))) (tt, (long′, (tt, tt)))) $ says ! e $
+  exits : (r : Going) (w : Val) (ps : List Pool) → (r ≡ turn (t .now) g ys .0) × (ps ≡ turn (t .now) g ys .1) → Is GoingR r (w ∷ []) → length ps ≡ length ys → ent 𝓤 (⋆ 𝓤 H A (Left ps)) (Post w)
+  exits r w ps e gr long′ =
+      qed W (Left ps) ∵ suffices ! _ (ends-at 𝓤 H A f.ended stayed (f.clauses 𝓤 H A mem run) W bound w r (tt, (ps, (tt, tt))) (tt, (long′, (tt, tt)))) $ says ! e $
       move ! (1 ∷ 0 ∷ []) $ join ! $ move ! (1 ∷ 0 ∷ []) $ join ! $ frame ! $ move ! (2 ∷ 0 ∷ []) $ fjoin ! $ move ! (1 ∷ 0 ∷ []) $ fjoin ! $ owned ! GoingR (Is GoingR) (going-value .makes 𝓤 H A) g _ gg $ fjoin ! $ frame ! $
       owned ! GoingR (Is GoingR) (going-value .makes 𝓤 H A) r _ gr $ done !
 
   -- what each callee's triple binds outside, that the caller has what it asks, and what is known of its result
   abbrev to-after : After 𝓤 H A mem run .Ghost
-  to-after = (((κ₂, tt), (q₂, tt), tt, (t, (g, tt)), (s₂ ∷ [], (goingVals g, tt))), tt)
+  to-after = (((κ₂, tt), (q₂, tt), tt, (t, (g, tt)), (s₂ ∷ [], (v ∷ [], tt))), tt)
 
   goes-after : ent 𝓤 (⋆ 𝓤 H A (Token ∷ Tape ∷ [])) (After 𝓤 H A mem run .pre to-after)
   goes-after =
@@ -213,7 +227,7 @@ module _ {M : Type 1} (𝓤 : URA M) (H : Heap 𝓤) (A : Atoms 𝓤) (W : Given
   said-after r = exE 𝓤 _ (λ zs. snd∗ 𝓤 (sem 𝓤 H A (lasts fa.ended (κ₂, tt) (t, (g, tt)) zs)) (fact 𝓤 (Found r)))
 
   abbrev to-book : BookOf 𝓤 H A mem run .Ghost
-  to-book = ((tt, tt, tt, (g, tt), (goingVals g, tt)), tt)
+  to-book = ((tt, tt, tt, (g, tt), (v ∷ [], tt)), tt)
 
   goes-book : ent 𝓤 (emp 𝓤) (BookOf 𝓤 H A mem run .pre to-book)
   goes-book = qed W [] ∵ nothing ! $ owned ! GoingR (Is GoingR) (going-value .makes 𝓤 H A) g _ gg $ fjoin ! $ nothing ! $ join ! $ frame ! $ done !
@@ -230,50 +244,52 @@ module _ {M : Type 1} (𝓤 : URA M) (H : Heap 𝓤) (A : Atoms 𝓤) (W : Given
   said-midnight : (r : Caller) → ent 𝓤 (ensured 𝓤 H A am.ended (am.clauses 𝓤 H A mem run) tt tt tt r) (fact 𝓤 (r ≡ midnight))
   said-midnight r = exE 𝓤 _ (λ zs. snd∗ 𝓤 (sem 𝓤 H A (lasts am.ended tt tt zs)) (fact 𝓤 (r ≡ midnight)))
 
-  abbrev to-start : StartOf 𝓤 H A mem run .Ghost
-  to-start = ((tt, tt, tt, (place, tt), (placeVals place, tt)), tt)
+  abbrev to-start : Val → StartOf 𝓤 H A mem run .Ghost
+  to-start w = ((tt, tt, tt, (place, tt), (w ∷ [], tt)), tt)
 
-  goes-start : Is PlaceR place (placeVals place) → ent 𝓤 (emp 𝓤) (StartOf 𝓤 H A mem run .pre to-start)
-  goes-start gp = qed W [] ∵ nothing ! $ owned ! PlaceR (Is PlaceR) (place-value .makes 𝓤 H A) place _ gp $ fjoin ! $ nothing ! $ join ! $ frame ! $ done !
+  goes-start : (w : Val) → Is PlaceR place (w ∷ []) → ent 𝓤 (emp 𝓤) (StartOf 𝓤 H A mem run .pre (to-start w))
+  goes-start w gp = qed W [] ∵ nothing ! $ owned ! PlaceR (Is PlaceR) (place-value .makes 𝓤 H A) place _ gp $ fjoin ! $ nothing ! $ join ! $ frame ! $ done !
 
   said-start : (r : ℕ) → ent 𝓤 (ensured 𝓤 H A so.ended (so.clauses 𝓤 H A mem run) tt (place, tt) tt r) (fact 𝓤 (r ≡ place .start))
   said-start r = exE 𝓤 _ (λ zs. snd∗ 𝓤 (sem 𝓤 H A (lasts so.ended tt (place, tt) zs)) (fact 𝓤 (r ≡ place .start)))
 
-  abbrev to-end : EndOf 𝓤 H A mem run .Ghost
-  to-end = ((tt, tt, tt, (place, tt), (placeVals place, tt)), tt)
+  abbrev to-end : Val → EndOf 𝓤 H A mem run .Ghost
+  to-end w = ((tt, tt, tt, (place, tt), (w ∷ [], tt)), tt)
 
-  goes-end : Is PlaceR place (placeVals place) → ent 𝓤 (emp 𝓤) (EndOf 𝓤 H A mem run .pre to-end)
-  goes-end gp = qed W [] ∵ nothing ! $ owned ! PlaceR (Is PlaceR) (place-value .makes 𝓤 H A) place _ gp $ fjoin ! $ nothing ! $ join ! $ frame ! $ done !
+  goes-end : (w : Val) → Is PlaceR place (w ∷ []) → ent 𝓤 (emp 𝓤) (EndOf 𝓤 H A mem run .pre (to-end w))
+  goes-end w gp = qed W [] ∵ nothing ! $ owned ! PlaceR (Is PlaceR) (place-value .makes 𝓤 H A) place _ gp $ fjoin ! $ nothing ! $ join ! $ frame ! $ done !
 
   said-end : (r : ℕ) → ent 𝓤 (ensured 𝓤 H A eo.ended (eo.clauses 𝓤 H A mem run) tt (place, tt) tt r) (fact 𝓤 (r ≡ place .end))
   said-end r = exE 𝓤 _ (λ zs. snd∗ 𝓤 (sem 𝓤 H A (lasts eo.ended tt (place, tt) zs)) (fact 𝓤 (r ≡ place .end)))
 
-  abbrev to-step : ℕ → ℕ → GName → Step 𝓤 H A mem run .Ghost
-  to-step l₈ ν δ = (
-    (
-      (κ, (κ₂, (ν ∷ [], tt))),
-      (q, (q₂, (fullShare, tt))),
+  -- the machine values of book, start, end and time bytes
+  module _ (l₈ ν : ℕ) (δ : GName) (wb ws we wt : Val) where
+    abbrev to-step : Step 𝓤 H A mem run .Ghost
+    to-step = (
+      (
+        (κ, (κ₂, (ν ∷ [], tt))),
+        (q, (q₂, (fullShare, tt))),
+        tt,
+        (bk, (x, (t, (place .start, (place .end, (midnight, (y l₈ δ, tt))))))),
+        (wb ∷ [], (s ∷ [], (s₂ ∷ [], (ws ∷ [], (we ∷ [], (wt ∷ [], (sliceVal (l₈, 0) 217 ∷ [], tt))))))),
+      ),
       tt,
-      (bk, (x, (t, (place .start, (place .end, (midnight, (y l₈ δ, tt))))))),
-      (bookVals bk, (s ∷ [], (s₂ ∷ [], (vint w64 (place .start) ∷ [], (vint w64 (place .end) ∷ [], (callerVals midnight, (sliceVal (l₈, 0) 217 ∷ [], tt))))))),
-    ),
-    tt,
-  )
+    )
 
-  goes-step : (l₈ ν : ℕ) (δ : GName) → Is BookR bk (bookVals bk) → Is CallerR midnight (callerVals midnight) → place .start < 2 ^ 64 → place .end < 2 ^ 64 → (place .start ≤ place .end) × (place .end ≤ length (t .now))
-      → ent 𝓤 (⋆ 𝓤 H A (‵ (flft κ q) ∷ (Token ⊛ ‵ (flft (ν ∷ []) fullShare)) ∷ (Table ⊛ (Tape ⊛ Lent l₈ ν δ 217)) ∷ [])) (Step 𝓤 H A mem run .pre (to-step l₈ ν δ))
-  goes-step l₈ ν δ gb gm gs ge within =
-      qed W (‵ (flft κ q) ∷ (Token ⊛ ‵ (flft (ν ∷ []) fullShare)) ∷ (Table ⊛ (Tape ⊛ Lent l₈ ν δ 217)) ∷ []) ∵ says ! within $
-      move ! (1 ∷ []) $ split ! $ split ! $ move ! (2 ∷ 1 ∷ []) $ join ! $ move ! (1 ∷ 0 ∷ []) $ join ! $ move ! (1 ∷ 0 ∷ []) $ join ! $ frame ! $
-      split ! $ move ! (1 ∷ []) $ split ! $ nothing ! $ move ! (2 ∷ 0 ∷ []) $ fjoin ! $ owned ! CallerR (Is CallerR) (caller-value .makes 𝓤 H A) midnight _ gm $ fjoin ! $
-      owned ! usize (Is usize) (uint-makes 𝓤 H A W w64) (place .end) _ (refl, ge) $ fjoin ! $ owned ! usize (Is usize) (uint-makes 𝓤 H A W w64) (place .start) _ (refl, gs) $ fjoin ! $
-      move ! (1 ∷ 0 ∷ []) $ fjoin ! $ move ! (1 ∷ 0 ∷ []) $ fjoin ! $ owned ! BookR (Is BookR) (book-value .makes 𝓤 H A) bk _ gb $ fjoin ! $ done !
+    goes-step : Is BookR bk (wb ∷ []) → Is usize (place .start) (ws ∷ []) → Is usize (place .end) (we ∷ []) → Is CallerR midnight (wt ∷ []) → (place .start ≤ place .end) × (place .end ≤ length (t .now))
+        → ent 𝓤 (⋆ 𝓤 H A (‵ (flft κ q) ∷ (Token ⊛ ‵ (flft (ν ∷ []) fullShare)) ∷ (Table ⊛ (Tape ⊛ Lent l₈ ν δ 217)) ∷ [])) (Step 𝓤 H A mem run .pre to-step)
+    goes-step gb gs ge gm within =
+        qed W (‵ (flft κ q) ∷ (Token ⊛ ‵ (flft (ν ∷ []) fullShare)) ∷ (Table ⊛ (Tape ⊛ Lent l₈ ν δ 217)) ∷ []) ∵ says ! within $
+        move ! (1 ∷ []) $ split ! $ split ! $ move ! (2 ∷ 1 ∷ []) $ join ! $ move ! (1 ∷ 0 ∷ []) $ join ! $ move ! (1 ∷ 0 ∷ []) $ join ! $ frame ! $
+        split ! $ move ! (1 ∷ []) $ split ! $ nothing ! $ move ! (2 ∷ 0 ∷ []) $ fjoin ! $ owned ! CallerR (Is CallerR) (caller-value .makes 𝓤 H A) midnight _ gm $ fjoin ! $
+        owned ! usize (Is usize) (uint-makes 𝓤 H A W w64) (place .end) _ ge $ fjoin ! $ owned ! usize (Is usize) (uint-makes 𝓤 H A W w64) (place .start) _ gs $ fjoin ! $
+        move ! (1 ∷ 0 ∷ []) $ fjoin ! $ move ! (1 ∷ 0 ∷ []) $ fjoin ! $ owned ! BookR (Is BookR) (book-value .makes 𝓤 H A) bk _ gb $ fjoin ! $ done !
 
-  abbrev to-counted : Stepped → Counted 𝓤 H A mem run .Ghost
-  to-counted r = ((tt, tt, tt, (g, (r, (place, tt))), (goingVals g, (steppedVals r, (placeVals place, tt)))), tt)
+  abbrev to-counted : Stepped → Val → Val → Counted 𝓤 H A mem run .Ghost
+  to-counted r w wp = ((tt, tt, tt, (g, (r, (place, tt))), (v ∷ [], (w ∷ [], (wp ∷ [], tt)))), tt)
 
-  goes-counted : (r : Stepped) → Is SteppedR r (steppedVals r) → Is PlaceR place (placeVals place) → (g .day .accepted < 2 ^ 63) × (g .day .others < 2 ^ 63) → ent 𝓤 (emp 𝓤) (Counted 𝓤 H A mem run .pre (to-counted r))
-  goes-counted r gr gn small =
+  goes-counted : (r : Stepped) (w wp : Val) → Is SteppedR r (w ∷ []) → Is PlaceR place (wp ∷ []) → (g .day .accepted < 2 ^ 63) × (g .day .others < 2 ^ 63) → ent 𝓤 (emp 𝓤) (Counted 𝓤 H A mem run .pre (to-counted r w wp))
+  goes-counted r w wp gr gn small =
       qed W [] ∵ says ! small $ nothing ! $ frame ! $ nothing ! $ owned ! PlaceR (Is PlaceR) (place-value .makes 𝓤 H A) place _ gn $ fjoin ! $ owned ! SteppedR (Is SteppedR) (stepped-value .makes 𝓤 H A) r _ gr $ fjoin ! $
       owned ! GoingR (Is GoingR) (going-value .makes 𝓤 H A) g _ gg $ fjoin ! $ done !
 
@@ -291,85 +307,100 @@ module _ {M : Type 1} (𝓤 : URA M) (H : Heap 𝓤) (A : Atoms 𝓤) (W : Given
   Stepping r zs = Framed bk ys (part (t .now) (place .start) (place .end - place .start)) midnight zeros r (zs .1 .0) (zs .1 .1 .1 .1 .1 .1 .0)
 
   module _ (𝓣 : Tables 𝓤 H) (known-after : Triple 𝓤 (𝓣 .C #day·frame-after) (After 𝓤 H A mem run)) (known-book : Triple 𝓤 (𝓣 .C #day·book-of) (BookOf 𝓤 H A mem run)) (known-midnight : Triple 𝓤 (𝓣 .C #day·at-midnight) (AtMidnight 𝓤 H A mem run)) (known-start : Triple 𝓤 (𝓣 .C #day·start-of) (StartOf 𝓤 H A mem run)) (known-end : Triple 𝓤 (𝓣 .C #day·end-of) (EndOf 𝓤 H A mem run)) (known-step : Triple 𝓤 (𝓣 .C #table-step·step-part) (Step 𝓤 H A mem run)) (known-counted : Triple 𝓤 (𝓣 .C #day·counted) (Counted 𝓤 H A mem run)) where
+    -- the code from its first statement on: G, B and S are the types of a day on its way, of a book, and of what a frame call gives
+    module _ (room : Room R (length ys)) (small : (g .day .accepted < 2 ^ 63) × (g .day .others < 2 ^ 63)) (G B S : Ty) (is-going : goingTy ≡ G) (is-book : bookTy ≡ B) (is-stepped : steppedTy ≡ S) (l₀ l₁ l₂ l₃ l₄ l₅ l₆ l₇ l₈ l₉ l₁₀ l₁₁ l₁₂ l₁₃ l₁₄ : ℕ) where
+      abbrev En : Env 𝓤 H
+      En = (G, l₀) ∷ (G, l₁) ∷ (τ 2, l₂) ∷ (τ 3, l₃) ∷ (τ 4, l₄) ∷ (B, l₅) ∷ (τ 6, l₆) ∷ (τ 7, l₇) ∷ (τ 8, l₈) ∷ (S, l₉) ∷ (τ 10, l₁₀) ∷ (τ 11, l₁₁) ∷ (τ 12, l₁₂) ∷ (τ 13, l₁₃) ∷ (τ 14, l₁₄) ∷ []
+
+      abbrev AtStart : List (Item 𝓤)
+      AtStart = ‵ (flft κ q) ∷ Token ∷ Tape ∷ Table
+          ∷ ‵ (froom (τ 14) l₁₄ 0) ∷ ‵ (fdies (τ 14) l₁₄) ∷ ‵ (froom (τ 13) l₁₃ 0) ∷ ‵ (fdies (τ 13) l₁₃) ∷ ‵ (froom (τ 12) l₁₂ 0) ∷ ‵ (fdies (τ 12) l₁₂) ∷ ‵ (froom (τ 11) l₁₁ 0) ∷ ‵ (fdies (τ 11) l₁₁) ∷ ‵ (froom (τ 10) l₁₀ 0) ∷ ‵ (fdies (τ 10) l₁₀)
+          ∷ ‵ (froom S l₉ 0) ∷ ‵ (fdies S l₉) ∷ ‵ (froom (τ 8) l₈ 0) ∷ ‵ (fdies (τ 8) l₈) ∷ ‵ (froom (τ 7) l₇ 0) ∷ ‵ (fdies (τ 7) l₇) ∷ ‵ (froom (τ 6) l₆ 0) ∷ ‵ (fdies (τ 6) l₆) ∷ ‵ (froom B l₅ 0) ∷ ‵ (fdies B l₅)
+          ∷ ‵ (froom (τ 4) l₄ 0) ∷ ‵ (fdies (τ 4) l₄) ∷ ‵ (fat fullShare (τ 3) l₃ 0 s₂) ∷ ‵ (fdies (τ 3) l₃) ∷ ‵ (fat fullShare (τ 2) l₂ 0 s) ∷ ‵ (fdies (τ 2) l₂) ∷ ‵ (fat fullShare G l₁ 0 v) ∷ ‵ (fdies G l₁) ∷ ‵ (froom G l₀ 0) ∷ ‵ (fdies G l₀) ∷ []
+
+      meets : ent 𝓤 (⋆ 𝓤 H A AtStart) (Wp 𝓤 H (𝓣 .C) (𝓣 .Λ) En body.t-1 (atReturn 𝓤 H En Post))
+      meets =
+          qed W AtStart ∵ exec ! (𝓣 .C) (𝓣 .Λ) En body.t-1 (atRet En Post) $
+          -- [the table's token; the tape's token; tape; pools; _14 at 4; …]
+          move ! (2 ∷ []) $ use1 W (Tape ⊛ Tape) (shr-slice-copy 𝓤 H A W (named 1) κ₂ u8 .twice t (s₂ ∷ [])) $ split ! $ move ! (3 ∷ 0 ∷ []) $ use2 W (raw (After 𝓤 H A mem run .pre to-after)) goes-after $
+          -- [what `frame_after` asks; tape; the table's token; pools; _14 at 4; …; _4 at 24; _3 at 26; _2 at 28; _1 at 30; _0 at 32]
+          calls-at ! (fmOf 𝓤 H (W .laws) 𝓣) (After 𝓤 H A mem run) known-after to-after (and-then ! (load ! (from ! (stop !)) (look ! 26 refl)) (and-then ! (load ! (from ! (stop !)) (look ! 30 refl)) (no-more !))) (λ w.
+          use1 W (later (some (λ (r : Place). (Token ⊛ ‵ (PlaceR .own r (w ∷ []))) ⊛ raw (ensured 𝓤 H A fa.ended (fa.clauses 𝓤 H A mem run) (κ₂, tt) (t, (g, tt)) tt r)))) (id⊢ 𝓤 _) $ await ! tt $ pick ! (λ r.
+          split ! $ move ! (1 ∷ []) $ use1 W (raw (fact 𝓤 (Found r))) (said-after r) $ heard ! (Found r) (λ e. split ! $ move ! (1 ∷ []) $ rewrite ! 0 (λ (z : Place). ‵ (PlaceR .own z (w ∷ []))) (e .0) refl $
+          peeks ! PlaceR (Is PlaceR) (shows 𝓤 H A PlaceR) place (w ∷ []) (λ gp. land ! (from ! (stop !)) (init ! 25 refl (place-value .typed 𝓤 H A W place w gp)) $ drop ! $
+          -- [the tape's token; tape; the table's token; pools; _14 at 4; …]
+          use0 W (raw (BookOf 𝓤 H A mem run .pre to-book)) goes-book $
+          calls-at ! (fmOf 𝓤 H (W .laws) 𝓣) (BookOf 𝓤 H A mem run) known-book to-book (and-then ! (load ! (from ! (stop !)) (look ! 31 refl)) (no-more !)) (λ w₁.
+          use1 W (later (some (λ (r₁ : Book). (‵ ftrue ⊛ ‵ (BookR .own r₁ (w₁ ∷ []))) ⊛ raw (ensured 𝓤 H A bo.ended (bo.clauses 𝓤 H A mem run) tt (g, tt) tt r₁)))) (id⊢ 𝓤 _) $ await ! tt $ pick ! (λ r₁.
+          split ! $ move ! (1 ∷ []) $ use1 W (raw (fact 𝓤 (r₁ ≡ bk))) (said-book r₁) $ heard ! (r₁ ≡ bk) (λ e₁. split ! $ drop ! $ rewrite ! 0 (λ (z : Book). ‵ (BookR .own z (w₁ ∷ []))) e₁ refl $
+          peeks ! BookR (Is BookR) (shows 𝓤 H A BookR) bk (w₁ ∷ []) (λ gb. land ! (from ! (stop !)) (init ! 23 refl (subst (λ (T : Ty). Holds (hasTy T w₁) × WT w₁) is-book (book-value .typed 𝓤 H A W bk w₁ gb))) $ drop ! $
+          use0 W (raw (StartOf 𝓤 H A mem run .pre (to-start w))) (goes-start w gp) $
+          calls-at ! (fmOf 𝓤 H (W .laws) 𝓣) (StartOf 𝓤 H A mem run) known-start (to-start w) (and-then ! (load ! (from ! (stop !)) (look ! 25 refl)) (no-more !)) (λ w₅.
+          use1 W (later (some (λ (j : ℕ). (‵ ftrue ⊛ ‵ (usize .own j (w₅ ∷ []))) ⊛ raw (ensured 𝓤 H A so.ended (so.clauses 𝓤 H A mem run) tt (place, tt) tt j)))) (id⊢ 𝓤 _) $ await ! tt $ pick ! (λ j₅.
+          split ! $ move ! (1 ∷ []) $ use1 W (raw (fact 𝓤 (j₅ ≡ place .start))) (said-start j₅) $ heard ! (j₅ ≡ place .start) (λ e₅. split ! $ drop ! $ rewrite ! 0 (λ (j : ℕ). ‵ (usize .own j (w₅ ∷ []))) e₅ refl $
+          peeks ! usize (Is usize) (shows 𝓤 H A usize) (place .start) (w₅ ∷ []) (λ is₅. land ! (from ! (stop !)) (init ! 21 refl (uint-lawful 𝓤 H A W w64 .typed (place .start) _ is₅ .0)) $ drop ! $
+          use0 W (raw (EndOf 𝓤 H A mem run .pre (to-end w))) (goes-end w gp) $
+          calls-at ! (fmOf 𝓤 H (W .laws) 𝓣) (EndOf 𝓤 H A mem run) known-end (to-end w) (and-then ! (load ! (from ! (stop !)) (look ! 25 refl)) (no-more !)) (λ w₆.
+          use1 W (later (some (λ (j : ℕ). (‵ ftrue ⊛ ‵ (usize .own j (w₆ ∷ []))) ⊛ raw (ensured 𝓤 H A eo.ended (eo.clauses 𝓤 H A mem run) tt (place, tt) tt j)))) (id⊢ 𝓤 _) $ await ! tt $ pick ! (λ j₆.
+          split ! $ move ! (1 ∷ []) $ use1 W (raw (fact 𝓤 (j₆ ≡ place .end))) (said-end j₆) $ heard ! (j₆ ≡ place .end) (λ e₆. split ! $ drop ! $ rewrite ! 0 (λ (j : ℕ). ‵ (usize .own j (w₆ ∷ []))) e₆ refl $
+          peeks ! usize (Is usize) (shows 𝓤 H A usize) (place .end) (w₆ ∷ []) (λ is₆. land ! (from ! (stop !)) (init ! 19 refl (uint-lawful 𝓤 H A W w64 .typed (place .end) _ is₆ .0)) $ drop ! $
+          -- [the tape's token; tape; the table's token; pools; _14 at 4; _13 at 6; _12 at 8; _11 at 10; _10 at 12; _9 at 14; _8 at 16; _7 at 18; _6 at 20; _5 at 22; _4 at 24; _3 at 26; _2 at 28; _1 at 30; _0 at 32]
+          assigns ! (rep ! 217 (lit ! tt)) (from ! (stop !)) (init ! 16 refl (typed-zeros 𝓤 H A W 217)) $
+          assigns ! (addr ! (from ! (fld ! refl (hop ! (look-in ! 28 (sub ! 0 refl (whole !))) (stop !))))) (from ! (stop !)) (init ! 12 refl (tt, tt)) $
+          assigns ! (agg ! (and-then ! (load ! (from ! (stop !)) (look ! 12 refl)) (and-then ! (load ! (from ! (fld ! refl (stop !))) (look-in ! 28 (sub ! 1 refl (whole !)))) (no-more !)))) (from ! (stop !)) (init ! 10 refl (tt, (tt, (record { fits = room .0 }, tt)))) $
+          use0 W (raw (AtMidnight 𝓤 H A mem run .pre to-midnight)) goes-midnight $
+          calls-at ! (fmOf 𝓤 H (W .laws) 𝓣) (AtMidnight 𝓤 H A mem run) known-midnight to-midnight (no-more !) (λ w₇.
+          use1 W (later (some (λ (r : Caller). (‵ ftrue ⊛ ‵ (CallerR .own r (w₇ ∷ []))) ⊛ raw (ensured 𝓤 H A am.ended (am.clauses 𝓤 H A mem run) tt tt tt r)))) (id⊢ 𝓤 _) $ await ! tt $ pick ! (λ r₇.
+          split ! $ move ! (1 ∷ []) $ use1 W (raw (fact 𝓤 (r₇ ≡ midnight))) (said-midnight r₇) $ heard ! (r₇ ≡ midnight) (λ e₇. split ! $ drop ! $ rewrite ! 0 (λ (z : Caller). ‵ (CallerR .own z (w₇ ∷ []))) e₇ refl $
+          peeks ! CallerR (Is CallerR) (shows 𝓤 H A CallerR) midnight (w₇ ∷ []) (λ gm. land ! (from ! (stop !)) (init ! 9 refl (caller-value .typed 𝓤 H A W midnight w₇ gm)) $ drop ! $
+          assigns ! (addr ! (from ! (stop !))) (from ! (stop !)) (init ! 6 refl (tt, tt)) $
+          assigns ! (agg ! (and-then ! (load ! (from ! (stop !)) (look ! 6 refl)) (and-then ! (lit ! tt) (no-more !)))) (from ! (stop !)) (init ! 4 refl (tt, (tt, (record { fits = lit< tt }, tt)))) $
+          -- the array's elements are lent, for ν
+          move ! (16 ∷ []) $ use1 W (‵ (cells (memory.mem u8) zeros l₈ 0)) (zeros-out 𝓤 H A W 217 l₈) $ lft-new ! tt (λ ν. move ! (1 ∷ []) $
+          use1 W (later (some (λ (δ : GName). Lent l₈ ν δ (length zeros) ⊛ ‵ (flent (ν ∷ []) (Held u8 (length zeros) l₈ 0 δ))))) (lends-slice 𝓤 H A W u8 (named 2) (ν ∷ []) zeros l₈ 0 room-zeros) $ await ! tt $ pick ! (λ δ. split ! $
+          rewrite ! 0 (λ (m : ℕ). Lent l₈ ν δ m) long refl $
+          -- [the array, lent; the lender's part; its token; the tape's token; tape; the table's token; pools; _14 at 7; …]
+          move ! (4 ∷ []) $ use1 W (Tape ⊛ Tape) (shr-slice-copy 𝓤 H A W (named 1) κ₂ u8 .twice t (s₂ ∷ [])) $ split ! $
+          move ! (0 ∷ 2 ∷ []) $ join ! $ move ! (6 ∷ 0 ∷ []) $ join ! $ move ! (4 ∷ 3 ∷ []) $ join ! $ move ! (4 ∷ 0 ∷ 1 ∷ []) $
+          use3 W (raw (Step 𝓤 H A mem run .pre (to-step l₈ ν δ w₁ w₅ w₆ w₇))) (goes-step l₈ ν δ w₁ w₅ w₆ w₇ gb is₅ is₆ gm (subst (λ (z : Place). (z .start ≤ z .end) × (z .end ≤ length (t .now))) (e .0) (e .1, e .2))) $
+          -- [what the frame call asks; tape; the lender's part; _14 at 3; …; _12 at 7; _11 at 9; …; _9 at 13; that _8 dies at 15; _7 at 16; _6 at 18; _5 at 20; _4 at 22; _3 at 24; _2 at 26; _1 at 28; _0 at 30]
+          calls-at ! (fmOf 𝓤 H (W .laws) 𝓣) (Step 𝓤 H A mem run) known-step (to-step l₈ ν δ w₁ w₅ w₆ w₇)
+          (and-then ! (load ! (from ! (stop !)) (look ! 20 refl)) (and-then ! (load ! (from ! (stop !)) (look ! 9 refl)) (and-then ! (load ! (from ! (stop !)) (look ! 24 refl)) (and-then ! (load ! (from ! (stop !)) (look ! 18 refl))
+          (and-then ! (load ! (from ! (stop !)) (look ! 16 refl)) (and-then ! (load ! (from ! (stop !)) (look ! 7 refl)) (and-then ! (load ! (from ! (stop !)) (look ! 3 refl)) (no-more !)))))))) (λ w₂.
+          use1 W (later (some (λ (r₂ : Stepped). ((‵ (flft κ q) ⊛ ‵ (flft κ₂ q₂) ⊛ ‵ (flft (ν ∷ []) fullShare) ⊛ ‵ ftrue) ⊛ ‵ (SteppedR .own r₂ (w₂ ∷ [])))
+          ⊛ raw (ensured 𝓤 H A sp.ended (sp.clauses 𝓤 H A mem run) (κ, (κ₂, (ν ∷ [], tt))) (bk, (x, (t, (place .start, (place .end, (midnight, (y l₈ δ, tt))))))) tt r₂)))) (id⊢ 𝓤 _) $ await ! tt $ pick ! (λ r₂.
+          split ! $ move ! (1 ∷ []) $ use1 W (some (λ (zs : Lasts). ‵ (lasts sp.ended (κ, (κ₂, (ν ∷ [], tt))) (bk, (x, (t, (place .start, (place .end, (midnight, (y l₈ δ, tt))))))) zs) ⊛ raw (fact 𝓤 (Stepping r₂ zs)))) (id⊢ 𝓤 _) $ pick ! (λ zs.
+          split ! $ move ! (1 ∷ []) $ heard ! (Stepping r₂ zs) (λ e₂. fsplit ! $ drop ! $ fsplit ! $ fsplit ! $ move ! (1 ∷ []) $ feqL ! (λ lp. move ! (1 ∷ []) $
+          fsplit ! $ drop ! $ fsplit ! $ drop ! $ fsplit ! $ drop ! $ fsplit ! $ drop ! $ fsplit ! $ fsplit ! $ move ! (1 ∷ []) $ feqL ! (λ lo.
+          -- [the last output; true; the last table; the tokens and the result; tape; the lender's part; _14 at 6; …]
+          move ! (3 ∷ []) $ split ! $ move ! (1 ∷ []) $ peeks ! SteppedR (Is SteppedR) (shows 𝓤 H A SteppedR) r₂ (w₂ ∷ []) (λ gs. land ! (from ! (stop !)) (init ! 17 refl (subst (λ (T : Ty). Holds (hasTy T w₂) × WT w₂) is-stepped (stepped-value .typed 𝓤 H A W r₂ w₂ gs))) $ drop ! $
+          -- [the tokens; the last output; true; the last table; tape; the lender's part; _14 at 6; …]
+          split ! $ move ! (1 ∷ []) $ split ! $ move ! (1 ∷ []) $ split ! $ lft-end ! tt $ move ! (0 ∷ 8 ∷ 4 ∷ []) $
+          use3 W (later (‵ (Arr (memory.mem u8) (length zeros) .lies (zs .1 .1 .1 .1 .1 .1 .0) l₈ 0))) (slice-back 𝓤 H A W u8 (ν ∷ []) δ (zs .1 .1 .1 .1 .1 .1 .0) (length zeros) l₈ 0) $ await ! tt $ fsplit ! $ drop ! $
+          use1 W (‵ (froom (τ 8) l₈ 0)) (elems-room u8 𝓤 H A W 217 l₈ (zs .1 .1 .1 .1 .1 .1 .0) (lo ∙ long)) $
+          -- [room for _8; true; the tape's token; the table's token; true; the last table; tape; _14 at 7; …]
+          use0 W (raw (Counted 𝓤 H A mem run .pre (to-counted r₂ w₂ w))) (goes-counted r₂ w₂ w gs gp small) $
+          -- [what `counted` asks; room for _8; …; _14 at 8; …; _9 at 18; that _8 dies at 20; _7 at 21; _6 at 23; _5 at 25; _4 at 27; _3 at 29; _2 at 31; _1 at 33; _0 at 35]
+          calls-at ! (fmOf 𝓤 H (W .laws) 𝓣) (Counted 𝓤 H A mem run) known-counted (to-counted r₂ w₂ w)
+          (and-then ! (load ! (from ! (stop !)) (look ! 33 refl)) (and-then ! (load ! (from ! (stop !)) (look ! 18 refl)) (and-then ! (load ! (from ! (stop !)) (look ! 27 refl)) (no-more !)))) (λ w₃.
+          use1 W (later (some (λ (r₃ : Going). (‵ ftrue ⊛ ‵ (GoingR .own r₃ (w₃ ∷ []))) ⊛ raw (ensured 𝓤 H A ct.ended (ct.clauses 𝓤 H A mem run) tt (g, (r₂, (place, tt))) tt r₃)))) (id⊢ 𝓤 _) $ await ! tt $ pick ! (λ r₃.
+          split ! $ move ! (1 ∷ []) $ use1 W (raw (fact 𝓤 (Gone r₂ r₃))) (said-counted r₂ r₃) $ heard ! (Gone r₂ r₃) (λ e₃. split ! $ drop ! $
+          peeks ! GoingR (Is GoingR) (shows 𝓤 H A GoingR) r₃ (w₃ ∷ []) (λ gr. land ! (from ! (stop !)) (init ! 35 refl (subst (λ (T : Ty). Holds (hasTy T w₃) × WT w₃) is-going (going-value .typed 𝓤 H A W r₃ w₃ gr))) $ drop ! $
+          -- [room for _8; true; the tape's token; the table's token; true; the last table; tape; _14 at 7; …; _9 at 17; that _8 dies at 19; _7 at 20; …; _0 at 34]
+          returns ! (look ! 34 refl) $ forget ! 7 refl $ forget ! 9 refl $ forget ! 11 refl $ forget ! 13 refl $ forget ! 15 refl $ forget ! 17 refl $ forget ! 20 refl $ forget ! 22 refl $ forget ! 24 refl $ forget ! 26 refl $ forget ! 28 refl $ forget ! 30 refl $ forget ! 32 refl $ forget ! 34 refl $
+          move ! (34 ∷ 35 ∷ []) $ free1 ! $ move ! (32 ∷ 33 ∷ []) $ free1 ! $ move ! (30 ∷ 31 ∷ []) $ free1 ! $ move ! (28 ∷ 29 ∷ []) $ free1 ! $ move ! (26 ∷ 27 ∷ []) $ free1 ! $ move ! (24 ∷ 25 ∷ []) $ free1 ! $ move ! (22 ∷ 23 ∷ []) $ free1 ! $ move ! (20 ∷ 21 ∷ []) $ free1 ! $ move ! (0 ∷ 19 ∷ []) $ free1 ! $
+          move ! (16 ∷ 17 ∷ []) $ free1 ! $ move ! (14 ∷ 15 ∷ []) $ free1 ! $ move ! (12 ∷ 13 ∷ []) $ free1 ! $ move ! (10 ∷ 11 ∷ []) $ free1 ! $ move ! (8 ∷ 9 ∷ []) $ free1 ! $ move ! (6 ∷ 7 ∷ []) $ free1 ! $ free0 ! $
+          by ! (exits r₃ w₃ (zs .1 .0) (turned (t .now) g ys zeros r₂ (zs .1 .0) (zs .1 .1 .1 .1 .1 .1 .0) long e₂ r₃ e₃) gr lp))))))))))))))))))))))))))))))))))
+
     walk : Room R (length ys) → Room u8 (length (t .now)) → (g .day .accepted < 2 ^ 63) × (g .day .others < 2 ^ 63)
-        → ent 𝓤 (onEntry 𝓤 H A f.signature (κ, (κ₂, tt)) (q, (q₂, tt)) a at) (WpFn 𝓤 H (𝓣 .C) (𝓣 .Λ) code.function (goingVal g ∷ s ∷ s₂ ∷ []) Post)
+        → ent 𝓤 (onEntry 𝓤 H A f.signature (κ, (κ₂, tt)) (q, (q₂, tt)) a at) (WpFn 𝓤 H (𝓣 .C) (𝓣 .Λ) code.function (v ∷ s ∷ s₂ ∷ []) Post)
     walk room room₂ small =
-        qed W ((‵ (flft κ q) ⊛ Token) ∷ ‵ (owns (GoingR ∷ MutSlice (named 0) κ R ∷ ShrSlice (named 1) κ₂ u8 ∷ []) a at) ∷ []) ∵ enter ! (𝓣 .C) (𝓣 .Λ) code.function (goingVal g ∷ s ∷ s₂ ∷ []) _ $
+        qed W ((‵ (flft κ q) ⊛ Token) ∷ ‵ (owns (GoingR ∷ MutSlice (named 0) κ R ∷ ShrSlice (named 1) κ₂ u8 ∷ []) a at) ∷ []) ∵ enter ! (𝓣 .C) (𝓣 .Λ) code.function (v ∷ s ∷ s₂ ∷ []) _ $
         alloc1 ! (λ l₀. alloc1 ! (λ l₁. alloc1 ! (λ l₂. alloc1 ! (λ l₃. alloc1 ! (λ l₄. alloc1 ! (λ l₅. alloc1 ! (λ l₆. alloc1 ! (λ l₇. alloc1 ! (λ l₈. alloc1 ! (λ l₉. alloc1 ! (λ l₁₀. alloc1 ! (λ l₁₁. alloc1 ! (λ l₁₂. alloc1 ! (λ l₁₃. alloc1 ! (λ l₁₄. alloc0 ! $ params1 ! $
-        pass1 ! (init ! 26 refl (going-value .typed 𝓤 H A W g (goingVal g) gg)) $ pass1 ! (init ! 24 refl (tt, (tt, (record { fits = room .0 }, tt)))) $ pass1 ! (init ! 22 refl (tt, (tt, (record { fits = room₂ .0 }, tt)))) $ pass0 ! $
+        pass1 ! (init ! 26 refl (going-value .typed 𝓤 H A W g v gg)) $ pass1 ! (init ! 24 refl (tt, (tt, (record { fits = room .0 }, tt)))) $ pass1 ! (init ! 22 refl (tt, (tt, (record { fits = room₂ .0 }, tt)))) $ pass0 ! $
         -- [_14; …; _0; …; the tokens; what the parameters own]
         move ! (31 ∷ []) $ fsplit ! $ drop ! $ fsplit ! $ move ! (1 ∷ []) $ fsplit ! $ move ! (1 ∷ []) $ drop ! $ move ! (32 ∷ []) $ split ! $
-        -- [the table's token; the tape's token; tape; pools; _14 at 4; …]
-        move ! (2 ∷ []) $ use1 W (Tape ⊛ Tape) (shr-slice-copy 𝓤 H A W (named 1) κ₂ u8 .twice t (s₂ ∷ [])) $ split ! $ move ! (3 ∷ 0 ∷ []) $ use2 W (raw (After 𝓤 H A mem run .pre to-after)) goes-after $
-        -- [what `frame_after` asks; tape; the table's token; pools; _14 at 4; …; _4 at 24; _3 at 26; _2 at 28; _1 at 30; _0 at 32]
-        calls-at ! (fmOf 𝓤 H (W .laws) 𝓣) (After 𝓤 H A mem run) known-after to-after (and-then ! (load ! (from ! (stop !)) (look ! 26 refl)) (and-then ! (load ! (from ! (stop !)) (look ! 30 refl)) (no-more !))) (λ w.
-        use1 W (later (some (λ (r : Place). (Token ⊛ ‵ (PlaceR .own r (w ∷ []))) ⊛ raw (ensured 𝓤 H A fa.ended (fa.clauses 𝓤 H A mem run) (κ₂, tt) (t, (g, tt)) tt r)))) (id⊢ 𝓤 _) $ await ! tt $ pick ! (λ r.
-        split ! $ move ! (1 ∷ []) $ use1 W (raw (fact 𝓤 (Found r))) (said-after r) $ heard ! (Found r) (λ e. split ! $ move ! (1 ∷ []) $ rewrite ! 0 (λ (z : Place). ‵ (PlaceR .own z (w ∷ []))) (e .0) refl $
-        peeks ! PlaceR (Is PlaceR) (shows 𝓤 H A PlaceR) place (w ∷ []) (λ gp. land ! (from ! (stop !)) (init ! 25 refl (place-value .typed 𝓤 H A W place w gp)) $ rewrite ! 25 (λ (u : Val). ‵ (fat fullShare (τ 4) l₄ 0 u)) (place-value .is place w gp) refl $ drop ! $
-        -- [the tape's token; tape; the table's token; pools; _14 at 4; …]
-        use0 W (raw (BookOf 𝓤 H A mem run .pre to-book)) goes-book $
-        calls-at ! (fmOf 𝓤 H (W .laws) 𝓣) (BookOf 𝓤 H A mem run) known-book to-book (and-then ! (load ! (from ! (stop !)) (look ! 31 refl)) (no-more !)) (λ w₁.
-        use1 W (later (some (λ (r₁ : Book). (‵ ftrue ⊛ ‵ (BookR .own r₁ (w₁ ∷ []))) ⊛ raw (ensured 𝓤 H A bo.ended (bo.clauses 𝓤 H A mem run) tt (g, tt) tt r₁)))) (id⊢ 𝓤 _) $ await ! tt $ pick ! (λ r₁.
-        split ! $ move ! (1 ∷ []) $ use1 W (raw (fact 𝓤 (r₁ ≡ bk))) (said-book r₁) $ heard ! (r₁ ≡ bk) (λ e₁. split ! $ drop ! $ rewrite ! 0 (λ (z : Book). ‵ (BookR .own z (w₁ ∷ []))) e₁ refl $
-        peeks ! BookR (Is BookR) (shows 𝓤 H A BookR) bk (w₁ ∷ []) (λ gb. land ! (from ! (stop !)) (init ! 23 refl (book-value .typed 𝓤 H A W bk w₁ gb)) $ rewrite ! 23 (λ (u : Val). ‵ (fat fullShare (τ 5) l₅ 0 u)) (book-value .is bk w₁ gb) refl $ drop ! $
-        use0 W (raw (StartOf 𝓤 H A mem run .pre to-start)) (goes-start (place-value .its place w gp)) $
-        calls-at ! (fmOf 𝓤 H (W .laws) 𝓣) (StartOf 𝓤 H A mem run) known-start to-start (and-then ! (load ! (from ! (stop !)) (look ! 25 refl)) (no-more !)) (λ w₅.
-        use1 W (later (some (λ (j : ℕ). (‵ ftrue ⊛ ‵ (usize .own j (w₅ ∷ []))) ⊛ raw (ensured 𝓤 H A so.ended (so.clauses 𝓤 H A mem run) tt (place, tt) tt j)))) (id⊢ 𝓤 _) $ await ! tt $ pick ! (λ j₅.
-        split ! $ move ! (1 ∷ []) $ use1 W (raw (fact 𝓤 (j₅ ≡ place .start))) (said-start j₅) $ heard ! (j₅ ≡ place .start) (λ e₅. split ! $ drop ! $ rewrite ! 0 (λ (j : ℕ). ‵ (usize .own j (w₅ ∷ []))) e₅ refl $
-        peeks ! usize (Is usize) (shows 𝓤 H A usize) (place .start) (w₅ ∷ []) (λ is₅. land ! (from ! (stop !)) (init ! 21 refl (uint-lawful 𝓤 H A W w64 .typed (place .start) _ is₅ .0)) $ rewrite ! 21 (λ (u : Val). ‵ (fat fullShare (τ 6) l₆ 0 u)) (ap only (is₅ .0)) refl $ drop ! $
-        use0 W (raw (EndOf 𝓤 H A mem run .pre to-end)) (goes-end (place-value .its place w gp)) $
-        calls-at ! (fmOf 𝓤 H (W .laws) 𝓣) (EndOf 𝓤 H A mem run) known-end to-end (and-then ! (load ! (from ! (stop !)) (look ! 25 refl)) (no-more !)) (λ w₆.
-        use1 W (later (some (λ (j : ℕ). (‵ ftrue ⊛ ‵ (usize .own j (w₆ ∷ []))) ⊛ raw (ensured 𝓤 H A eo.ended (eo.clauses 𝓤 H A mem run) tt (place, tt) tt j)))) (id⊢ 𝓤 _) $ await ! tt $ pick ! (λ j₆.
-        split ! $ move ! (1 ∷ []) $ use1 W (raw (fact 𝓤 (j₆ ≡ place .end))) (said-end j₆) $ heard ! (j₆ ≡ place .end) (λ e₆. split ! $ drop ! $ rewrite ! 0 (λ (j : ℕ). ‵ (usize .own j (w₆ ∷ []))) e₆ refl $
-        peeks ! usize (Is usize) (shows 𝓤 H A usize) (place .end) (w₆ ∷ []) (λ is₆. land ! (from ! (stop !)) (init ! 19 refl (uint-lawful 𝓤 H A W w64 .typed (place .end) _ is₆ .0)) $ rewrite ! 19 (λ (u : Val). ‵ (fat fullShare (τ 7) l₇ 0 u)) (ap only (is₆ .0)) refl $ drop ! $
-        -- [the tape's token; tape; the table's token; pools; _14 at 4; _13 at 6; _12 at 8; _11 at 10; _10 at 12; _9 at 14; _8 at 16; _7 at 18; _6 at 20; _5 at 22; _4 at 24; _3 at 26; _2 at 28; _1 at 30; _0 at 32]
-        assigns ! (rep ! 217 (lit ! tt)) (from ! (stop !)) (init ! 16 refl (typed-zeros 𝓤 H A W 217)) $
-        assigns ! (addr ! (from ! (fld ! refl (hop ! (look-in ! 28 (sub ! 0 refl (whole !))) (stop !))))) (from ! (stop !)) (init ! 12 refl (tt, tt)) $
-        assigns ! (agg ! (and-then ! (load ! (from ! (stop !)) (look ! 12 refl)) (and-then ! (load ! (from ! (fld ! refl (stop !))) (look-in ! 28 (sub ! 1 refl (whole !)))) (no-more !)))) (from ! (stop !)) (init ! 10 refl (tt, (tt, (record { fits = room .0 }, tt)))) $
-        use0 W (raw (AtMidnight 𝓤 H A mem run .pre to-midnight)) goes-midnight $
-        calls-at ! (fmOf 𝓤 H (W .laws) 𝓣) (AtMidnight 𝓤 H A mem run) known-midnight to-midnight (no-more !) (λ w₇.
-        use1 W (later (some (λ (r : Caller). (‵ ftrue ⊛ ‵ (CallerR .own r (w₇ ∷ []))) ⊛ raw (ensured 𝓤 H A am.ended (am.clauses 𝓤 H A mem run) tt tt tt r)))) (id⊢ 𝓤 _) $ await ! tt $ pick ! (λ r₇.
-        split ! $ move ! (1 ∷ []) $ use1 W (raw (fact 𝓤 (r₇ ≡ midnight))) (said-midnight r₇) $ heard ! (r₇ ≡ midnight) (λ e₇. split ! $ drop ! $ rewrite ! 0 (λ (z : Caller). ‵ (CallerR .own z (w₇ ∷ []))) e₇ refl $
-        peeks ! CallerR (Is CallerR) (shows 𝓤 H A CallerR) midnight (w₇ ∷ []) (λ gm. land ! (from ! (stop !)) (init ! 9 refl (caller-value .typed 𝓤 H A W midnight w₇ gm)) $ rewrite ! 9 (λ (u : Val). ‵ (fat fullShare (τ 12) l₁₂ 0 u)) (caller-value .is midnight w₇ gm) refl $ drop ! $
-        assigns ! (addr ! (from ! (stop !))) (from ! (stop !)) (init ! 6 refl (tt, tt)) $
-        assigns ! (agg ! (and-then ! (load ! (from ! (stop !)) (look ! 6 refl)) (and-then ! (lit ! tt) (no-more !)))) (from ! (stop !)) (init ! 4 refl (tt, (tt, (record { fits = lit< tt }, tt)))) $
-        -- the array's elements are lent, for ν
-        move ! (16 ∷ []) $ use1 W (‵ (cells (memory.mem u8) zeros l₈ 0)) (zeros-out 𝓤 H A W 217 l₈) $ lft-new ! tt (λ ν. move ! (1 ∷ []) $
-        use1 W (later (some (λ (δ : GName). Lent l₈ ν δ (length zeros) ⊛ ‵ (flent (ν ∷ []) (Held u8 (length zeros) l₈ 0 δ))))) (lends-slice 𝓤 H A W u8 (named 2) (ν ∷ []) zeros l₈ 0 room-zeros) $ await ! tt $ pick ! (λ δ. split ! $
-        rewrite ! 0 (λ (m : ℕ). Lent l₈ ν δ m) long refl $
-        -- [the array, lent; the lender's part; its token; the tape's token; tape; the table's token; pools; _14 at 7; …]
-        move ! (4 ∷ []) $ use1 W (Tape ⊛ Tape) (shr-slice-copy 𝓤 H A W (named 1) κ₂ u8 .twice t (s₂ ∷ [])) $ split ! $
-        move ! (0 ∷ 2 ∷ []) $ join ! $ move ! (6 ∷ 0 ∷ []) $ join ! $ move ! (4 ∷ 3 ∷ []) $ join ! $ move ! (4 ∷ 0 ∷ 1 ∷ []) $
-        use3 W (raw (Step 𝓤 H A mem run .pre (to-step l₈ ν δ))) (goes-step l₈ ν δ (book-value .its bk w₁ gb) (caller-value .its midnight w₇ gm) (is₅ .1) (is₆ .1) (subst (λ (z : Place). (z .start ≤ z .end) × (z .end ≤ length (t .now))) (e .0) (e .1, e .2))) $
-        -- [what the frame call asks; tape; the lender's part; _14 at 3; …; _12 at 7; _11 at 9; …; _9 at 13; that _8 dies at 15; _7 at 16; _6 at 18; _5 at 20; _4 at 22; _3 at 24; _2 at 26; _1 at 28; _0 at 30]
-        calls-at ! (fmOf 𝓤 H (W .laws) 𝓣) (Step 𝓤 H A mem run) known-step (to-step l₈ ν δ)
-        (and-then ! (load ! (from ! (stop !)) (look ! 20 refl)) (and-then ! (load ! (from ! (stop !)) (look ! 9 refl)) (and-then ! (load ! (from ! (stop !)) (look ! 24 refl)) (and-then ! (load ! (from ! (stop !)) (look ! 18 refl))
-        (and-then ! (load ! (from ! (stop !)) (look ! 16 refl)) (and-then ! (load ! (from ! (stop !)) (look ! 7 refl)) (and-then ! (load ! (from ! (stop !)) (look ! 3 refl)) (no-more !)))))))) (λ w₂.
-        use1 W (later (some (λ (r₂ : Stepped). ((‵ (flft κ q) ⊛ ‵ (flft κ₂ q₂) ⊛ ‵ (flft (ν ∷ []) fullShare) ⊛ ‵ ftrue) ⊛ ‵ (SteppedR .own r₂ (w₂ ∷ [])))
-        ⊛ raw (ensured 𝓤 H A sp.ended (sp.clauses 𝓤 H A mem run) (κ, (κ₂, (ν ∷ [], tt))) (bk, (x, (t, (place .start, (place .end, (midnight, (y l₈ δ, tt))))))) tt r₂)))) (id⊢ 𝓤 _) $ await ! tt $ pick ! (λ r₂.
-        split ! $ move ! (1 ∷ []) $ use1 W (some (λ (zs : Lasts). ‵ (lasts sp.ended (κ, (κ₂, (ν ∷ [], tt))) (bk, (x, (t, (place .start, (place .end, (midnight, (y l₈ δ, tt))))))) zs) ⊛ raw (fact 𝓤 (Stepping r₂ zs)))) (id⊢ 𝓤 _) $ pick ! (λ zs.
-        split ! $ move ! (1 ∷ []) $ heard ! (Stepping r₂ zs) (λ e₂. fsplit ! $ drop ! $ fsplit ! $ fsplit ! $ move ! (1 ∷ []) $ feqL ! (λ lp. move ! (1 ∷ []) $
-        fsplit ! $ drop ! $ fsplit ! $ drop ! $ fsplit ! $ drop ! $ fsplit ! $ drop ! $ fsplit ! $ fsplit ! $ move ! (1 ∷ []) $ feqL ! (λ lo.
-        -- [the last output; true; the last table; the tokens and the result; tape; the lender's part; _14 at 6; …]
-        move ! (3 ∷ []) $ split ! $ move ! (1 ∷ []) $ peeks ! SteppedR (Is SteppedR) (shows 𝓤 H A SteppedR) r₂ (w₂ ∷ []) (λ gs. land ! (from ! (stop !)) (init ! 17 refl (stepped-value .typed 𝓤 H A W r₂ w₂ gs)) $
-        rewrite ! 17 (λ (u : Val). ‵ (fat fullShare (τ 9) l₉ 0 u)) (stepped-value .is r₂ w₂ gs) refl $ drop ! $
-        -- [the tokens; the last output; true; the last table; tape; the lender's part; _14 at 6; …]
-        split ! $ move ! (1 ∷ []) $ split ! $ move ! (1 ∷ []) $ split ! $ lft-end ! tt $ move ! (0 ∷ 8 ∷ 4 ∷ []) $
-        use3 W (later (‵ (Arr (memory.mem u8) (length zeros) .lies (zs .1 .1 .1 .1 .1 .1 .0) l₈ 0))) (slice-back 𝓤 H A W u8 (ν ∷ []) δ (zs .1 .1 .1 .1 .1 .1 .0) (length zeros) l₈ 0) $ await ! tt $ fsplit ! $ drop ! $
-        use1 W (‵ (froom (τ 8) l₈ 0)) (elems-room u8 𝓤 H A W 217 l₈ (zs .1 .1 .1 .1 .1 .1 .0) (lo ∙ long)) $
-        -- [room for _8; true; the tape's token; the table's token; true; the last table; tape; _14 at 7; …]
-        use0 W (raw (Counted 𝓤 H A mem run .pre (to-counted r₂))) (goes-counted r₂ (stepped-value .its r₂ w₂ gs) (place-value .its place w gp) small) $
-        -- [what `counted` asks; room for _8; …; _14 at 8; …; _9 at 18; that _8 dies at 20; _7 at 21; _6 at 23; _5 at 25; _4 at 27; _3 at 29; _2 at 31; _1 at 33; _0 at 35]
-        calls-at ! (fmOf 𝓤 H (W .laws) 𝓣) (Counted 𝓤 H A mem run) known-counted (to-counted r₂)
-        (and-then ! (load ! (from ! (stop !)) (look ! 33 refl)) (and-then ! (load ! (from ! (stop !)) (look ! 18 refl)) (and-then ! (load ! (from ! (stop !)) (look ! 27 refl)) (no-more !)))) (λ w₃.
-        use1 W (later (some (λ (r₃ : Going). (‵ ftrue ⊛ ‵ (GoingR .own r₃ (w₃ ∷ []))) ⊛ raw (ensured 𝓤 H A ct.ended (ct.clauses 𝓤 H A mem run) tt (g, (r₂, (place, tt))) tt r₃)))) (id⊢ 𝓤 _) $ await ! tt $ pick ! (λ r₃.
-        split ! $ move ! (1 ∷ []) $ use1 W (raw (fact 𝓤 (Gone r₂ r₃))) (said-counted r₂ r₃) $ heard ! (Gone r₂ r₃) (λ e₃. split ! $ drop ! $
-        peeks ! GoingR (Is GoingR) (shows 𝓤 H A GoingR) r₃ (w₃ ∷ []) (λ gr. land ! (from ! (stop !)) (init ! 35 refl (going-value .typed 𝓤 H A W r₃ w₃ gr)) $ rewrite ! 35 (λ (u : Val). ‵ (fat fullShare (τ 0) l₀ 0 u)) (going-value .is r₃ w₃ gr) refl $ drop ! $
-        -- [room for _8; true; the tape's token; the table's token; true; the last table; tape; _14 at 7; …; _9 at 17; that _8 dies at 19; _7 at 20; …; _0 at 34]
-        returns ! (look ! 34 refl) $ forget ! 7 refl $ forget ! 9 refl $ forget ! 11 refl $ forget ! 13 refl $ forget ! 15 refl $ forget ! 17 refl $ forget ! 20 refl $ forget ! 22 refl $ forget ! 24 refl $ forget ! 26 refl $ forget ! 28 refl $ forget ! 30 refl $ forget ! 32 refl $ forget ! 34 refl $
-        move ! (34 ∷ 35 ∷ []) $ free1 ! $ move ! (32 ∷ 33 ∷ []) $ free1 ! $ move ! (30 ∷ 31 ∷ []) $ free1 ! $ move ! (28 ∷ 29 ∷ []) $ free1 ! $ move ! (26 ∷ 27 ∷ []) $ free1 ! $ move ! (24 ∷ 25 ∷ []) $ free1 ! $ move ! (22 ∷ 23 ∷ []) $ free1 ! $ move ! (20 ∷ 21 ∷ []) $ free1 ! $ move ! (0 ∷ 19 ∷ []) $ free1 ! $
-        move ! (16 ∷ 17 ∷ []) $ free1 ! $ move ! (14 ∷ 15 ∷ []) $ free1 ! $ move ! (12 ∷ 13 ∷ []) $ free1 ! $ move ! (10 ∷ 11 ∷ []) $ free1 ! $ move ! (8 ∷ 9 ∷ []) $ free1 ! $ move ! (6 ∷ 7 ∷ []) $ free1 ! $ free0 ! $
-        by ! (exits r₃ (zs .1 .0) (turned (t .now) g ys zeros r₂ (zs .1 .0) (zs .1 .1 .1 .1 .1 .1 .0) long e₂ r₃ e₃) (going-value .its r₃ w₃ gr) lp)))))))))))))))))))))))))))))))))))))))))))))))))
+        by ! (meets room small (τ 0) (τ 5) (τ 9) refl refl refl l₀ l₁ l₂ l₃ l₄ l₅ l₆ l₇ l₈ l₉ l₁₀ l₁₁ l₁₂ l₁₃ l₁₄))))))))))))))))
 
 module _ {M : Type 1} (𝓤 : URA M) (H : Heap 𝓤) (A : Atoms 𝓤) (W : Given 𝓤 H A) (mem : Memory → SProp 𝓤) (run : Routine → Fun 𝓤) where
   put-frame-walks : (𝓣 : Tables 𝓤 H) → Triple 𝓤 (𝓣 .C #day·frame-after) (After 𝓤 H A mem run) → Triple 𝓤 (𝓣 .C #day·book-of) (BookOf 𝓤 H A mem run) → Triple 𝓤 (𝓣 .C #day·at-midnight) (AtMidnight 𝓤 H A mem run) → Triple 𝓤 (𝓣 .C #day·start-of) (StartOf 𝓤 H A mem run) → Triple 𝓤 (𝓣 .C #day·end-of) (EndOf 𝓤 H A mem run) → Triple 𝓤 (𝓣 .C #table-step·step-part) (Step 𝓤 H A mem run) → Triple 𝓤 (𝓣 .C #day·counted) (Counted 𝓤 H A mem run)
@@ -377,7 +408,7 @@ module _ {M : Type 1} (𝓤 : URA M) (H : Heap 𝓤) (A : Atoms 𝓤) (W : Given
   put-frame-walks 𝓣 known-after known-book known-midnight known-start known-end known-step known-counted = walked 𝓤 H A f.ended stayed (f.clauses 𝓤 H A mem run) (WpFn 𝓤 H (𝓣 .C) (𝓣 .Λ) code.function)
       (λ κs. (goingVals, (slice-vals, (slice-vals, tt)))) (λ κs. (going-value .tells, (mut-slice-tells (named 0) (κs .0) R, (shr-slice-tells (named 1) (κs .1 .0) u8, tt))))
       (λ κs qs bounds a g are. needs 𝓤 ((a .0 .day .accepted < 2 ^ 63) × (a .0 .day .others < 2 ^ 63)) _
-      (walk 𝓤 H A W mem run (κs .0) (κs .1 .0) (qs .0) (qs .1 .0) (a .0) (are .0) (a .1 .0 .ptr .0) (a .1 .0 .ptr .1) (a .1 .0 .name) (a .1 .0 .now) (a .1 .1 .0)
+      (walk 𝓤 H A W mem run (κs .0) (κs .1 .0) (qs .0) (qs .1 .0) (a .0) (goingVal (a .0)) (are .0) (a .1 .0 .ptr .0) (a .1 .0 .ptr .1) (a .1 .0 .name) (a .1 .0 .now) (a .1 .1 .0)
       𝓣 known-after known-book known-midnight known-start known-end known-step known-counted (are .1 .0 .0 .1) (are .1 .1 .0 .0 .1)))
 
 put-frame-meets : {M : Type 1} (𝓤 : URA M) (H : Heap 𝓤) (A : Atoms 𝓤) → Given 𝓤 H A → (mem : Memory → SProp 𝓤) (run : Routine → Fun 𝓤) (𝓣 : Tables 𝓤 H)
