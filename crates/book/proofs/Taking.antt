@@ -234,6 +234,3 @@ module _ (n last : ℕ) (tgt : Field) (hs : List Brought) (lots : Lots n last hs
   target-trade g m e =
       let (h, mh, eh, th) = under-lot in
       lots .pair g h m mh (target-one tgt (g .id) (h .id) e eh) .trade ∙ sym th
-
-  pub target-range : firstUnder (keep (under tgt) (flat stands hs)) < n
-  target-range = let (h, mh, eh, th) = under-lot in rw th (lots .fine h mh .trade)

@@ -136,9 +136,6 @@ module _ (book : Book) (ns ks : List (List ℕ)) (body : List ℕ) (y : Ready bo
     pub target-is : targetTrade body (take (book .live) (tableOf ns ks)) ≡ cond (ltb (run .start) (run .stop)) (numberAt ns (run .start) 2) 0
     target-is = go (decLt (run .start) (run .stop))
       where
-        rs : List Pool
-        rs = take (book .live) (tableOf ns ks)
-
         go : Dec (run .start < run .stop) → targetTrade body (take (book .live) (tableOf ns ks)) ≡ cond (ltb (run .start) (run .stop)) (numberAt ns (run .start) 2) 0
         go (yes h) =
             let t : targetTrade body (take (book .live) (tableOf ns ks)) ≡ getD (take (book .live) (tableOf ns ks)) (run .start) noPool .trade =

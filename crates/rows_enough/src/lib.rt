@@ -72,12 +72,11 @@ fn from_of(kind: MessageType, answer: Answer, before: usize) -> usize
     ensures { λ r. ⌜ r ≡ fromOf kind answer before ⌝ }
 {
     match answer {
-        Answer::Accepted(_) => match kind {
-            MessageType::On => before,
-            MessageType::Cc => 0,
-            MessageType::Dk => 0,
-            MessageType::Cx => 0,
-            MessageType::Other => 0,
+        Answer::Accepted(_) => {
+            if message_type::is_on(kind) {
+                return before;
+            }
+            0
         },
         Answer::Rejected(_) => 0,
         Answer::Dked(_) => 0,

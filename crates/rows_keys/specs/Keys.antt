@@ -36,6 +36,16 @@ wordAt s at =
     + getD s (at + 6) 0 * 281474976710656
     + getD s (at + 7) 0 * 72057594037927936
 
--- the bucket of a row: three words that cover it, each by a prime, so that rows which differ in a few digits seldom share one
+-- the six bytes from a place, likewise
+abbrev pub sixAt : List ℕ → ℕ → ℕ
+sixAt s at =
+    getD s at 0
+    + getD s (at + 1) 0 * 256
+    + getD s (at + 2) 0 * 65536
+    + getD s (at + 3) 0 * 16777216
+    + getD s (at + 4) 0 * 4294967296
+    + getD s (at + 5) 0 * 1099511627776
+
+-- the bucket of a row: two words and the six bytes that are left, each by a prime, so that rows which differ in a few digits seldom share one
 unfoldable pub bucketOf : List ℕ → ℕ
-bucketOf key = (wordAt key 0 % 4093 + wordAt key 8 % 4091 + wordAt key 14 % 4079) % bucketCount
+bucketOf key = (wordAt key 0 % 4093 + wordAt key 8 % 4091 + sixAt key 16 % 4079) % bucketCount

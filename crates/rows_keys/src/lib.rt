@@ -6,7 +6,7 @@ ghost use lib.ListN.{length};
 ghost use Rattle.lists.specs.Lists.{same};
 ghost use Rattle.layout.specs.Columns.{lotId, poolNumber, originalFace};
 ghost use Rattle.rows.specs.Rows.{poolFrom, originalFrom, keyWidth};
-ghost use Rattle.rows_keys.specs.Keys.{keyOf, alike, wordAt, bucketOf, bucketCount};
+ghost use Rattle.rows_keys.specs.Keys.{keyOf, alike, wordAt, sixAt, bucketOf, bucketCount};
 
 // Every bucket is below this number.
 pub const BUCKETS: usize = 4096;
@@ -104,10 +104,21 @@ fn word(key: &[u8], at: usize) -> u64
     a + b * 65536 + c * 4294967296 + d * 281474976710656
 }
 
+// The six bytes from at as one number.
+fn six(key: &[u8], at: usize) -> u64
+    requires { ⌜ (length (now key) ≡ keyWidth) × (at + 6 ≤ keyWidth) ⌝ }
+    ensures { λ r. ⌜ r ≡ sixAt (now (key .entry)) at ⌝ }
+{
+    let a = pair(key[at], key[at + 1]);
+    let b = pair(key[at + 2], key[at + 3]);
+    let c = pair(key[at + 4], key[at + 5]);
+    a + b * 65536 + c * 4294967296
+}
+
 // The bucket of a row: rows that differ in a few digits seldom share one. That a row has its width is told to callers who find it in a slice of rows.
 pub fn bucket(key: &[u8; rows::KEY_WIDTH]) -> usize
     ensures { λ r. ⌜ (r ≡ bucketOf (now (key .entry))) × (r < bucketCount) × (length (now (key .entry)) ≡ keyWidth) ⌝ }
 {
-    let n = (word(key, 0) % 4093 + word(key, 8) % 4091 + word(key, 14) % 4079) % 4096;
+    let n = (word(key, 0) % 4093 + word(key, 8) % 4091 + six(key, 16) % 4079) % 4096;
     n as usize
 }
