@@ -167,11 +167,10 @@ fn pars_fine(v: Values, numbers: &[[u64; rows::NUMBERS]], live: usize) -> bool
     ensures { λ r. ⌜ ((ks : List (List ℕ)) → r ≡ parsFrom 0 (tradesOf v) (take live (tableOf (now (numbers .entry)) ks))) ⌝ }
 {
     let count = v.lent.tradeCount;
-    let trades = v.trades;
     let sums = weights(numbers, live);
     let mut i: usize = 0;
     while i < count {
-        let t = trades[i];
+        let t = v.trades[i];
         let sum = sums[i];
         i += 1;
         if t.par < sum {

@@ -9,16 +9,16 @@ use Rattle.check_soundness.proofs.pars_fine.Tie as tie
 use Rattle.check_soundness.proofs.pars_fine.Statement.{statement}
 
 abbrev Inv-loop : tie.InvT-loop
-Inv-loop numbers live count trades sums i₀ i = (i ≤ count) × Pars trades count numbers live i
+Inv-loop numbers live v count sums i₀ i = (i ≤ count) × Pars (v .trades) count numbers live i
 
 abbrev μ-loop : tie.MeasureT-loop
-μ-loop numbers live count trades sums i₀ i = count - i
+μ-loop numbers live v count sums i₀ i = count - i
 
-sixty-four : (c : tie.Start Inv-loop μ-loop) → length (c .args .v .trades) ≡ tradesMax
-sixty-four c = sym (length-map (c .args .v .trades) _) ∙ c .good .0 .1 .1 .0 .1 .0 .1
+sixty-four : (c : tie.Start Inv-loop μ-loop) → length (c .args .t1 .trades) ≡ tradesMax
+sixty-four c = sym (length-map (c .args .t1 .trades) _) ∙ c .good .0 .1 .1 .0 .1 .0 .1
 
 weights-requires : tie.Need-weights-requires Inv-loop μ-loop
-weights-requires c κs = (omega arith, omega arith, c .before .pre .3)
+weights-requires c κs = (omega arith, omega arith, c .pre .3)
 
 loop-holds : tie.Need-loop-holds Inv-loop μ-loop
 loop-holds c = (omega arith, λ ks. refl)
@@ -26,8 +26,8 @@ loop-holds c = (omega arith, λ ks. refl)
 mul-t : tie.Need-mul-t Inv-loop μ-loop
 mul-t c = omega arith
 
-array-copy-out-t : tie.Need-array-copy-out-t Inv-loop μ-loop
-array-copy-out-t c = omega (arith, sixty-four (c .before .before .before .before))
+element-copy-out-t : tie.Need-element-copy-out-t Inv-loop μ-loop
+element-copy-out-t c = omega (arith, sixty-four (c .before .before .before))
 
 mul-sum : tie.Need-mul-sum Inv-loop μ-loop
 mul-sum c = omega arith
@@ -40,30 +40,30 @@ add-i c = omega arith
 
 returns : tie.Need-returns Inv-loop μ-loop
 returns c =
-    let a = c .before .before .before .before .before .before .before .args in
+    let a = c .before .before .before .before .before .before .args in
     let l = c .before .before .before .before .loop in
-    pars-heavy (a .v .trades) (a .v .lent .tradeCount) (a .numbers .now) (a .live) (l .i) (l .inv .1) (c .before .before .before .before .before .weights .result) (c .before .before .before .before .before .weights .ensures) (a .v) (c .before .before .before .before .before .before .before .pre .4) (omega arith) (sixty-four (c .before .before .before .before .before .before .before)) (omega arith) (c .if1 .taken)
+    pars-heavy (a .t1 .trades) (a .t1 .lent .tradeCount) (a .numbers .now) (a .live) (l .i) (l .inv .1) (c .before .before .before .before .before .weights .result) (c .before .before .before .before .before .weights .ensures) (a .t1) (c .before .before .before .before .before .before .pre .4) (omega arith) (sixty-four (c .before .before .before .before .before .before)) (omega arith) (c .if1 .taken)
 
 returns-2 : tie.Need-returns-2 Inv-loop μ-loop
 returns-2 c =
-    let a = c .before .before .before .before .before .before .before .before .before .before .args in
+    let a = c .before .before .before .before .before .before .before .before .before .args in
     let l = c .before .before .before .before .before .before .before .loop in
-    pars-other (a .v .trades) (a .v .lent .tradeCount) (a .numbers .now) (a .live) (l .i) (l .inv .1) (c .before .before .before .before .before .before .before .before .weights .result) (c .before .before .before .before .before .before .before .before .weights .ensures) (a .v) (c .before .before .before .before .before .before .before .before .before .before .pre .4) (omega arith) (sixty-four (c .before .before .before .before .before .before .before .before .before .before)) (omega arith) (c .before .before .before .if1 .left) (c .if2 .taken)
+    pars-other (a .t1 .trades) (a .t1 .lent .tradeCount) (a .numbers .now) (a .live) (l .i) (l .inv .1) (c .before .before .before .before .before .before .before .before .weights .result) (c .before .before .before .before .before .before .before .before .weights .ensures) (a .t1) (c .before .before .before .before .before .before .before .before .before .pre .4) (omega arith) (sixty-four (c .before .before .before .before .before .before .before .before .before)) (omega arith) (c .before .before .before .if1 .left) (c .if2 .taken)
 
 loop-less : tie.Need-loop-less Inv-loop μ-loop
 loop-less c = omega arith
 
 loop-again : tie.Need-loop-again Inv-loop μ-loop
 loop-again c =
-    let a = c .before .before .before .before .before .before .before .before .before .before .args in
+    let a = c .before .before .before .before .before .before .before .before .before .args in
     let l = c .before .before .before .before .before .before .before .loop in
-    (omega arith, pars-more (a .v .trades) (a .v .lent .tradeCount) (a .numbers .now) (a .live) (l .i) (l .inv .1) (c .before .before .before .before .before .before .before .before .weights .result) (c .before .before .before .before .before .before .before .before .weights .ensures) (a .v) (c .before .before .before .before .before .before .before .before .before .before .pre .4) (omega arith) (sixty-four (c .before .before .before .before .before .before .before .before .before .before)) (omega arith) (c .before .before .before .if1 .left) (c .if2 .left))
+    (omega arith, pars-more (a .t1 .trades) (a .t1 .lent .tradeCount) (a .numbers .now) (a .live) (l .i) (l .inv .1) (c .before .before .before .before .before .before .before .before .weights .result) (c .before .before .before .before .before .before .before .before .weights .ensures) (a .t1) (c .before .before .before .before .before .before .before .before .before .pre .4) (omega arith) (sixty-four (c .before .before .before .before .before .before .before .before .before)) (omega arith) (c .before .before .before .if1 .left) (c .if2 .left))
 
 returns-3 : tie.Need-returns-3 Inv-loop μ-loop
 returns-3 c =
-    let a = c .before .before .before .before .args in
+    let a = c .before .before .before .args in
     let l = c .before .loop in
-    pars-done (a .v .trades) (a .v .lent .tradeCount) (a .numbers .now) (a .live) (l .i) (l .inv .1) (c .loop-test .left)
+    pars-done (a .t1 .trades) (a .t1 .lent .tradeCount) (a .numbers .now) (a .live) (l .i) (l .inv .1) (c .loop-test .left)
 
 pub pars-fine-spec : {M : Type 1} → statement M
 pars-fine-spec =
@@ -74,7 +74,7 @@ pars-fine-spec =
     weights-requires
     loop-holds
     mul-t
-    array-copy-out-t
+    element-copy-out-t
     mul-sum
     array-read-sum
     add-i
