@@ -1,100 +1,54 @@
--- An image says all that a book holds: a book's words are an image and say that book, and the words of the book that an image says are that image. In an image a book with the same trades is written by its rest alone.
+-- An image says all that a book holds: a book that is written is an image and is said by it; in an image a book with the same trades is written by its rest alone.
 use mathlib.Core.Path.{_≡_, refl, sym, ap, _∙_}
 use mathlib.Core.List.{List, [], _∷_, _++_, map, flatMap, append-assoc, List·Memᴰ, List·Memᴰ·head, List·Memᴰ·tail}
-use mathlib.Core.Bool.{Bool, true, false, _&&_}
-use Prim.Native.Nat.{ℕ, zero, suc, _+_, _*_, _-_, _≤_}
+use mathlib.Core.Bool.{Bool, true, false, cond, _&&_}
+use Prim.Native.Nat.{ℕ, _+_, _*_, _<_}
+use native.Mathlib.Nat.{zero-add}
 use native.Mathlib.Omega.{arith}
-use lib.ListN.{length, take, drop, length-append, take-append-drop}
-use lib.Seq.{take-at, drop-at, take-all, length-take-le}
-use lib.Dec.{eqb, leb}
-use borrow.Author.Tests.{eq-eqb, leb-true, leb-false}
-use Rattle.lists.specs.Lists.{within, part, pasted, tab, all}
-use Rattle.lists.proofs.Parts.{part-zero, length-part, in-within, out-short}
-use Rattle.lists.proofs.Pasting.{paste-in, paste-out, paste-more}
+use lib.ListN.{length, take, drop, getD, replicate, length-append, List·getD-map}
+use lib.Seq.{take-at, drop-at, take-all}
+use lib.Dec.{eqb, ltb}
+use borrow.Author.Tests.{eq-eqb, ltb-false}
+use Rattle.lists.specs.Lists.{part, pasted, tab, all}
+use Rattle.lists.proofs.Pasting.{paste-whole, length-pasted, part-pasted}
+use Rattle.lists.proofs.Tables.{getD-tab, tab-same}
 use Rattle.lists.proofs.Tests.{both}
 use Rattle.book.specs.declared.Trade.{Trade}
 use Rattle.book.specs.declared.Book.{Book}
-use Rattle.image.specs.Images.{tradesWords, bookWords, tradeImage, restImage, imageOf, rowAt, rowsOf, restOf, tradeFits, restFits, isImage, tradeIn, bookFrom, bookIn}
-use Rattle.image.specs.Formed.{FormedTrade, Formed}
-use Rattle.image.proofs.Cutting.{part-next, part-whole}
-use Rattle.image.proofs.Told.{image-length, image-rest}
-use Rattle.image.proofs.TradeBack.{trade-again, length-trade, trade-back, trade-fits}
-use Rattle.image.proofs.RestBack.{rest-again, length-rest, rest-back, rest-fits}
+use Rattle.image.specs.Images.{
+  tradesWords,
+  bookWords,
+  tradeImage,
+  restImage,
+  imageOf,
+  rowAt,
+  rowIn,
+  countIn,
+  rowsOf,
+  restOf,
+  tradeFits,
+  lentFits,
+  lineFits,
+  isLent,
+  isImage,
+  tradeIn,
+  lineIn,
+  valuesFrom,
+  blank,
+  tradesIn,
+  bookIn,
+}
+use Rattle.image.specs.Formed.{FormedTrade, FormedTrades, FormedRest}
+use Rattle.image.proofs.Cutting.{part-before}
+use Rattle.image.proofs.Told.{lent-length, lent-trades, image-lent}
+use Rattle.image.proofs.TradeBack.{length-trade, trade-back, trade-fits}
+use Rattle.image.proofs.RestBack.{length-rest, count-back, rest-back, lent-fits, line-fits}
 
 -- a row of words that stand after some others
 row-at : (p q s : List ℕ) (k : ℕ) → length p ≡ k * 42 → length q ≡ 42 → rowAt ((p ++ q) ++ s) k ≡ q
 unfolding part
 row-at p q s k a b =
     ap (λ (l : List ℕ). take 42 (drop (k * 42) l)) (append-assoc p q s) ∙ ap (take 42) (drop-at p (q ++ s) (k * 42) a) ∙ take-at q s 42 b
-
--- ---- from words to a book and back
--- the words of some rows, joined, are a part
-join-rows : (ws : List ℕ) (n i : ℕ) → (i + n) * 42 ≤ length ws → flatMap tradeImage (map tradeIn (tab (rowAt ws) n i)) ≡ part ws (i * 42) (n * 42)
-unfolding flatMap
-join-rows ws zero i h = sym (part-zero ws (i * 42))
-join-rows ws (suc n) i h =
-    let l : length (rowAt ws i) ≡ 42 = length-part ws (i * 42) 42 (omega arith) in
-    let a : (i + 1) * 42 ≡ i * 42 + 42 = omega arith in
-    let b : 42 + n * 42 ≡ suc n * 42 = omega arith in
-    ap (λ (r : List ℕ). r ++ flatMap tradeImage (map tradeIn (tab (rowAt ws) n (i + 1)))) (trade-again (rowAt ws i) l)
-    ∙ ap (λ (r : List ℕ). rowAt ws i ++ r) (join-rows ws n (i + 1) (omega arith) ∙ ap (λ (k : ℕ). part ws k (n * 42)) a)
-    ∙ part-next ws (i * 42) 42 (n * 42) ∙ ap (part ws (i * 42)) b
-
-module _ (ws : List ℕ) (l : length ws ≡ bookWords) where
-  rest-long : length (restOf ws) ≡ 52
-  unfolding restOf
-  rest-long = length-part ws 2688 52 (omega arith)
-
-  join-trades : flatMap tradeImage (map tradeIn (rowsOf ws)) ≡ part ws 0 2688
-  unfolding rowsOf
-  join-trades = join-rows ws 64 0 (omega arith)
-
-  join-all : part ws 0 2688 ++ restOf ws ≡ ws
-  unfolding restOf
-  join-all = part-next ws 0 2688 52 ∙ part-whole ws 2740 l
-
--- the words of a book that words say
-image-from : (ts : List Trade) (rest : List ℕ) → imageOf (bookFrom ts rest) ≡ flatMap tradeImage ts ++ restImage (bookFrom ts rest)
-unfolding imageOf bookFrom
-image-from ts rest = refl
-
-pub image-again : (ws : List ℕ) → isImage ws ≡ true → imageOf (bookIn ws) ≡ ws
-unfolding bookIn
-image-again ws e =
-    let l = image-length ws e in
-    let ts = map tradeIn (rowsOf ws) in
-    image-from ts (restOf ws)
-    ∙ ap (λ (x : List ℕ). x ++ restImage (bookFrom ts (restOf ws))) (join-trades ws l)
-    ∙ ap (λ (x : List ℕ). part ws 0 2688 ++ x) (rest-again (restOf ws) (rest-long ws l) ts (image-rest ws e))
-    ∙ join-all ws l
-
--- ---- words that hold some trades already
--- a list that stands at the front is written by writing what comes after it
-paste-after : (ws xs ys : List ℕ) (n : ℕ) → length xs ≡ n → n ≤ length ws → take n ws ≡ xs → pasted ws n ys ≡ pasted ws 0 (xs ++ ys)
-paste-after ws xs ys n l h e = go (leb (length ys) (length ws - n)) refl
-  where
-    front : pasted ws 0 xs ≡ ws
-    front =
-        let w : within ws 0 (length xs) ≡ true = in-within ws 0 (length xs) (omega arith) (omega arith) in
-        let m : 0 + length xs ≡ n = omega arith in
-        paste-in ws 0 xs w ∙ ap (λ (k : ℕ). xs ++ drop k ws) m ∙ ap (λ (k : List ℕ). k ++ drop n ws) (sym e) ∙ take-append-drop n ws
-
-    go : (fits : Bool) → leb (length ys) (length ws - n) ≡ fits → pasted ws n ys ≡ pasted ws 0 (xs ++ ys)
-    go true f =
-        let g = leb-true (length ys) (length ws - n) f in
-        ap (λ (k : List ℕ). pasted k n ys) (sym front) ∙ paste-more ws 0 xs ys n (omega arith) (omega arith)
-    go false f =
-        let g = leb-false (length ys) (length ws - n) f in
-        sym (paste-out ws n ys (out-short ws n (length ys) g)) ∙ paste-out ws 0 (xs ++ ys) (out-short ws 0 (length (xs ++ ys)) (omega (arith, length-append xs ys)))
-
--- in an image a book with the same trades is written by writing the rest
-pub rest-alone : (ws : List ℕ) (b : Book) → isImage ws ≡ true → b .values .trades ≡ bookIn ws .values .trades
-    → pasted ws tradesWords (restImage b) ≡ pasted ws 0 (imageOf b)
-unfolding bookIn bookFrom imageOf part
-rest-alone ws b e q =
-    let l = image-length ws e in
-    let t : flatMap tradeImage (b .values .trades) ≡ take 2688 ws = ap (flatMap tradeImage) q ∙ join-trades ws l in
-    paste-after ws (flatMap tradeImage (b .values .trades)) (restImage b) 2688 (ap length t ∙ length-take-le 2688 ws (omega arith)) (omega arith) (sym t)
 
 -- ---- from a book to words and back
 module _ {A : Type 0} (f : A → List ℕ) (r : List ℕ) where
@@ -128,35 +82,110 @@ trades-fit [] h = refl
 trades-fit (t ∷ ts) h =
     both (tradeFits (tradeImage t)) (all tradeFits (map tradeImage ts)) (trade-fits t (h t (List·Memᴰ·head refl))) (trades-fit ts (λ u k. h u (List·Memᴰ·tail k)))
 
-module _ (b : Book) (h : Formed b) where
-  length-trades : length (flatMap tradeImage (b .values .trades)) ≡ 2688
-  length-trades = length-join tradeImage [] (b .values .trades) (λ t k. length-trade t (h .each t k)) ∙ ap (λ (n : ℕ). n * 42) (h .trades)
+-- the words of a trade of zeros
+blank-words : tradeImage blank ≡ replicate 42 0
+unfolding tradeImage
+blank-words = refl
 
-  rows-back : rowsOf (imageOf b) ≡ map tradeImage (b .values .trades)
-  unfolding rowsOf imageOf
-  rows-back =
-      ap (λ (n : ℕ). tab (rowAt (flatMap tradeImage (b .values .trades) ++ restImage b)) n 0) (sym (h .trades))
-      ∙ rows-from tradeImage (restImage b) [] (b .values .trades) 0 refl (λ t k. length-trade t (h .each t k))
+-- ---- words by their rows and by those after them
+module _ (ws : List ℕ) (b : Book) (l : length ws ≡ bookWords) (q : FormedRest b) (rows : map tradeIn (rowsOf ws) ≡ b .values .trades) (fit : all tradeFits (rowsOf ws) ≡ true) (rest : restOf ws ≡ restImage b) where
+  -- the words are an image, and say the book
+  says-image : isImage ws ≡ true
+  unfolding isImage isLent
+  says-image =
+      both (eqb (length ws) bookWords && (all tradeFits (rowsOf ws) && lentFits (restOf ws))) (lineFits (restOf ws))
+      (both (eqb (length ws) bookWords) (all tradeFits (rowsOf ws) && lentFits (restOf ws)) (eq-eqb (length ws) bookWords l)
+      (both (all tradeFits (rowsOf ws)) (lentFits (restOf ws)) fit (ap lentFits rest ∙ lent-fits b q)))
+      (ap lineFits rest ∙ line-fits b q)
+
+  says-book : bookIn ws ≡ b
+  unfolding bookIn tradesIn
+  says-book = (λ i. record { values = valuesFrom (rows i) (rest i) (lineIn (rest i)); live = getD (rest i) 51 0 }) ∙ rest-back b q
+
+module _ (b : Book) (h : FormedTrades (b .values .trades) (b .values .lent .tradeCount)) (q : FormedRest b) where
+  length-trades : length (flatMap tradeImage (b .values .trades)) ≡ 2688
+  length-trades = length-join tradeImage [] (b .values .trades) (λ t k. length-trade t (h .each t k)) ∙ ap (λ (n : ℕ). n * 42) (h .most)
 
   rest-is : restOf (imageOf b) ≡ restImage b
   unfolding restOf imageOf part
   rest-is =
       ap (take 52) (drop-at (flatMap tradeImage (b .values .trades)) (restImage b) 2688 length-trades)
-      ∙ take-all 52 (restImage b) (omega (arith, length-rest b h))
+      ∙ take-all 52 (restImage b) (omega (arith, length-rest b q))
 
-  pub length-image : length (imageOf b) ≡ bookWords
+  rows-all : tab (rowAt (imageOf b)) 64 0 ≡ map tradeImage (b .values .trades)
   unfolding imageOf
-  length-image = length-append (flatMap tradeImage (b .values .trades)) (restImage b) ∙ omega (arith, length-trades, length-rest b h)
+  rows-all =
+      ap (λ (n : ℕ). tab (rowAt (flatMap tradeImage (b .values .trades) ++ restImage b)) n 0) (sym (h .most))
+      ∙ rows-from tradeImage (restImage b) [] (b .values .trades) 0 refl (λ t k. length-trade t (h .each t k))
 
-  pub is-image : isImage (imageOf b) ≡ true
-  unfolding isImage
-  is-image =
-      both (eqb (length (imageOf b)) bookWords) (all tradeFits (rowsOf (imageOf b)) && restFits (restOf (imageOf b))) (eq-eqb (length (imageOf b)) bookWords length-image)
-      (both (all tradeFits (rowsOf (imageOf b))) (restFits (restOf (imageOf b)))
-      (ap (all tradeFits) rows-back ∙ trades-fit (b .values .trades) (h .each))
-      (ap restFits rest-is ∙ rest-fits b h))
+  -- past the trades that count stand zeros already
+  row-is : (i : ℕ) → i < 64 → rowIn (imageOf b) (b .values .lent .tradeCount) i ≡ rowAt (imageOf b) i
+  row-is i lt = go (ltb i (b .values .lent .tradeCount)) refl
+    where
+      go : (t : Bool) → ltb i (b .values .lent .tradeCount) ≡ t → cond t (rowAt (imageOf b) i) (replicate 42 0) ≡ rowAt (imageOf b) i
+      go true e = refl
+      go false e =
+          sym blank-words ∙ ap tradeImage (sym (h .spare i (ltb-false i (b .values .lent .tradeCount) e))) ∙ sym (List·getD-map tradeImage (b .values .trades) i blank)
+          ∙ ap (λ (rs : List (List ℕ)). getD rs i (tradeImage blank)) (sym rows-all) ∙ getD-tab (rowAt (imageOf b)) 64 0 i (tradeImage blank) lt ∙ ap (rowAt (imageOf b)) (zero-add i)
 
-  pub book-back : bookIn (imageOf b) ≡ b
-  unfolding bookIn
-  book-back =
-      (λ i. bookFrom ((ap (map tradeIn) rows-back ∙ trades-back (b .values .trades) (h .each)) i) (rest-is i)) ∙ rest-back b h
+  rows-back : rowsOf (imageOf b) ≡ map tradeImage (b .values .trades)
+  unfolding rowsOf
+  rows-back =
+      ap (λ (n : ℕ). tab (rowIn (imageOf b) n) 64 0) (ap (λ (l : List ℕ). getD l 0 0) rest-is ∙ count-back b q)
+      ∙ tab-same (rowIn (imageOf b) (b .values .lent .tradeCount)) (rowAt (imageOf b)) 64 0 (λ i low high. row-is i (omega arith))
+      ∙ rows-all
+
+  length-image : length (imageOf b) ≡ bookWords
+  unfolding imageOf
+  length-image = length-append (flatMap tradeImage (b .values .trades)) (restImage b) ∙ omega (arith, length-trades, length-rest b q)
+
+  -- a book that is written whole is an image, and is said by it
+  module _ (ws : List ℕ) (l : length ws ≡ bookWords) where
+    written-whole : pasted ws 0 (imageOf b) ≡ imageOf b
+    written-whole = paste-whole ws (imageOf b) (length-image ∙ sym l)
+
+    rows-there : map tradeIn (rowsOf (imageOf b)) ≡ b .values .trades
+    rows-there = ap (map tradeIn) rows-back ∙ trades-back (b .values .trades) (h .each)
+
+    fit-there : all tradeFits (rowsOf (imageOf b)) ≡ true
+    fit-there = ap (all tradeFits) rows-back ∙ trades-fit (b .values .trades) (h .each)
+
+    pub whole-image : isImage (pasted ws 0 (imageOf b)) ≡ true
+    whole-image = ap isImage written-whole ∙ says-image (imageOf b) b length-image q rows-there fit-there rest-is
+
+    pub whole-book : bookIn (pasted ws 0 (imageOf b)) ≡ b
+    whole-book = ap bookIn written-whole ∙ says-book (imageOf b) b length-image q rows-there fit-there rest-is
+
+-- a book with the trades of an image, as many of which count, is written by its rest alone
+module _ (ws : List ℕ) (b : Book) (e : isImage ws ≡ true) (q : FormedRest b) (same : b .values .trades ≡ tradesIn ws) (count : b .values .lent .tradeCount ≡ countIn ws) where
+  abbrev after : List ℕ
+  after = pasted ws tradesWords (restImage b)
+
+  long : length ws ≡ bookWords
+  long = lent-length ws (image-lent ws e)
+
+  rest-after : restOf after ≡ restImage b
+  unfolding restOf
+  rest-after = part-pasted ws 2688 (restImage b) 52 (length-rest b q) (omega (arith, long))
+
+  row-after : (i : ℕ) → i < 64 → rowAt after i ≡ rowAt ws i
+  row-after i lt = part-before ws 2688 (restImage b) (i * 42) 42 (omega arith)
+
+  rows-after : rowsOf after ≡ rowsOf ws
+  unfolding rowsOf
+  rows-after =
+      ap (λ (n : ℕ). tab (rowIn after n) 64 0) (ap (λ (l : List ℕ). getD l 0 0) rest-after ∙ count-back b q ∙ count)
+      ∙ tab-same (rowIn after (countIn ws)) (rowIn ws (countIn ws)) 64 0 (λ i low high. ap (λ (r : List ℕ). cond (ltb i (countIn ws)) r (replicate 42 0)) (row-after i (omega arith)))
+
+  rows-said : map tradeIn (rowsOf after) ≡ b .values .trades
+  unfolding tradesIn
+  rows-said = ap (map tradeIn) rows-after ∙ sym same
+
+  rest-fit : all tradeFits (rowsOf after) ≡ true
+  rest-fit = ap (all tradeFits) rows-after ∙ lent-trades ws (image-lent ws e)
+
+  pub rest-image : isImage after ≡ true
+  rest-image = says-image after b (length-pasted ws tradesWords (restImage b) ∙ long) q rows-said rest-fit rest-after
+
+  pub rest-book : bookIn after ≡ b
+  rest-book = says-book after b (length-pasted ws tradesWords (restImage b) ∙ long) q rows-said rest-fit rest-after

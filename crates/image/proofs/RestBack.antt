@@ -1,25 +1,24 @@
--- The words after the trades say all of a book but its trades, and the words of the book that they say are those words.
+-- The words after the trades say all of a book but its trades.
 use mathlib.Core.Path.{_≡_, refl, sym, ap, _∙_}
 use mathlib.Core.List.{List, [], _∷_, _++_}
-use mathlib.Core.Bool.{Bool, true, false, cond, _&&_, _||_}
-use Prim.Native.Nat.{ℕ, _+_, _≤_}
+use mathlib.Core.Bool.{Bool, true, false, cond}
+use Prim.Native.Nat.{ℕ, _+_, _≤_, _<_}
 use native.Mathlib.Omega.{arith}
 use lib.ListN.{length, getD, length-append}
-use lib.Dec.{eqb}
-use borrow.Author.Tests.{eqb-true}
-use Rattle.lists.specs.Lists.{part, all}
+use lib.Dec.{ltb}
+use borrow.Author.Tests.{ltb-false}
+use Rattle.lists.specs.Lists.{part, tab, all}
 use Rattle.lists.proofs.Parts.{length-part}
-use Rattle.lists.proofs.Tests.{and-left, both}
+use Rattle.lists.proofs.Tables.{tab-same, table-of}
+use Rattle.lists.proofs.Tests.{both}
 use Rattle.sequence.specs.declared.Received.{Received}
 use Rattle.sequence.specs.declared.Received.the-variants.{Nothing, Last}
 use Rattle.sequence.specs.Sequence.{inbound, outbound}
-use Rattle.book.specs.declared.Trade.{Trade}
 use Rattle.book.specs.declared.Book.{Book}
 use Rattle.book.proofs.ListLaws.{all-both}
-use Rattle.image.specs.Images.{isByte, isNumber, flagOf, lastOf, restImage, receivedFits, restFits, receivedIn, bookFrom}
-use Rattle.image.specs.Formed.{Formed}
-use Rattle.image.proofs.Looking.{part-table}
-use Rattle.image.proofs.Told.{rest-received}
+use Rattle.image.specs.Images.{isByte, isNumber, flagOf, lastOf, restImage, holidayIn, holidaysIn, receivedFits, lentFits, lineFits, receivedIn, lineIn, valuesFrom}
+use Rattle.image.specs.Formed.{FormedRest}
+use Rattle.image.proofs.Looking.{part-table, part-at}
 use Rattle.image.proofs.Cutting.{part-next, part-whole, six}
 
 -- ---- what was received
@@ -30,28 +29,6 @@ received-back (Last n) = refl
 received-fits : (r : Received) → isNumber (lastOf r) ≡ true → receivedFits (flagOf r) (lastOf r) ≡ true
 received-fits Nothing h = refl
 received-fits (Last n) h = h
-
-module _ (flag n : ℕ) (h : receivedFits flag n ≡ true) where
-  pub flag-again : flagOf (receivedIn flag n) ≡ flag
-  flag-again = go (eqb flag 0) refl h
-    where
-      go : (b : Bool) → eqb flag 0 ≡ b → ((b && eqb n 0) || (eqb flag 1 && isNumber n)) ≡ true → flagOf (cond b Nothing (Last (inbound n))) ≡ flag
-      go true e k = sym (eqb-true flag 0 e)
-      go false e k = sym (eqb-true flag 1 (and-left (eqb flag 1) (isNumber n) k))
-
-  pub last-again : lastOf (receivedIn flag n) ≡ n
-  last-again = go (eqb flag 0) refl h
-    where
-      go : (b : Bool) → eqb flag 0 ≡ b → ((b && eqb n 0) || (eqb flag 1 && isNumber n)) ≡ true → lastOf (cond b Nothing (Last (inbound n))) ≡ n
-      go true e k = by (eqb n 0) refl k
-        where
-          by : (c : Bool) → eqb n 0 ≡ c → (c || (eqb flag 1 && isNumber n)) ≡ true → 0 ≡ n
-          by true f m = sym (eqb-true n 0 f)
-          by false f m =
-              let x = eqb-true flag 0 e in
-              let y = eqb-true flag 1 (and-left (eqb flag 1) (isNumber n) m) in
-              absurd (omega arith)
-      go false e k = refl
 
 -- ---- 52 words
 module _ (rest : List ℕ) (l : length rest ≡ 52) where
@@ -75,14 +52,8 @@ module _ (rest : List ℕ) (l : length rest ≡ 52) where
       ≡ getD rest 42 0 ∷ getD rest 43 0 ∷ getD rest 44 0 ∷ getD rest 45 0 ∷ getD rest 46 0 ∷ getD rest 47 0 ∷ getD rest 48 0 ∷ getD rest 49 0 ∷ getD rest 50 0 ∷ getD rest 51 0 ∷ []
   numbers = part-table rest 42 0 10 (omega arith)
 
-  pub rest-again : (ts : List Trade) → restFits rest ≡ true → restImage (bookFrom ts rest) ≡ rest
-  unfolding restImage bookFrom
-  rest-again ts h =
-      let r = rest-received rest h in
-      rw (flag-again (getD rest 48 0) (getD rest 49 0) r, last-again (getD rest 48 0) (getD rest 49 0) r) (rw (count-word, days-word, numbers) at cut)
-
 -- ---- a book
-module _ (b : Book) (h : Formed b) where
+module _ (b : Book) (h : FormedRest b) where
   pub length-rest : length (restImage b) ≡ 52
   unfolding restImage
   length-rest = simp length-append (omega (arith, h .holidays .0, h .subscriber .0, h .connection .0))
@@ -101,7 +72,7 @@ pub record RestParts (b : Book) : Type 0 where
       ≡ b .values .lent .limits .ceiling ∷ b .values .lent .limits .variance ∷ b .values .lent .limits .poolsAMillion ∷ b .values .lent .limits .least
       ∷ b .values .lastMessageId ∷ b .values .connection .outbound .0 ∷ flagOf (b .values .connection .line .received) ∷ lastOf (b .values .connection .line .received) ∷ b .values .connection .line .expected .0 ∷ b .live ∷ []
 
-module _ (b : Book) (h : Formed b) where
+module _ (b : Book) (h : FormedRest b) where
   parts : RestParts b
   unfolding restImage
   parts =
@@ -125,11 +96,30 @@ module _ (b : Book) (h : Formed b) where
       ∷ b .values .lastMessageId ∷ b .values .connection .outbound .0 ∷ flagOf (b .values .connection .line .received) ∷ lastOf (b .values .connection .line .received) ∷ b .values .connection .line .expected .0 ∷ b .live ∷ []
   words = sym (numbers (restImage b) (length-rest b h)) ∙ parts .numbers
 
-  pub rest-back : bookFrom (b .values .trades) (restImage b) ≡ b
-  unfolding bookFrom
+  pub count-back : getD (restImage b) 0 0 ≡ b .values .lent .tradeCount
+  count-back = ap (λ (l : List ℕ). getD l 0 0) (sym (count-word (restImage b) (length-rest b h)) ∙ parts .count)
+
+  days-back : getD (restImage b) 33 0 ≡ b .values .lent .holidayCount
+  days-back = ap (λ (l : List ℕ). getD l 0 0) (sym (days-word (restImage b) (length-rest b h)) ∙ parts .days)
+
+  -- a holiday is the word at its place, and 0 past those that count
+  holiday-back : (i : ℕ) → i < 32 → holidayIn (restImage b) (b .values .lent .holidayCount) i ≡ getD (b .values .lent .holidays) i 0
+  holiday-back i lt = go (ltb i (b .values .lent .holidayCount)) refl
+    where
+      go : (t : Bool) → ltb i (b .values .lent .holidayCount) ≡ t → cond t (getD (restImage b) (1 + i) 0) 0 ≡ getD (b .values .lent .holidays) i 0
+      go true e = sym (part-at (restImage b) 1 0 32 i (omega (arith, length-rest b h)) lt) ∙ ap (λ (l : List ℕ). getD l i 0) (parts .holidays)
+      go false e = sym (h .spareHolidays i (ltb-false i (b .values .lent .holidayCount) e))
+
+  holidays-back : holidaysIn (restImage b) ≡ b .values .lent .holidays
+  unfolding holidaysIn
+  holidays-back =
+      ap (λ (n : ℕ). tab (holidayIn (restImage b) n) 32 0) days-back
+      ∙ tab-same (holidayIn (restImage b) (b .values .lent .holidayCount)) (λ (i : ℕ). getD (b .values .lent .holidays) i 0) 32 0 (λ i low high. holiday-back i (omega arith))
+      ∙ sym (table-of 0 (b .values .lent .holidays) 32 (h .holidays .0))
+
+  pub rest-back : _≡_ {A = Book} (record { values = valuesFrom (b .values .trades) (restImage b) (lineIn (restImage b)); live = getD (restImage b) 51 0 }) b
+  unfolding valuesFrom
   rest-back =
-      let c = sym (count-word (restImage b) (length-rest b h)) ∙ parts .count in
-      let d = sym (days-word (restImage b) (length-rest b h)) ∙ parts .days in
       let q = words in
       let r : receivedIn (getD (restImage b) 48 0) (getD (restImage b) 49 0) ≡ b .values .connection .line .received =
       (λ i. receivedIn (getD (q i) 6 0) (getD (q i) 7 0)) ∙ received-back (b .values .connection .line .received) in
@@ -140,9 +130,9 @@ module _ (b : Book) (h : Formed b) where
               trades = b .values .trades;
               lent =
                   record {
-                    tradeCount = getD (c i) 0 0;
-                    holidays = parts .holidays i;
-                    holidayCount = getD (d i) 0 0;
+                    tradeCount = count-back i;
+                    holidays = holidays-back i;
+                    holidayCount = days-back i;
                     subscriber = parts .subscriber i;
                     limits = record { ceiling = getD (q i) 0 0; variance = getD (q i) 1 0; poolsAMillion = getD (q i) 2 0; least = getD (q i) 3 0 };
                   };
@@ -152,17 +142,23 @@ module _ (b : Book) (h : Formed b) where
         live = getD (q i) 9 0;
       }
 
-  pub rest-fits : restFits (restImage b) ≡ true
-  unfolding restFits
-  rest-fits =
+  pub lent-fits : lentFits (restImage b) ≡ true
+  unfolding lentFits
+  lent-fits =
       let r = restImage b in
       let q = words in
       let s = ap (all isByte) (parts .subscriber) ∙ h .subscriber .1 in
       let c = ap (all isByte) (parts .connection) ∙ h .connection .1 in
       let a = sym (ap (all isByte) (part-next r 34 4 4)) ∙ all-both isByte (part r 34 4) (part r 38 4) s c in
       let o : isNumber (getD r 47 0) ≡ true = ap (λ (l : List ℕ). isNumber (getD l 5 0)) q ∙ h .outbound in
+      both (all isNumber (holidaysIn r)) _ (ap (all isNumber) holidays-back ∙ h .holidays .1) (both (all isByte (part r 34 8)) _ a o)
+
+  pub line-fits : lineFits (restImage b) ≡ true
+  unfolding lineFits
+  line-fits =
+      let r = restImage b in
+      let q = words in
       let f : receivedFits (getD r 48 0) (getD r 49 0) ≡ true =
       ap (λ (l : List ℕ). receivedFits (getD l 6 0) (getD l 7 0)) q ∙ received-fits (b .values .connection .line .received) (h .received) in
       let x : isNumber (getD r 50 0) ≡ true = ap (λ (l : List ℕ). isNumber (getD l 8 0)) q ∙ h .expected in
-      both (all isNumber (part r 1 32)) _ (ap (all isNumber) (parts .holidays) ∙ h .holidays .1)
-      (both (all isByte (part r 34 8)) _ a (both (isNumber (getD r 47 0)) _ o (both (receivedFits (getD r 48 0) (getD r 49 0)) _ f x)))
+      both (receivedFits (getD r 48 0) (getD r 49 0)) _ f x

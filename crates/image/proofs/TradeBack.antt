@@ -1,4 +1,4 @@
--- The words of a trade say that trade, and the words of the trade that words say are those words.
+-- The words of a trade say that trade.
 use mathlib.Core.Path.{_≡_, sym, ap, _∙_}
 use mathlib.Core.List.{List, [], _∷_, _++_}
 use mathlib.Core.Bool.{true}
@@ -33,10 +33,6 @@ module _ (row : List ℕ) (l : length row ≡ 42) where
 
   numbers : part row 38 4 ≡ getD row 38 0 ∷ getD row 39 0 ∷ getD row 40 0 ∷ getD row 41 0 ∷ []
   numbers = part-table row 38 0 4 (omega arith)
-
-  pub trade-again : tradeImage (tradeIn row) ≡ row
-  unfolding tradeImage tradeIn
-  trade-again = rw (length-word, numbers) at cut
 
 -- ---- a trade
 pub length-trade : (t : Trade) → FormedTrade t → length (tradeImage t) ≡ 42
