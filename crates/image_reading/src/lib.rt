@@ -10,29 +10,36 @@ use sequence::Line;
 use sequence::Outbound;
 use sequence::Received;
 ghost use mathlib.Core.Path.{_≡_};
-ghost use mathlib.Core.List.{map};
 ghost use mathlib.Core.Bool.{true};
 ghost use Prim.Native.Nat.{ℕ, _+_, _^_, _≤_};
-ghost use lib.ListN.{length};
+ghost use mathlib.Core.List.{_++_};
+ghost use lib.ListN.{length, drop};
 ghost use lib.Dec.{ltb};
-ghost use Rattle.lists.specs.Lists.{part, all};
+ghost use Rattle.lists.specs.Lists.{part, tab, all};
+ghost use Rattle.book.specs.Opening.{tradesMax};
 ghost use Rattle.image.specs.Images.{
   tradeWords,
   restWords,
   bookWords,
-  rowsOf,
+  rowAt,
+  restOf,
+  holidaysIn,
   isByte,
   isNumber,
   tradeFits,
   receivedFits,
-  restFits,
+  lentFits,
+  lineFits,
+  isLent,
   isImage,
   tradeIn,
   receivedIn,
-  bookFrom,
+  lineIn,
+  valuesFrom,
+  tradesIn,
   bookIn,
 };
-ghost use Rattle.image_reading.specs.Reading.{noBook, readBook};
+ghost use Rattle.image_reading.specs.Reading.{Counted, firstTrades, noBook, readBook, readLent};
 
 // One more than the highest byte, and than the highest number of 32 bits.
 const BYTE_END: u64 = 256;
@@ -43,6 +50,12 @@ const NUMBER_END: u64 = 4294967296;
 pub struct Read {
     pub fine: bool,
     pub book: Book,
+}
+
+// What opening was lent: whether the words lend something, and where they do, the values; else those of a book with no trades.
+pub struct ReadLent {
+    pub fine: bool,
+    pub values: Values,
 }
 
 // The n words from at, joined bit by bit: below a power of two exactly where each of them is. So a range of words asks for one test.
@@ -99,6 +112,14 @@ fn read_numbers(out: &mut [u32], words: &[u64], at: usize)
     }
 }
 
+// Fills the first n of out with the words from at, which are numbers of 32 bits.
+fn read_first(out: &mut [u32], words: &[u64], at: usize, n: usize)
+    requires { ⌜ (n ≤ length (now out)) × (at + n ≤ length (now words)) × (all isNumber (part (now words) at n) ≡ true) ⌝ }
+    ensures { λ _. ⌜ now (out .exit) ≡ part (now (words .entry)) at n ++ drop n (now (out .entry)) ⌝ }
+{
+    read_numbers(&mut out[..n], words, at);
+}
+
 // Whether a trade's words are those of a trade.
 fn trade_fits(row: &[u64]) -> bool
     requires { ⌜ length (now row) ≡ tradeWords ⌝ }
@@ -136,13 +157,23 @@ fn read_trade(row: &[u64]) -> Trade
     }
 }
 
-// Whether the words of all trades are those of trades.
-fn trades_fit(words: &[u64]) -> bool
-    requires { ⌜ length (now words) ≡ bookWords ⌝ }
-    ensures { λ r. ⌜ r ≡ all tradeFits (rowsOf (now (words .entry))) ⌝ }
+// How many count, of so many that a book has room for.
+fn counted(count: u64, most: usize) -> usize
+    ensures { λ r. ⌜ Counted count most r ⌝ }
+{
+    if count < most as u64 {
+        return count as usize;
+    }
+    most
+}
+
+// Whether the words of the first n trades are those of trades.
+fn trades_fit(words: &[u64], n: usize) -> bool
+    requires { ⌜ (length (now words) ≡ bookWords) × (n ≤ tradesMax) ⌝ }
+    ensures { λ r. ⌜ r ≡ all tradeFits (tab (rowAt (now (words .entry))) n 0) ⌝ }
 {
     let mut i: usize = 0;
-    while i < book::TRADES_MAX {
+    while i < n {
         let at = i * image::TRADE_WORDS;
         let end = at + image::TRADE_WORDS;
         i += 1;
@@ -153,15 +184,15 @@ fn trades_fit(words: &[u64]) -> bool
     true
 }
 
-// The trades of a book's words.
-fn read_trades(words: &[u64]) -> [Trade; book::TRADES_MAX]
-    requires { ⌜ (length (now words) ≡ bookWords) × (all tradeFits (rowsOf (now words)) ≡ true) ⌝ }
-    ensures { λ r. ⌜ r ≡ map tradeIn (rowsOf (now (words .entry))) ⌝ }
+// The first n trades of a book's words, with zeros after them.
+fn read_trades(words: &[u64], n: usize) -> [Trade; book::TRADES_MAX]
+    requires { ⌜ (length (now words) ≡ bookWords) × (n ≤ tradesMax) × (all tradeFits (tab (rowAt (now words)) n 0) ≡ true) ⌝ }
+    ensures { λ r. ⌜ r ≡ firstTrades (now (words .entry)) n ⌝ }
 {
     let none = image::no_trade();
     let mut trades = [none; book::TRADES_MAX];
     let mut i: usize = 0;
-    while i < book::TRADES_MAX {
+    while i < n {
         let at = i * image::TRADE_WORDS;
         let end = at + image::TRADE_WORDS;
         trades[i] = read_trade(&words[at..end]);
@@ -188,32 +219,59 @@ fn read_received(flag: u64, number: u64) -> Received
     Received::Last(Inbound(number as u32))
 }
 
-// Whether the words after the trades are those of a book.
-fn rest_fits(rest: &[u64]) -> bool
+// Whether the words after the trades are such as opening takes.
+fn lent_fits(rest: &[u64]) -> bool
     requires { ⌜ length (now rest) ≡ restWords ⌝ }
-    ensures { λ r. ⌜ r ≡ restFits (now (rest .entry)) ⌝ }
+    ensures { λ r. ⌜ r ≡ lentFits (now (rest .entry)) ⌝ }
 {
-    let received = received_fits(rest[image::RECEIVED], rest[image::NUMBER]);
-    let dates = all_numbers(rest, image::HOLIDAYS, book::HOLIDAYS_MAX);
+    let days = counted(rest[image::HOLIDAY_COUNT], book::HOLIDAYS_MAX);
+    let dates = all_numbers(rest, image::HOLIDAYS, days);
     let accounts = all_bytes(rest, image::SUBSCRIBER, image::ACCOUNTS_WORDS);
-    dates
-        & (accounts
-            & ((rest[image::OUTBOUND] < NUMBER_END)
-                & (received & (rest[image::EXPECTED] < NUMBER_END))))
+    dates & (accounts & (rest[image::OUTBOUND] < NUMBER_END))
 }
 
-// The book of some trades and of the words after the trades.
-fn read_rest(trades: [Trade; book::TRADES_MAX], rest: &[u64]) -> Book
-    requires { ⌜ (length (now rest) ≡ restWords) × (restFits (now rest) ≡ true) ⌝ }
-    ensures { λ r. ⌜ r ≡ bookFrom trades (now (rest .entry)) ⌝ }
+// Whether the words after the trades have a line.
+fn line_fits(rest: &[u64]) -> bool
+    requires { ⌜ length (now rest) ≡ restWords ⌝ }
+    ensures { λ r. ⌜ r ≡ lineFits (now (rest .entry)) ⌝ }
 {
+    let received = received_fits(rest[image::RECEIVED], rest[image::NUMBER]);
+    received & (rest[image::EXPECTED] < NUMBER_END)
+}
+
+// The holidays that count, with zeros after them.
+fn read_holidays(rest: &[u64]) -> [u32; book::HOLIDAYS_MAX]
+    requires { ⌜ (length (now rest) ≡ restWords) × (lentFits (now rest) ≡ true) ⌝ }
+    ensures { λ r. ⌜ r ≡ holidaysIn (now (rest .entry)) ⌝ }
+{
+    let n = counted(rest[image::HOLIDAY_COUNT], book::HOLIDAYS_MAX);
     let mut holidays = [0u32; book::HOLIDAYS_MAX];
+    read_first(&mut holidays, rest, image::HOLIDAYS, n);
+    holidays
+}
+
+// The line of the words after the trades.
+fn read_line(rest: &[u64]) -> Line
+    requires { ⌜ (length (now rest) ≡ restWords) × (lineFits (now rest) ≡ true) ⌝ }
+    ensures { λ r. ⌜ r ≡ lineIn (now (rest .entry)) ⌝ }
+{
+    let received = read_received(rest[image::RECEIVED], rest[image::NUMBER]);
+    Line {
+        received: received,
+        expected: Inbound(rest[image::EXPECTED] as u32),
+    }
+}
+
+// The values of some trades, of a line and of the words after the trades.
+fn read_rest(trades: [Trade; book::TRADES_MAX], rest: &[u64], line: Line) -> Values
+    requires { ⌜ (length (now rest) ≡ restWords) × (lentFits (now rest) ≡ true) ⌝ }
+    ensures { λ r. ⌜ r ≡ valuesFrom trades (now (rest .entry)) line ⌝ }
+{
     let mut subscriber = [0u8; 4];
     let mut connection = [0u8; 4];
-    read_numbers(&mut holidays, rest, image::HOLIDAYS);
+    let holidays = read_holidays(rest);
     read_bytes(&mut subscriber, rest, image::SUBSCRIBER);
     read_bytes(&mut connection, rest, image::CONNECTION);
-    let received = read_received(rest[image::RECEIVED], rest[image::NUMBER]);
     let limits = Limits {
         ceiling: rest[image::CEILING],
         variance: rest[image::VARIANCE],
@@ -229,34 +287,49 @@ fn read_rest(trades: [Trade; book::TRADES_MAX], rest: &[u64]) -> Book
     };
     let connection = Connection {
         id: connection,
-        line: Line {
-            received: received,
-            expected: Inbound(rest[image::EXPECTED] as u32),
-        },
+        line: line,
         outbound: Outbound(rest[image::OUTBOUND] as u32),
     };
-    Book {
-        values: Values {
-            trades: trades,
-            lent: lent,
-            lastMessageId: rest[image::LAST_MESSAGE_ID],
-            connection: connection,
-        },
-        live: rest[image::LIVE] as usize,
+    Values {
+        trades: trades,
+        lent: lent,
+        lastMessageId: rest[image::LAST_MESSAGE_ID],
+        connection: connection,
     }
+}
+
+// Whether words say what opening lends.
+fn is_lent(words: &[u64]) -> bool
+    ensures { λ r. ⌜ r ≡ isLent (now (words .entry)) ⌝ }
+{
+    if words.len() != image::BOOK_WORDS {
+        return false;
+    }
+    let n = counted(words[image::REST + image::TRADE_COUNT], book::TRADES_MAX);
+    if !trades_fit(words, n) {
+        return false;
+    }
+    lent_fits(&words[image::REST..image::BOOK_WORDS])
 }
 
 // Whether words are the image of a book.
 fn is_image(words: &[u64]) -> bool
     ensures { λ r. ⌜ r ≡ isImage (now (words .entry)) ⌝ }
 {
-    if words.len() != image::BOOK_WORDS {
+    if !is_lent(words) {
         return false;
     }
-    if !trades_fit(words) {
-        return false;
-    }
-    rest_fits(&words[image::REST..image::BOOK_WORDS])
+    line_fits(&words[image::REST..image::BOOK_WORDS])
+}
+
+// The values that words say, with a line.
+fn values_in(words: &[u64], line: Line) -> Values
+    requires { ⌜ isLent (now words) ≡ true ⌝ }
+    ensures { λ r. ⌜ r ≡ valuesFrom (tradesIn (now (words .entry))) (restOf (now (words .entry))) line ⌝ }
+{
+    let n = counted(words[image::REST + image::TRADE_COUNT], book::TRADES_MAX);
+    let trades = read_trades(words, n);
+    read_rest(trades, &words[image::REST..image::BOOK_WORDS], line)
 }
 
 // The book of an image.
@@ -264,8 +337,12 @@ fn book_in(words: &[u64]) -> Book
     requires { ⌜ isImage (now words) ≡ true ⌝ }
     ensures { λ r. ⌜ r ≡ bookIn (now (words .entry)) ⌝ }
 {
-    let trades = read_trades(words);
-    read_rest(trades, &words[image::REST..image::BOOK_WORDS])
+    let line = read_line(&words[image::REST..image::BOOK_WORDS]);
+    let values = values_in(words, line);
+    Book {
+        values: values,
+        live: words[image::REST + image::LIVE] as usize,
+    }
 }
 
 // A book of no trades.
@@ -315,5 +392,24 @@ pub fn read_book(words: &[u64]) -> Read
     Read {
         fine: true,
         book: book_in(words),
+    }
+}
+
+// Reads what words lend to opening, whatever line and live pools they say. Words that lend nothing are told.
+pub fn read_lent(words: &[u64]) -> ReadLent
+    ensures { λ r. ⌜ r ≡ readLent (now (words .entry)) ⌝ }
+{
+    if !is_lent(words) {
+        let book = no_book();
+        let values = book.values;
+        return ReadLent {
+            fine: false,
+            values: values,
+        };
+    }
+    let line = sequence::start();
+    ReadLent {
+        fine: true,
+        values: values_in(words, line),
     }
 }

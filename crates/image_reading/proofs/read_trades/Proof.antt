@@ -1,28 +1,28 @@
--- The trades so far, and those of the rows that are left, are all of them.
+-- The trades so far, and those of the rows that are left, are all of them; past them zeros stand still.
 use mathlib.Core.Path.{_≡_, refl, _∙_, ap}
-use mathlib.Core.List.{map}
 use Prim.Native.Nat.{_≤_, _-_}
 use native.Mathlib.Omega.{arith}
-use lib.ListN.{length, length-set}
+use lib.ListN.{length, drop, replicate, length-set}
 use borrow.Author.Needs.{needs}
-use Rattle.image.specs.Images.{rowsOf, tradeIn}
-use Rattle.image_reading.proofs.Rows.{slice-row, length-row, row-fits, trade-at, length-trades}
-use Rattle.image_reading.proofs.Filling.{Filling, filling-more, filling-done}
+use Rattle.image.specs.Images.{blank}
+use Rattle.image_reading.specs.Reading.{firstTrades}
+use Rattle.image_reading.proofs.Rows.{slice-row, length-row, row-fits, trade-at, length-first, first-done, spare-more}
+use Rattle.image_reading.proofs.Filling.{Filling, filling-more}
 use Rattle.book.specs.Checks.{noTrade}
 use Rattle.image_reading.proofs.read_trades.Statement.{statement}
 use Rattle.image_reading.proofs.read_trades.Tie as tie
 
 abbrev Inv-loop : tie.InvT-loop
-Inv-loop words trades₀ i₀ trades i = (i ≤ 64) × (length trades ≡ 64) × Filling (map tradeIn (rowsOf words)) trades i
+Inv-loop words n trades₀ i₀ trades i = (i ≤ n) × (length trades ≡ 64) × Filling (firstTrades words n) trades i × (drop i trades ≡ replicate (64 - i) blank)
 
 abbrev μ-loop : tie.MeasureT-loop
-μ-loop words trades₀ i₀ trades i = 64 - i
+μ-loop words n trades₀ i₀ trades i = n - i
 
 no-trade-requires : tie.Need-no-trade-requires Inv-loop μ-loop
 no-trade-requires c κs = search needs
 
 loop-holds : tie.Need-loop-holds Inv-loop μ-loop
-loop-holds c = (omega arith, refl, refl)
+loop-holds c = (omega arith, refl, refl, ap (replicate 64) (c .no-trade .ensures))
 
 mul-at : tie.Need-mul-at Inv-loop μ-loop
 mul-at c = search needs
@@ -47,7 +47,7 @@ read-trade-requires c κs =
     let s = c .before .before .before .before .before in
     let l = c .before .before .loop in
     let h = c .before .loop-test .taken in
-    (ap length (slice-row (s .args .words .now) (l .i)) ∙ length-row (s .args .words .now) (s .pre .0) (l .i) h, row-fits (s .args .words .now) (s .pre .1) (l .i) h)
+    (ap length (slice-row (s .args .words .now) (l .i)) ∙ length-row (s .args .words .now) (s .pre .0) (l .i) (omega arith), row-fits (s .args .words .now) (s .args .n) (s .pre .2) (l .i) h)
 
 mul-trades : tie.Need-mul-trades Inv-loop μ-loop
 mul-trades c = search needs
@@ -63,18 +63,19 @@ loop-less c = search needs
 
 loop-again : tie.Need-loop-again Inv-loop μ-loop
 loop-again c =
-    let w = c .before .before .before .before .before .before .args .words .now in
+    let s = c .before .before .before .before .before .before in
+    let w = s .args .words .now in
+    let n = s .args .n in
     let l = c .before .before .before .loop in
     let h = c .before .before .loop-test .taken in
-    let e = length-trades w in
-    (omega arith, length-set (l .trades) (l .i) _ ∙ l .inv .1, filling-more (map tradeIn (rowsOf w)) (l .trades) (l .i) (l .inv .2) _ noTrade (trade-at w (l .i) noTrade h _ (c .read-trade .ensures)) (omega arith) (omega arith))
+    let e = length-first w n (s .pre .1) in
+    (omega arith, length-set (l .trades) (l .i) _ ∙ l .inv .1, filling-more (firstTrades w n) (l .trades) (l .i) (l .inv .2) _ noTrade (trade-at w n (l .i) noTrade h _ (c .read-trade .ensures)) (omega arith) (omega arith), spare-more (l .trades) (l .i) _ blank (omega arith) (l .inv .3))
 
 returns : tie.Need-returns Inv-loop μ-loop
 returns c =
-    let w = c .before .before .before .before .args .words .now in
+    let s = c .before .before .before .before in
     let l = c .before .loop in
-    let e = length-trades w in
-    filling-done (map tradeIn (rowsOf w)) (l .trades) (l .i) (l .inv .2) (omega arith) (omega arith)
+    first-done (s .args .words .now) (s .args .n) (l .trades) (l .i) (omega arith) (l .inv .2) (l .inv .3)
 
 pub read-trades-spec : {M : Type 1} → statement M
 read-trades-spec =
