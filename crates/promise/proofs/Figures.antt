@@ -1,9 +1,9 @@
 -- The figure itself: what a call says of a trade, after any run on a book that was opened without refusal, is what demand 3 says. The book is sound, so that
 -- the trade is known; what is said of it is then the book's open par and standing millions.
 use Prim.Native.Nat.{ℕ, _<_}
-use mathlib.Core.Path.{_≡_, refl, ap, _∙_}
+use mathlib.Core.Path.{_≡_}
 use mathlib.Core.List.{List}
-use mathlib.Core.Bool.{Bool, true}
+use mathlib.Core.Bool.{true}
 use native.Mathlib.Omega.{arith}
 use lib.ListN.{length}
 use borrow.Author.Tests.{lt-ltb}
