@@ -2,7 +2,7 @@
 use mathlib.Core.Path.{_≡_, refl, sym, ap, _∙_}
 use mathlib.Core.Bool.{Bool, true, false, not, cond, _||_}
 use mathlib.Core.List.{List, [], _∷_, _++_, List·Memᴰ·not-nil, Memᴰ·map, Memᴰ·cast}
-use Prim.Native.Nat.{ℕ, suc, _+_, _-_, _≤_, _<_}
+use Prim.Native.Nat.{ℕ, suc, _+_, _-_, _<_}
 use native.Mathlib.Nat.{add-zero, zero-add}
 use native.Mathlib.Omega.{arith}
 use lib.Dec.{eqb}
@@ -24,11 +24,11 @@ use Rattle.book.specs.Messages.{typeOf, targetOf, listed}
 use Rattle.book.specs.Trades.{tradesOf}
 use Rattle.book.specs.Opening.{atPar, opened}
 use Rattle.book.specs.Soundness.{liveOf, parsFrom}
-use Rattle.book.specs.Checks.{Call, live, trades, dues, tradeAt, noTrade, taken, canceledLots, lotFields, answerOf}
+use Rattle.book.specs.Checks.{Call, live, trades, dues, tradeAt, noTrade, taken, canceledLots, answerOf}
 use Rattle.message_type.specs.Questions.{isOther, isCc, isCx, bringsLots, listsLots}
 use Rattle.book.specs.Step.{tradesMoved, liveMoved, tableMoved, bookAfter, tableAfter}
 use Rattle.book.specs.History.{Brought, History, isTarget, touches, stands, tradeShare, standingWeight, millionsByOns, millionsByDks, atOpening, lotsAfter, feed, takesOff}
-use Rattle.book.specs.Promise.{State, openedState, Demand3}
+use Rattle.book.specs.Promise.{State, openedState, Source}
 use Rattle.book.proofs.ByRecord.{exactByRecord, oneByRecord}
 use Rattle.book.proofs.Kept.{take-moved}
 use Rattle.book.proofs.Passed.{Fine, fine}
@@ -166,14 +166,9 @@ standing-weight : (v : Values) (s : State) (h : History) → InStep v s h → (t
 unfolding tradeWeight standingWeight
 standing-weight v s h w t = standing-sum v s h w liveWeight lotWeight laid-weight t
 
-pub in-step-demand : (v : Values) (s : State) (h : History) → InStep v s h → Demand3 v s h
-in-step-demand v s h w =
-    record {
-      historySum = w .pars;
-      bounded = λ t lt. omega (arith, w .pars t lt);
-      once = λ g m. w .lots .fine g m .once;
-      millions = λ t. omega (arith, standing-millions v s h w t, w .millions t);
-    }
+-- standing millions are those that ONs brought less those that DKs took off
+pub in-step-millions : (v : Values) (s : State) (h : History) → InStep v s h → (t : ℕ) → standingMillions t (liveOf (s .book) (s .table)) + millionsByDks t (h .lots) ≡ millionsByOns t (h .lots)
+in-step-millions v s h w t = omega (arith, standing-millions v s h w t, w .millions t)
 
 -- the open pars agree with the table: what the soundness of a book asks of them
 pars-from : (i : ℕ) (ts : List Trade) (rs : List Pool) → ((j : ℕ) → j < length ts → tradeAt ts j .openPar + tradeWeight (i + j) rs ≡ tradeAt ts j .par) → parsFrom i ts rs ≡ true
@@ -206,22 +201,19 @@ module _ (v : Values) (c : Call) (h : History) (w : Beside v (c .book .values .l
   unfolding takesOff
   taken-stands g m q = touched-stands (and-left (listsLots (typeOf (c .body))) _ q) g m (and-right (listsLots (typeOf (c .body))) _ q)
 
-  -- a lot of the history with listed fields
-  abbrev pub Source : Fields → Type 0
-  Source f = (g : Brought) × (g ∈ h .lots) × (isTarget (targetOf (c .body)) (g .id) ≡ true) × (g .offs ≡ 0) × (takesOff (c .body) g ≡ true) × (f ∈ lotFields (g .lot))
-
-  pub listed-source : (f : Fields) → f ∈ listed (c .body) → Source f
+  pub listed-source : (pool : Fields) → pool ∈ listed (c .body) → Source (h .lots) (c .body) pool
   unfolding takesOff
-  listed-source f m = go (listsLots (typeOf (c .body))) refl
+  listed-source pool m = go (listsLots (typeOf (c .body))) refl
     where
-      go : (b : Bool) → listsLots (typeOf (c .body)) ≡ b → Source f
+      go : (b : Bool) → listsLots (typeOf (c .body)) ≡ b → Source (h .lots) (c .body) pool
       go true e =
-          let (g, mg, sg, tg, (d, md, ed)) = listed-lot (targetOf (c .body)) (listed (c .body)) (h .lots) (exact-flat e .live) f m in (
-            g,
-            mg,
-            tg,
-            eqb-true (g .offs) 0 sg,
-            both (listsLots (typeOf (c .body))) _ e (both (isTarget (targetOf (c .body)) (g .id)) (any (isListed (listed (c .body))) (poolsOf (g .lot))) tg (any-in (isListed (listed (c .body))) md (rw ed (has-in m)))),
-            Memᴰ·cast (sym ed) (Memᴰ·map fieldsOf md),
-          )
+          let (g, mg, sg, tg, (d, md, ed)) = listed-lot (targetOf (c .body)) (listed (c .body)) (h .lots) (exact-flat e .live) pool m in
+          record {
+            lot = g;
+            brought = mg;
+            underTarget = tg;
+            stood = eqb-true (g .offs) 0 sg;
+            taken = both (listsLots (typeOf (c .body))) _ e (both (isTarget (targetOf (c .body)) (g .id)) (any (isListed (listed (c .body))) (poolsOf (g .lot))) tg (any-in (isListed (listed (c .body))) md (rw ed (has-in m))));
+            itsPool = Memᴰ·cast (sym ed) (Memᴰ·map fieldsOf md);
+          }
       go false e = absurd (List·Memᴰ·not-nil (rw (listed-none (c .body) e) at m))

@@ -3,7 +3,7 @@ use Prim.Native.Nat.{ℕ, _+_}
 use mathlib.Core.Path.{_≡_, refl}
 use mathlib.Core.List.{List, [], _∷_, _++_, map}
 use mathlib.Core.Bool.{true}
-use lib.ListN.{length, replicate}
+use lib.ListN.{replicate}
 use Rattle.layout.specs.declared.Column.{Column}
 use Rattle.layout.specs.Columns as columns
 use Rattle.lists.specs.Lists.{within, part, pasted}
@@ -15,19 +15,15 @@ use Rattle.terminator.specs.Lots.{lots, currentCents, lotWeight, goodMillions, 
 use Rattle.terminator.specs.Groups.{groups, groupsFormed, groupsBalanced}
 use Rattle.faces.specs.Faces.{faceFails, facesFail, goodLotFails, lotFails, lotsFail}
 use Rattle.calendar.specs.Calendar.{dayNumber, weekdayOf, isDate, businessDate}
-use Rattle.sequence.specs.Sequence.{outbound, arrivalOf, lineAfter, soundLine, nextOutbound, startLine}
+use Rattle.sequence.specs.Sequence.{arrivalOf, lineAfter, soundLine, nextOutbound}
 use Rattle.trade_id.specs.SpecialInstructions.{mark, beginsWithMark, markIn, idAt, tradeIdOf}
-use Rattle.book.specs.declared.Trade.{Trade}
-use Rattle.book.specs.declared.Values.{Values}
-use Rattle.book.specs.declared.Pool.{Pool}
-use Rattle.book.specs.declared.Caller.{Caller}
 use Rattle.book.specs.declared.Answer.{Answer}
 use Rattle.book.specs.declared.Answer.the-variants.{Accepted, Rejected, Dked}
 use Rattle.book.specs.declared.Reason.the-variants as by
 use Rattle.book.specs.Reasons.{silent, told}
 use Rattle.book.specs.Dues.{dueWeight}
 use Rattle.book.specs.Records.{tradeWeight, standingMillions, noPool}
-use Rattle.book.specs.Messages.{typeOf, ftba, fsti, listed, brought}
+use Rattle.book.specs.Messages.{typeOf, fsti, listed, brought}
 use Rattle.book.specs.Trades.{tradesOf, openPars, agrees, broughtWeight, tradeOfOn}
 use Rattle.book.specs.Opening.{valuesFine, openingFine, opened, cleared}
 use Rattle.book.specs.Soundness.{liveOf, isSound}
@@ -35,61 +31,9 @@ use Rattle.book.specs.Checks.{askedBy, targetTrade, duesBy, soundnessChe
 use Rattle.book.specs.Step.{tradesMoved, liveMoved, tableMoved, bookAfter, tableAfter}
 use Rattle.book.specs.History.{Brought, History, atOpening, standingWeight, feed, history}
 use Rattle.book.specs.Promise.{State, Put, callOf, after, fed, openedState}
+use Rattle.book.specs.Samples.{seller, buyer, on, correction, dk, joined, header, detail, trade, values, table, midnight, put}
 
 -- ---- bodies
--- "MBAA" sells and "MBBB" buys
-abbrev pub seller : List ℕ
-seller = 77 ∷ 66 ∷ 65 ∷ 65 ∷ []
-
-abbrev pub buyer : List ℕ
-buyer = 77 ∷ 66 ∷ 66 ∷ 66 ∷ []
-
--- "01F082630"
-abbrev pub cusip : List ℕ
-cusip = 48 ∷ 49 ∷ 70 ∷ 48 ∷ 56 ∷ 50 ∷ 54 ∷ 51 ∷ 48 ∷ []
-
--- "0123" and "1200"
-abbrev pub subscriber : List ℕ
-subscriber = 48 ∷ 49 ∷ 50 ∷ 51 ∷ []
-
-abbrev pub connection : List ℕ
-connection = 49 ∷ 50 ∷ 48 ∷ 48 ∷ []
-
-abbrev pub on : List ℕ
-on = 79 ∷ 78 ∷ []
-
-abbrev pub correction : List ℕ
-correction = 67 ∷ 67 ∷ []
-
-abbrev pub dk : List ℕ
-dk = 68 ∷ 75 ∷ []
-
-abbrev pub joined : List (List ℕ) → List ℕ
-joined [] = []
-joined (xs ∷ xss) = xs ++ joined xss
-
--- what differs between the headers
-pub record Header : Type 0 where
-  pub type : List ℕ
-  pub sequence : ℕ
-  pub submitter : List ℕ
-  pub gdmm : ℕ
-  pub reason : ℕ
-  pub target : ℕ
-  pub pools : ℕ
-
-unfoldable pub header : Header → List ℕ
-header h =
-    joined
-    (h .type ∷ digitsOf 6 (h .sequence) ∷ digitsOf 3 2 ∷ subscriber ∷ connection ∷ h .submitter ∷ ftba ∷ cusip ∷ blanks 1 ∷ digitsOf 11 100 ∷ blanks 10
-    ∷ digitsOf 12 98500000000 ∷ digitsOf 4 (h .gdmm) ∷ blanks 8 ∷ digitsOf 8 7142026 ∷ blanks 8 ∷ blanks 16 ∷ blanks 4 ∷ digitsOf 4 (h .reason)
-    ∷ digitsOf 11 (h .target) ∷ blanks 15 ∷ blanks 4 ∷ blanks 1 ∷ blanks 30 ∷ digitsOf 4 (h .pools) ∷ [])
-
--- a detail by pool number, original face in dollars, current face in cents and terminator
-unfoldable pub detail : ℕ → ℕ → ℕ → ℕ → List ℕ
-detail pool original current terminator =
-    joined (blanks 8 ∷ digitsOf 7 pool ∷ digitsOf 9 original ∷ blanks 55 ∷ digitsOf 11 current ∷ blanks 32 ∷ digitsOf 4 terminator ∷ blanks 73 ∷ [])
-
 -- a body with other bytes in a column, and with another field of the detail of an index
 abbrev pub altered : Column → List ℕ → List ℕ → List ℕ
 altered c bytes body = pasted body (c .at) bytes
@@ -114,47 +58,6 @@ ccBody =
 -- a DK of one of the lots that the CC brought, after a gap
 unfoldable pub dkBody : List ℕ
 dkBody = header (record { type = dk; sequence = 5; submitter = buyer; gdmm = 0; reason = 1; target = 2; pools = 0 }) ++ detail 12 1000000 0 0
-
--- ---- the book: the first trade is too small for the ON, and the table has room for its pools alone
-unfoldable pub trade : ℕ → ℕ → Trade
-trade n par =
-    record {
-      id = 84 ∷ (48 + n) ∷ replicate 14 0;
-      length = 2;
-      seller = seller;
-      buyer = buyer;
-      contra = ftba;
-      cusip = cusip;
-      settlement = 7142026;
-      price = 98500000000;
-      par = par;
-      openPar = 0;
-    }
-
-unfoldable pub values : ℕ → Values
-values last =
-    record {
-      trades = trade 1 200000000 ∷ trade 2 500000000 ∷ [];
-      lent =
-          record {
-            tradeCount = 2;
-            holidays = [];
-            holidayCount = 0;
-            subscriber = subscriber;
-            limits = record { ceiling = 2500; variance = 10000; poolsAMillion = 3; least = 1000 };
-          };
-      lastMessageId = last;
-      connection = record { id = connection; line = startLine; outbound = outbound 0 };
-    }
-
-unfoldable pub table : List Pool
-table = replicate 4 noPool
-
-abbrev midnight : Caller
-midnight = record { time = 48 ∷ 48 ∷ 48 ∷ 48 ∷ 48 ∷ 48 ∷ [] }
-
-unfoldable pub put : List ℕ → Put
-put body = record { body = body; asked = askedBy midnight 217 }
 
 unfoldable pub start : State
 start = openedState (values 0) table
@@ -217,7 +120,7 @@ pub by-operator : answerOf (callOf (record { book = record { values = start .boo
 unfolding answerOf soundnessChecks senderChecks termsChecks movesChecks isSound valuesFine opened cleared values table trade put onBody header detail allBetween within part readNumber businessDate isDate weekdayOf dayNumber soundLine lengthFits poolCount detailAt details arrivalOf typeOf markIn beginsWithMark idAt tradeIdOf terminatorOf positions lots formedFor currentCents lotWeight goodMillions faceFails facesFail goodLotFails lotFails lotsFail listed brought agrees broughtWeight tradeOfOn duesBy dueWeight targetTrade tradeWeight reported tells start ccBody dkBody pasted after bookAfter tableAfter tradesMoved liveMoved tableMoved lineAfter nextOutbound standingMillions groups groupsFormed groupsBalanced replacementCount second dkOdd
 by-operator = refl
 
--- by the line, and by the sender's system
+-- by the line, and by the sender's system; a CC that fails 20 and 21 gets 20
 pub by-sender : answered start []
     ∷ answered start (altered columns.sequence (digitsOf 6 999999) onBody)
     ∷ answered second onBody
@@ -230,6 +133,7 @@ pub by-sender : answered start []
     ∷ answered start (alteredPool 2 columns.terminator (digitsOf 4 100) onBody)
     ∷ answered second (alteredPool 5 columns.terminator (digitsOf 4 6999) ccBody)
     ∷ answered second (alteredPool 3 columns.terminator (digitsOf 4 7002) ccBody)
+    ∷ answered second (alteredPool 5 columns.terminator (digitsOf 4 7002) ccBody)
     ∷ answered second (altered columns.numberOfPools (digitsOf 4 2) ccBody)
     ∷ answered second (altered columns.settlement (digitsOf 8 7042026) ccBody)
     ∷ answered second (altered columns.reason (digitsOf 4 0) dkOdd)
@@ -237,7 +141,7 @@ pub by-sender : answered start []
     ∷ []
     ≡ Rejected (by.Line 10 silent) ∷ Rejected (by.Line 11 silent) ∷ Rejected (by.Line 12 told) ∷ Rejected (by.Sender 13 told) ∷ Rejected (by.Sender 14 told) ∷ Rejected (by.Sender 15 told)
     ∷ Rejected (by.Sender 16 told) ∷ Rejected (by.Sender 17 told) ∷ Rejected (by.Sender 18 told) ∷ Rejected (by.Sender 19 told) ∷ Rejected (by.Sender 20 told) ∷ Rejected (by.Sender 21 told)
-    ∷ Rejected (by.Sender 22 told) ∷ Rejected (by.Sender 23 told) ∷ Rejected (by.Sender 24 told) ∷ Rejected (by.Sender 25 told) ∷ []
+    ∷ Rejected (by.Sender 20 told) ∷ Rejected (by.Sender 22 told) ∷ Rejected (by.Sender 23 told) ∷ Rejected (by.Sender 24 told) ∷ Rejected (by.Sender 25 told) ∷ []
 unfolding answerOf soundnessChecks senderChecks termsChecks movesChecks isSound valuesFine opened cleared values table trade put onBody header detail allBetween within part readNumber businessDate isDate weekdayOf dayNumber soundLine lengthFits poolCount detailAt details arrivalOf typeOf markIn beginsWithMark idAt tradeIdOf terminatorOf positions lots formedFor currentCents lotWeight goodMillions faceFails facesFail goodLotFails lotFails lotsFail listed brought agrees broughtWeight tradeOfOn duesBy dueWeight targetTrade tradeWeight reported tells start ccBody dkBody pasted after bookAfter tableAfter tradesMoved liveMoved tableMoved lineAfter nextOutbound standingMillions groups groupsFormed groupsBalanced replacementCount second dkOdd
 by-sender = refl
 
@@ -259,11 +163,12 @@ pub by-trader : answered second (altered columns.target (digitsOf 11 9) ccBody)
 unfolding answerOf soundnessChecks senderChecks termsChecks movesChecks isSound valuesFine opened cleared values table trade put onBody header detail allBetween within part readNumber businessDate isDate weekdayOf dayNumber soundLine lengthFits poolCount detailAt details arrivalOf typeOf markIn beginsWithMark idAt tradeIdOf terminatorOf positions lots formedFor currentCents lotWeight goodMillions faceFails facesFail goodLotFails lotFails lotsFail listed brought agrees broughtWeight tradeOfOn duesBy dueWeight targetTrade tradeWeight reported tells start ccBody dkBody pasted after bookAfter tableAfter tradesMoved liveMoved tableMoved lineAfter nextOutbound standingMillions groups groupsFormed groupsBalanced replacementCount second dkOdd
 by-trader = refl
 
--- 37 on a DK: a pool listed twice, and a part of a lot
+-- 37 on a DK: a pool listed twice, a part of a lot, and a pool that nobody brought
 pub dk-listed : answered second (dkOdd ++ detail 3 200000 0 0)
     ∷ answered second (alteredPool 0 columns.poolNumber (digitsOf 7 1) (alteredPool 0 columns.originalFace (digitsOf 9 1000000) dkOdd))
+    ∷ answered second (alteredPool 0 columns.poolNumber (digitsOf 7 9) dkOdd)
     ∷ []
-    ≡ Rejected (by.Trader 37 told) ∷ Rejected (by.Trader 37 told) ∷ []
+    ≡ Rejected (by.Trader 37 told) ∷ Rejected (by.Trader 37 told) ∷ Rejected (by.Trader 37 told) ∷ []
 unfolding answerOf soundnessChecks senderChecks termsChecks movesChecks isSound valuesFine opened cleared values table trade put onBody header detail allBetween within part readNumber businessDate isDate weekdayOf dayNumber soundLine lengthFits poolCount detailAt details arrivalOf typeOf markIn beginsWithMark idAt tradeIdOf terminatorOf positions lots formedFor currentCents lotWeight goodMillions faceFails facesFail goodLotFails lotFails lotsFail listed brought agrees broughtWeight tradeOfOn duesBy dueWeight targetTrade tradeWeight reported tells start ccBody dkBody pasted after bookAfter tableAfter tradesMoved liveMoved tableMoved lineAfter nextOutbound standingMillions groups groupsFormed groupsBalanced replacementCount second dkOdd
 dk-listed = refl
 

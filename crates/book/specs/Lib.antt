@@ -9,3 +9,4 @@ pub mod Checks
 pub mod Step
 pub mod History
 pub mod Promise
+pub mod Samples

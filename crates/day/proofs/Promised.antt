@@ -6,7 +6,6 @@ use Prim.Native.Nat.{ℕ}
 use Rattle.book.specs.declared.Values.{Values}
 use Rattle.book.specs.declared.Pool.{Pool}
 use Rattle.book.specs.Opening.{openingFine}
-use Rattle.book.specs.History.{atOpening, history}
 use Rattle.book.specs.Promise.{State, afterAll, fed, openedState, Demand3}
 use Rattle.book.proofs.Demand3.{demand3}
 use Rattle.calls.specs.declared.Opened.{Opened}
@@ -24,7 +23,7 @@ module _ (v : Values) (pools zeros : List Pool) (o : Opened) (opens : Opens v po
   begins = λ i. record { book = opens .book i; table = opens .zeros fine i }
 
   pub day-demand3 : (tape : List ℕ) (r : Day) (left : List Pool) → Passes (o .book) zeros tape r left
-      → Demand3 v (stateOf (r .book) left) (history v (atOpening v) (fed (openedState v pools) (putsOf tape)))
+      → Demand3 v (stateOf (r .book) left) (fed (openedState v pools) (putsOf tape))
   day-demand3 tape r left d =
       let e : stateOf (r .book) left ≡ afterAll (openedState v pools) (putsOf tape) = d .state ∙ ap (λ (s : State). afterAll s (putsOf tape)) begins in
       rw e (demand3 v pools isOpened (putsOf tape))

@@ -7,7 +7,6 @@ use lib.ListN.{replicate, length-replicate}
 use lib.Dec.{leb}
 use Rattle.book.specs.Records.{noPool}
 use Rattle.book.specs.Opening.{openingFine, recordsMax}
-use Rattle.book.specs.History.{atOpening, history}
 use Rattle.book.specs.Promise.{afterAll, fed, Demand3}
 use Rattle.book.proofs.Demand3.{demand3}
 use Rattle.day.specs.Tape.{putsOf}
@@ -18,5 +17,5 @@ passes : openingFine valuesGiven (replicate 512 noPool) ≡ true
 unfolding openingFine
 passes = λ i. given-fine i && leb (length-replicate 512 noPool i) recordsMax
 
-pub program-demand3 : (tape : List ℕ) → Demand3 valuesGiven (afterAll start (putsOf tape)) (history valuesGiven (atOpening valuesGiven) (fed start (putsOf tape)))
+pub program-demand3 : (tape : List ℕ) → Demand3 valuesGiven (afterAll start (putsOf tape)) (fed start (putsOf tape))
 program-demand3 tape = demand3 valuesGiven (replicate 512 noPool) passes (putsOf tape)

@@ -1,2 +1,4 @@
 pub mod Promised
 pub mod Refused
+pub mod Figures
+pub mod Counting

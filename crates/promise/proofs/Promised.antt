@@ -7,18 +7,16 @@ use mathlib.Core.Bool.{true, false}
 use lib.ListN.{length}
 use Rattle.book.specs.declared.Caller.{Caller}
 use Rattle.book.specs.declared.Values.{Values}
-use Rattle.lists.proofs.Tests.{_∈_}
 use Rattle.book.specs.declared.Book.{Book}
 use Rattle.book.specs.declared.Pool.{Pool}
 use Rattle.book.specs.Reasons.{isAccepted}
-use Rattle.book.specs.Records.{Fields}
-use Rattle.book.specs.Messages.{targetOf, listed}
+use Rattle.book.specs.Trades.{tradesOf}
 use Rattle.book.specs.Opening.{openingFine}
 use Rattle.book.specs.Soundness.{Sound}
-use Rattle.book.specs.Checks.{lotFields, answerOf, askedBy}
-use Rattle.book.specs.History.{Brought, Fed, atOpening, history, isTarget, takesOff}
-use Rattle.book.specs.Promise.{State, Put, callOf, after, openedState, Demand3}
-use Rattle.book.proofs.Demand3.{Trace, done, next, traced, traced-not-twice, traced-brought-before, refused-keeps}
+use Rattle.book.specs.Checks.{askedBy}
+use Rattle.book.specs.History.{Fed}
+use Rattle.book.specs.Promise.{State, after, openedState, Demand3}
+use Rattle.book.proofs.Demand3.{Trace, done, next, traced, traced-count, refused-keeps}
 use Rattle.book.proofs.Undamaged.{traced-sound}
 use Rattle.calls.specs.declared.Opened.{Opened}
 use Rattle.calls.specs.declared.Stepped.{Stepped}
@@ -60,26 +58,14 @@ module _ (v : Values) (pools zeros : List Pool) (r : Opened) (o : Opens v pools 
         let t : Trace start fs s = run-trace run in
         rw begins at t
 
-    -- demand 3 of what the calls leave, for the history of the same messages and answers
-    pub calls-demand3 : Demand3 v s (history v (atOpening v) fs)
+    -- demand 3 of what the calls leave, with the history of the same messages and answers
+    pub calls-demand3 : Demand3 v s fs
     calls-demand3 = traced v pools isOpened s fs from-opening
 
     -- and it is sound, so that 42 never meets them
     pub calls-sound : Sound (s .book) (s .table)
     calls-sound = traced-sound v pools isOpened s fs from-opening
 
-    -- one more call, known by its contract, that is accepted: each lot that it takes off was not yet off
-    module _ (body : List ℕ) (caller : Caller) (out : List ℕ) (x : Stepped) (pools′ : List Pool) (out′ : List ℕ) (f : Framed (s .book) (s .table) body caller out x pools′ out′) (ok : isAccepted (x .answer) ≡ true) where
-      abbrev put : Put
-      put = record { body = body; asked = askedBy caller (length out) }
-
-      passes : isAccepted (answerOf (callOf s put)) ≡ true
-      passes = ap isAccepted (sym (f .answer)) ∙ ok
-
-      pub calls-not-twice : (h : Brought) → h ∈ history v (atOpening v) fs .lots → takesOff body h ≡ true → h .offs ≡ 0
-      calls-not-twice = traced-not-twice v pools isOpened s fs from-opening put passes
-
-      -- and each pool that it lists is of a lot that an earlier accepted message brought under its target, not yet off, which it takes off
-      pub calls-brought-before : (g : Fields) → g ∈ listed body
-          → (h : Brought) × (h ∈ history v (atOpening v) fs .lots) × (isTarget (targetOf body) (h .id) ≡ true) × (h .offs ≡ 0) × (takesOff body h ≡ true) × (g ∈ lotFields (h .lot))
-      calls-brought-before = traced-brought-before v pools isOpened s fs from-opening put passes
+    -- its trades are as many as were opened
+    pub calls-count : length (tradesOf (s .book .values)) ≡ length (tradesOf v)
+    calls-count = traced-count v pools isOpened s fs from-opening

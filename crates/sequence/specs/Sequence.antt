@@ -1,6 +1,5 @@
 -- Sequence numbers: inbound and outbound are separate counters (01, The book; 11, 12, 42, 43).
 use Prim.Native.Nat.{ℕ, _+_}
-use mathlib.Core.List.{List, [], _∷_}
 use mathlib.Core.Bool.{Bool, false, cond, _&&_}
 use lib.Dec.{eqb, leb, ltb}
 use Rattle.sequence.specs.declared.Inbound.{Inbound}
@@ -69,11 +68,6 @@ moved Gap line number = processed number
 -- the line after a number
 unfoldable pub lineAfter : Line → Inbound → Line
 lineAfter line number = moved (arrivalOf line number) line number
-
--- what the numbers of a list are to the line, one after another
-abbrev pub arrivals : Line → List ℕ → List Arrival
-arrivals line [] = []
-arrivals line (n ∷ ns) = arrivalOf line (inbound n) ∷ arrivals (lineAfter line (inbound n)) ns
 
 -- 42: expected is 1 where none is received
 abbrev pub soundAfter : Received → Inbound → Bool
