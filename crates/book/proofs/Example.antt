@@ -2,7 +2,7 @@
 use Prim.Native.Nat.{ℕ, _+_}
 use mathlib.Core.Path.{_≡_, refl}
 use mathlib.Core.List.{List, [], _∷_, _++_, map}
-use mathlib.Core.Bool.{true}
+use mathlib.Core.Bool.{true, false}
 use lib.ListN.{length, replicate}
 use Rattle.layout.specs.declared.Column.{Column}
 use Rattle.layout.specs.Columns as columns
@@ -24,7 +24,7 @@ use Rattle.book.specs.declared.Caller.{Caller}
 use Rattle.book.specs.declared.Answer.{Answer}
 use Rattle.book.specs.declared.Answer.the-variants.{Accepted, Rejected, Dked}
 use Rattle.book.specs.declared.Reason.the-variants as by
-use Rattle.book.specs.Reasons.{silent, told}
+use Rattle.book.specs.Reasons.{silent, told, numberOf, openingRefused}
 use Rattle.book.specs.Dues.{dueWeight}
 use Rattle.book.specs.Records.{tradeWeight, standingMillions, noPool}
 use Rattle.book.specs.Messages.{typeOf, ftba, fsti, listed, brought}
@@ -116,25 +116,29 @@ unfoldable pub dkBody : List ℕ
 dkBody = header (record { type = dk; sequence = 5; submitter = buyer; gdmm = 0; reason = 1; target = 2; pools = 0 }) ++ detail 12 1000000 0 0
 
 -- ---- the book: the first trade is too small for the ON, and the table has room for its pools alone
-unfoldable pub trade : ℕ → ℕ → Trade
-trade n par =
+-- a trade by its seller and settlement, its number and its par
+abbrev pub dealt : List ℕ → ℕ → ℕ → ℕ → Trade
+dealt from settles n par =
     record {
       id = 84 ∷ (48 + n) ∷ replicate 14 0;
       length = 2;
-      seller = seller;
+      seller = from;
       buyer = buyer;
       contra = ftba;
       cusip = cusip;
-      settlement = 7142026;
+      settlement = settles;
       price = 98500000000;
       par = par;
       openPar = 0;
     }
 
-unfoldable pub values : ℕ → Values
-values last =
+unfoldable pub trade : ℕ → ℕ → Trade
+trade n par = dealt seller 7142026 n par
+
+abbrev pub lending : List Trade → ℕ → Values
+lending trades last =
     record {
-      trades = trade 1 200000000 ∷ trade 2 500000000 ∷ [];
+      trades = trades;
       lent =
           record {
             tradeCount = 2;
@@ -146,6 +150,9 @@ values last =
       lastMessageId = last;
       connection = record { id = connection; line = startLine; outbound = outbound 0 };
     }
+
+unfoldable pub values : ℕ → Values
+values last = lending (trade 1 200000000 ∷ trade 2 500000000 ∷ []) last
 
 unfoldable pub table : List Pool
 table = replicate 4 noPool
@@ -162,6 +169,19 @@ start = openedState (values 0) table
 pub opening-passes : openingFine (values 0) table ≡ true
 unfolding openingFine valuesFine values table trade allBetween within part businessDate isDate weekdayOf dayNumber
 opening-passes = refl
+
+-- 41: a trade whose seller is its buyer, one that settles on a Saturday, two of one ID, and a last message ID of twelve digits
+pub opening-refused : openingFine (lending (trade 1 200000000 ∷ dealt buyer 7142026 2 500000000 ∷ []) 0) table
+    ∷ openingFine (lending (trade 1 200000000 ∷ dealt seller 7042026 2 500000000 ∷ []) 0) table
+    ∷ openingFine (lending (trade 1 200000000 ∷ trade 1 500000000 ∷ []) 0) table
+    ∷ openingFine (values 100000000000) table
+    ∷ []
+    ≡ false ∷ false ∷ false ∷ false ∷ []
+unfolding openingFine valuesFine values table trade allBetween within part businessDate isDate weekdayOf dayNumber
+opening-refused = refl
+
+pub refused-with : numberOf openingRefused ≡ 41
+refused-with = refl
 
 -- ---- the day: the answer to each message, and the open pars and standing millions of both trades after it
 pub record Told : Type 0 where
