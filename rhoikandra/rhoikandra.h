@@ -34,7 +34,9 @@
 #define RHOIKANDRA_OUTPUT_LENGTH 217
 
 /* A record of the table: the message ID that brought the pool, its lot's ordinal there, its trade, the matched fields as bytes, its
-   current face in cents, its lot's kind (1 good, 2 odd, 3 bad) and millions. A record that is not used is zeros. */
+   current face in cents, its lot's kind (1 good, 2 odd, 3 bad) and millions. A record that is not used is zeros. spare is no part of
+   a record: no call reads it, and a call may leave any bytes there, of the caller's stack too. Who saves the memory as it lies
+   clears it first, or saves field by field. */
 typedef struct {
     uint64_t message;
     uint64_t ordinal;
@@ -42,6 +44,7 @@ typedef struct {
     uint8_t lot[6];
     uint8_t pool[7];
     uint8_t original[9];
+    uint8_t spare[2];
     uint64_t current;
     uint64_t kind;
     uint64_t millions;

@@ -90,6 +90,7 @@ pub fn pool(record: &PoolRecord) -> Pool {
         lot: record.matched.lot_id,
         pool: record.matched.pool_number,
         original: record.matched.original_face,
+        spare: [0; 2],
         current: record.current_face_cents,
         kind: u64::from(record.kind),
         millions: record.lot_millions,

@@ -6,7 +6,7 @@ mod three_messages;
 use std::path::Path;
 use std::process::Command;
 
-use rhoikandra::{numbers, Book};
+use rhoikandra::{numbers, Answer, Book, Pool, OUTPUT_LENGTH};
 
 /// By the paper: 3 millions of par less two good lots of one million; a replacement of equal weight leaves both figures;
 /// a DK gives one million back; and what is off cannot be taken off again.
@@ -48,6 +48,47 @@ fn frames_of_a_tape() {
     let tape = b"noise\x02lost\x02ON\x03\x03more\x02\x03\x02unfinished";
     assert_eq!(rhoikandra::frames(tape).collect::<Vec<_>>(), [&b"ON"[..], b""]);
     assert_eq!(rhoikandra::frames(b"").next(), None);
+}
+
+/// The two bytes of a record that are no part of it: an accepted opening leaves nothing there, of the table before it or of the
+/// stack, and a frame leaves them so; a refused opening leaves them as they were; a book's bytes have none of them.
+#[test]
+fn spare_bytes() {
+    let spent = Pool {
+        message: u64::MAX,
+        ordinal: u64::MAX,
+        trade: u64::MAX,
+        lot: [0xFF; 6],
+        pool: [0xFF; 7],
+        original: [0xFF; 9],
+        spare: [0xFF; 2],
+        current: u64::MAX,
+        kind: u64::MAX,
+        millions: u64::MAX,
+    };
+    assert_eq!(size_of::<Pool>(), 72);
+
+    let mut opening = three_messages::opening();
+    let mut book = Book::of(&opening, 64);
+    book.pools.fill(spent);
+    book.open().unwrap();
+    assert_eq!(book.pools, [Pool::default(); 64]);
+    assert!(book.pools.iter().all(|pool| pool.spare == [0; 2]));
+
+    let message = three_messages::body("ON", 1, 1, 0, &[("AA00001", 1_000_000, 100_000_000, "0001")]);
+    assert_eq!(book.step(&message, b"093000", &mut [0; OUTPUT_LENGTH]), Answer::Accepted(1));
+    assert!(book.pools.iter().all(|pool| pool.spare == [0; 2]));
+
+    let bytes = book.to_bytes();
+    book.pools.iter_mut().for_each(|pool| pool.spare = [0xFF; 2]);
+    assert_eq!(book.to_bytes(), bytes);
+    assert_eq!(Book::from_bytes(&bytes), Some(book));
+
+    opening.trades[0].seller = opening.trades[0].buyer;
+    let mut refused = Book::of(&opening, 64);
+    refused.pools.fill(spent);
+    assert_eq!(refused.open(), Err(41));
+    assert!(refused.pools.iter().all(|pool| *pool == spent && pool.spare == spent.spare));
 }
 
 #[test]

@@ -36,9 +36,9 @@ fn told(answer: Answer) -> String {
     }
 }
 
-/// The lines that the example prints.
-pub fn lines() -> Vec<String> {
-    let opening = Opening {
+/// One trade of three millions.
+pub fn opening() -> Opening {
+    Opening {
         trades: vec![Trade {
             id: b"T1".to_vec(),
             seller: *b"MBAA",
@@ -55,8 +55,12 @@ pub fn lines() -> Vec<String> {
         limits: Limits { ceiling: 2500, variance: 10_000, pools: 3, least: 1000 },
         last: 0,
         outbound: 0,
-    };
-    let mut book = Book::of(&opening, 64);
+    }
+}
+
+/// The lines that the example prints.
+pub fn lines() -> Vec<String> {
+    let mut book = Book::of(&opening(), 64);
     book.open().expect("the opening is in range");
     // Two good lots of one million each; then one of them is replaced; then the replacement is questioned.
     let messages = [

@@ -116,7 +116,7 @@ pub struct Figures {
 /// A live pool: the message ID that brought it, its lot's ordinal there, its trade, the matched fields as bytes, its
 /// current face in cents, its lot's kind (1 good, 2 odd, 3 bad) and millions. A record that is not used is zeros.
 #[repr(C)]
-#[derive(Clone, Copy, Debug, Default, PartialEq, Eq)]
+#[derive(Clone, Copy, Debug, Default, Eq)]
 pub struct Pool {
     pub message: u64,
     pub ordinal: u64,
@@ -124,9 +124,17 @@ pub struct Pool {
     pub lot: [u8; 6],
     pub pool: [u8; 7],
     pub original: [u8; 9],
+    /// No part of the record: no call reads it, two records are equal whatever stands here, and a book's bytes have none of it.
+    pub spare: [u8; 2],
     pub current: u64,
     pub kind: u64,
     pub millions: u64,
+}
+
+impl PartialEq for Pool {
+    fn eq(&self, other: &Pool) -> bool {
+        self.parts() == other.parts()
+    }
 }
 
 /// A book between two calls: its words and the records of its table.
@@ -142,7 +150,7 @@ impl Book {
         Book { words: opening.words(), pools: vec![Pool::default(); records] }
     }
 
-    /// Opens it, or says 41 and leaves it as it was.
+    /// Opens it, or says 41 and leaves it as it was. An opened table is zeros to the byte.
     pub fn open(&mut self) -> Result<(), Number> {
         let Book { words, pools } = self;
         let code = unsafe {
@@ -154,7 +162,10 @@ impl Book {
             )
         };
         match code {
-            0 => Ok(()),
+            0 => {
+                pools.iter_mut().for_each(|pool| pool.spare = [0; 2]);
+                Ok(())
+            }
             number => Err(number as Number),
         }
     }
@@ -227,10 +238,16 @@ fn word(bytes: &[u8]) -> u64 {
 }
 
 impl Pool {
-    fn to_bytes(self) -> Vec<u8> {
+    /// What a record says: its numbers and its matched fields.
+    fn parts(&self) -> ([u64; 6], [u8; 6], [u8; 7], [u8; 9]) {
         let numbers = [self.message, self.ordinal, self.trade, self.current, self.kind, self.millions];
+        (numbers, self.lot, self.pool, self.original)
+    }
+
+    fn to_bytes(self) -> Vec<u8> {
+        let (numbers, lot, pool, original) = self.parts();
         let numbers = numbers.into_iter().flat_map(u64::to_le_bytes);
-        numbers.chain(self.lot).chain(self.pool).chain(self.original).collect()
+        numbers.chain(lot).chain(pool).chain(original).collect()
     }
 
     fn from_bytes(bytes: &[u8]) -> Pool {
@@ -243,6 +260,7 @@ impl Pool {
             lot: fields[..6].try_into().unwrap(),
             pool: fields[6..13].try_into().unwrap(),
             original: fields[13..].try_into().unwrap(),
+            spare: [0; 2],
             current: number(3),
             kind: number(4),
             millions: number(5),

@@ -2,8 +2,8 @@
 use Prim.Native.Nat.{ℕ, _+_}
 use mathlib.Core.Path.{_≡_, refl}
 use mathlib.Core.List.{List, [], _∷_, _++_, map}
-use mathlib.Core.Bool.{true}
-use lib.ListN.{replicate}
+use mathlib.Core.Bool.{true, false}
+use lib.ListN.{length, replicate}
 use Rattle.layout.specs.declared.Column.{Column}
 use Rattle.layout.specs.Columns as columns
 use Rattle.lists.specs.Lists.{within, part, pasted}
@@ -20,7 +20,7 @@ use Rattle.trade_id.specs.SpecialInstructions.{mark, beginsWithMark, markIn, id
 use Rattle.book.specs.declared.Answer.{Answer}
 use Rattle.book.specs.declared.Answer.the-variants.{Accepted, Rejected, Dked}
 use Rattle.book.specs.declared.Reason.the-variants as by
-use Rattle.book.specs.Reasons.{silent, told}
+use Rattle.book.specs.Reasons.{silent, told, numberOf, openingRefused}
 use Rattle.book.specs.Dues.{dueWeight}
 use Rattle.book.specs.Records.{tradeWeight, standingMillions, noPool}
 use Rattle.book.specs.Messages.{typeOf, fsti, listed, brought}
@@ -31,7 +31,7 @@ use Rattle.book.specs.Checks.{askedBy, targetTrade, duesBy, soundnessChe
 use Rattle.book.specs.Step.{tradesMoved, liveMoved, tableMoved, bookAfter, tableAfter}
 use Rattle.book.specs.History.{Brought, History, atOpening, standingWeight, feed, history}
 use Rattle.book.specs.Promise.{State, Put, callOf, after, fed, openedState}
-use Rattle.book.specs.Samples.{seller, buyer, on, correction, dk, joined, header, detail, trade, values, table, midnight, put}
+use Rattle.book.specs.Samples.{seller, buyer, on, correction, dk, joined, header, detail, dealt, trade, lending, values, table, midnight, put}
 
 -- ---- bodies
 -- a body with other bytes in a column, and with another field of the detail of an index
@@ -65,6 +65,19 @@ start = openedState (values 0) table
 pub opening-passes : openingFine (values 0) table ≡ true
 unfolding openingFine valuesFine values table trade allBetween within part businessDate isDate weekdayOf dayNumber
 opening-passes = refl
+
+-- 41: a trade whose seller is its buyer, one that settles on a Saturday, two of one ID, and a last message ID of twelve digits
+pub opening-refused : openingFine (lending (trade 1 200000000 ∷ dealt buyer 7142026 2 500000000 ∷ []) 0) table
+    ∷ openingFine (lending (trade 1 200000000 ∷ dealt seller 7042026 2 500000000 ∷ []) 0) table
+    ∷ openingFine (lending (trade 1 200000000 ∷ trade 1 500000000 ∷ []) 0) table
+    ∷ openingFine (values 100000000000) table
+    ∷ []
+    ≡ false ∷ false ∷ false ∷ false ∷ []
+unfolding openingFine valuesFine values table trade allBetween within part businessDate isDate weekdayOf dayNumber
+opening-refused = refl
+
+pub refused-with : numberOf openingRefused ≡ 41
+refused-with = refl
 
 -- ---- the day: the answer to each message, and the open pars and standing millions of both trades after it
 pub record Told : Type 0 where

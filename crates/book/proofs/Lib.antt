@@ -22,3 +22,4 @@ pub mod Stepping
 pub mod Calls
 pub mod Demand3
 pub mod Undamaged
+pub mod Unsound

@@ -1,12 +1,16 @@
--- Laws of tests and of lists kept by a test, that nothing of the book stands in.
-use Prim.Native.Nat.{ℕ, zero, suc, _+_, _≤_}
+-- Laws of tests, of lists kept by a test and of a search, that nothing of the book stands in.
+use Prim.Native.Nat.{ℕ, zero, suc, _+_, _≤_, _<_}
 use mathlib.Core.Path.{_≡_, refl, sym, ap, _∙_}
 use mathlib.Core.Logic.{_⊎_, inl, inr}
 use mathlib.Core.List.{List, [], _∷_, _++_, map, List·Memᴰ·head, List·Memᴰ·tail}
 use mathlib.Core.Bool.{Bool, true, false, cond, not, _&&_, _||_, false≢true, true≢false}
 use native.Mathlib.Omega.{arith}
-use lib.ListN.{length, replicate}
+use lib.ListN.{length, getD, drop, replicate, drop-of-length-le}
+use lib.Dec.{eqb}
+use borrow.Author.Tests.{eq-eqb, ne-eqb}
 use Rattle.lists.specs.Lists.{keep, any, all, sumOf}
+use Rattle.lists.proofs.Parts.{drop-turn}
+use Rattle.lists.proofs.Looking.{any-stop, any-more}
 use Rattle.lists.proofs.Tests.{_∈_, and-left, and-right, both}
 
 -- ---- tests
@@ -153,3 +157,14 @@ pairwise-map {A} before over f h (x ∷ xs) e =
     let near : all (λ (y : A). over (f x) (f y)) xs ≡ true = sym (all-of-map (over (f x)) f xs) ∙ and-left (all (over (f x)) (map f xs)) (pairwise over (map f xs)) e in
     both (all (before x) xs) (pairwise before xs) (all-implied (λ (y : A). over (f x) (f y)) (before x) (h x) xs near)
     (pairwise-map before over f h xs (and-right (all (over (f x)) (map f xs)) (pairwise over (map f xs)) e))
+
+-- ---- a number looked for, one after another: where it stands in none before i, what is left at i decides
+module _ (n : ℕ) (xs : List ℕ) (i : ℕ) (left : any (eqb n) (drop i xs) ≡ any (eqb n) xs) where
+  pub looked-found : i < length xs → n ≡ getD xs i 0 → true ≡ any (eqb n) xs
+  looked-found h e = sym (any-stop (eqb n) (drop-turn xs i 0 h) (eq-eqb n (getD xs i 0) e)) ∙ left
+
+  pub looked-on : i < length xs → (n ≡ getD xs i 0 → ⊥) → any (eqb n) (drop (i + 1) xs) ≡ any (eqb n) xs
+  looked-on h e = sym (any-more (eqb n) (drop-turn xs i 0 h) (ne-eqb n (getD xs i 0) e)) ∙ left
+
+  pub looked-through : length xs ≤ i → false ≡ any (eqb n) xs
+  looked-through h = sym (ap (any (eqb n)) (drop-of-length-le xs {i = i} h)) ∙ left

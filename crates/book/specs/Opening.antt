@@ -1,5 +1,5 @@
--- Opening (01, "The book" and number 41): which values are in range, and the book and table that an accepted opening leaves.
-use Prim.Native.Nat.{ℕ}
+-- Opening (01, "The book" and number 41): which values are in range, the book and table that an accepted opening leaves, and the book that a refused one gives back.
+use Prim.Native.Nat.{ℕ, _+_}
 use mathlib.Core.List.{List, [], _∷_, map}
 use mathlib.Core.Bool.{Bool, false, not, _&&_, _||_}
 use lib.ListN.{length, take, replicate}
@@ -118,6 +118,31 @@ opened v =
       values = record { trades = map atPar (v .trades); lent = v .lent; lastMessageId = v .lastMessageId; connection = atStart (v .connection) };
       live = 0;
     }
+
+-- a book with one trade more than a book can have
+abbrev pub overfull : Book → Book
+overfull b =
+    record {
+      values =
+          record {
+            trades = b .values .trades;
+            lent =
+                record {
+                  tradeCount = tradesMax + 1;
+                  holidays = b .values .lent .holidays;
+                  holidayCount = b .values .lent .holidayCount;
+                  subscriber = b .values .lent .subscriber;
+                  limits = b .values .lent .limits;
+                };
+            lastMessageId = b .values .lastMessageId;
+            connection = b .values .connection;
+          };
+      live = b .live;
+    }
+
+-- what an opening that 41 refuses gives back: 42 refuses every call on it, whatever the table is
+unfoldable pub unopened : Values → Book
+unopened v = overfull (opened v)
 
 -- the table that opening leaves: zeros
 unfoldable pub cleared : List Pool → List Pool

@@ -67,25 +67,29 @@ detail pool original current terminator =
     joined (blanks 8 ∷ digitsOf 7 pool ∷ digitsOf 9 original ∷ blanks 55 ∷ digitsOf 11 current ∷ blanks 32 ∷ digitsOf 4 terminator ∷ blanks 73 ∷ [])
 
 -- ---- a book of two trades, a table of four records, and a call with a body
-unfoldable pub trade : ℕ → ℕ → Trade
-trade n par =
+-- a trade by its seller and settlement, its number and its par
+abbrev pub dealt : List ℕ → ℕ → ℕ → ℕ → Trade
+dealt from settles n par =
     record {
       id = 84 ∷ (48 + n) ∷ replicate 14 0;
       length = 2;
-      seller = seller;
+      seller = from;
       buyer = buyer;
       contra = ftba;
       cusip = cusip;
-      settlement = 7142026;
+      settlement = settles;
       price = 98500000000;
       par = par;
       openPar = 0;
     }
 
-unfoldable pub values : ℕ → Values
-values last =
+unfoldable pub trade : ℕ → ℕ → Trade
+trade n par = dealt seller 7142026 n par
+
+abbrev pub lending : List Trade → ℕ → Values
+lending trades last =
     record {
-      trades = trade 1 200000000 ∷ trade 2 500000000 ∷ [];
+      trades = trades;
       lent =
           record {
             tradeCount = 2;
@@ -97,6 +101,9 @@ values last =
       lastMessageId = last;
       connection = record { id = connection; line = startLine; outbound = outbound 0 };
     }
+
+unfoldable pub values : ℕ → Values
+values last = lending (trade 1 200000000 ∷ trade 2 500000000 ∷ []) last
 
 unfoldable pub table : List Pool
 table = replicate 4 noPool

@@ -2,12 +2,12 @@
 use Prim.Native.Nat.{ℕ}
 use mathlib.Core.Path.{_≡_}
 use mathlib.Core.List.{List}
-use mathlib.Core.Bool.{true, false}
+use mathlib.Core.Bool.{true, false, cond}
 use Rattle.book.specs.declared.Caller.{Caller}
 use Rattle.book.specs.declared.Values.{Values}
 use Rattle.book.specs.declared.Book.{Book}
 use Rattle.book.specs.declared.Pool.{Pool}
-use Rattle.book.specs.Opening.{openingFine, opened, cleared}
+use Rattle.book.specs.Opening.{openingFine, opened, unopened, cleared}
 use Rattle.book.specs.Checks.{answerOf}
 use Rattle.book.specs.Step.{bookAfter, tableAfter, outputAfter, callWith}
 use Rattle.calls.specs.declared.Figures.{Figures}
@@ -22,10 +22,10 @@ pub record Framed (b : Book) (pools : List Pool) (body : List ℕ) (caller : Cal
   pub table : pools′ ≡ tableAfter (callWith b pools body caller out)
   pub output : out′ ≡ outputAfter (callWith b pools body caller out) out
 
--- an opening: whether 41 lets it pass, and the opened book in either case; zeros in the table where it passes, and the table as it was where it does not
+-- an opening: whether 41 lets it pass; the opened book and zeros in the table where it does; else a book that every call refuses, and the table as it was
 pub record Opens (v : Values) (pools : List Pool) (r : Opened) (pools′ : List Pool) : Type 0 where
   pub fine : r .fine ≡ openingFine v pools
-  pub book : r .book ≡ opened v
+  pub book : r .book ≡ cond (r .fine) (opened v) (unopened v)
   pub zeros : r .fine ≡ true → pools′ ≡ cleared pools
   pub stays : r .fine ≡ false → pools′ ≡ pools
 

@@ -8,7 +8,7 @@ pub struct Stepped {
     pub answer: Answer,
 }
 
-// The book, and whether opening passes. With the same table, every call refuses the book of a refused opening with 42: its values or that table still fail.
+// The book, and whether opening passes. The book of a refused opening has one trade more than a book can have: every call refuses it with 42, whatever the table is.
 pub struct Opened {
     pub fine: bool,
     pub book: Book,

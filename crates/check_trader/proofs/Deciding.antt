@@ -4,7 +4,7 @@ use native.Mathlib.Omega.{arith}
 use mathlib.Core.Path.{_≡_, refl, sym, ap, _∙_}
 use mathlib.Core.List.{List, [], map}
 use mathlib.Core.Bool.{Bool, true, false, cond, not, _&&_, _||_, true≢false}
-use lib.ListN.{length, take, drop, getD, length-map}
+use lib.ListN.{length, take, getD, length-map}
 use lib.Dec.{eqb, leb, ltb}
 use lib.Seq.{length-take-le, getD-take}
 use borrow.Author.Tests.{leb-true, lt-ltb, le-ltb, eq-eqb, not-true, not-false}

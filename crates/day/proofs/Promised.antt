@@ -20,7 +20,7 @@ module _ (v : Values) (pools zeros : List Pool) (o : Opened) (opens : Opens v po
   fine = opens .fine ∙ isOpened
 
   begins : stateOf (o .book) zeros ≡ openedState v pools
-  begins = λ i. record { book = opens .book i; table = opens .zeros fine i }
+  begins = rw (opens .book, fine, opens .zeros fine)
 
   pub day-demand3 : (tape : List ℕ) (r : Day) (left : List Pool) → Passes (o .book) zeros tape r left
       → Demand3 v (stateOf (r .book) left) (fed (openedState v pools) (putsOf tape))

@@ -1,9 +1,10 @@
 -- The program's values pass 41, and the book that it runs its day on is the one that the report speaks of.
 use mathlib.Core.Path.{_≡_, refl, sym, ap, subst, _∙_}
 use mathlib.Core.List.{List, [], _∷_}
-use mathlib.Core.Bool.{Bool, true, false}
+use mathlib.Core.Bool.{true, _&&_}
 use Prim.Native.Nat.{ℕ}
 use lib.ListN.{length, replicate, set, length-replicate}
+use lib.Dec.{leb}
 use Rattle.lists.specs.Lists.{within, part}
 use Rattle.fields.specs.Fields.{allBetween}
 use Rattle.calendar.specs.Calendar.{dayNumber, weekdayOf, isDate, businessDate}
@@ -14,7 +15,7 @@ use Rattle.book.specs.declared.Values.{Values}
 use Rattle.book.specs.declared.Book.{Book}
 use Rattle.book.specs.declared.Pool.{Pool}
 use Rattle.book.specs.Records.{noPool}
-use Rattle.book.specs.Opening.{valuesFine, cleared}
+use Rattle.book.specs.Opening.{recordsMax, valuesFine, openingFine}
 use Rattle.book.specs.Promise.{State, afterAll, fed, openedState}
 use Rattle.calls.specs.declared.Opened.{Opened}
 use Rattle.calls.specs.declared.Figures.{Figures}
@@ -50,18 +51,16 @@ pub given-fine : valuesFine valuesGiven ≡ true
 unfolding valuesFine valuesGiven within part allBetween dayNumber weekdayOf isDate businessDate
 given-fine = refl
 
--- the records of zeros, opened: zeros again, whether 41 passes or not
-cleared-zeros : (n : ℕ) → cleared (replicate n noPool) ≡ replicate n noPool
-unfolding cleared
-cleared-zeros n = ap (λ (m : ℕ). replicate m noPool) (length-replicate n noPool)
+-- and any values in range, with a table as long as the program's
+pub given-passes : (v : Values) → valuesFine v ≡ true → openingFine v (replicate 512 noPool) ≡ true
+unfolding openingFine
+given-passes v e = λ i. e i && leb (length-replicate 512 noPool i) recordsMax
 
-module _ (v : Values) (n : ℕ) (zeros : List Pool) (o : Opened) (opens : Opens v (replicate n noPool) o zeros) where
-  table-is : (fine : Bool) → o .fine ≡ fine → zeros ≡ cleared (replicate n noPool)
-  table-is true e = opens .zeros e
-  table-is false e = opens .stays e ∙ sym (cleared-zeros n)
-
-  begins : stateOf (o .book) zeros ≡ openedState v (replicate n noPool)
-  begins = λ i. record { book = opens .book i; table = table-is (o .fine) refl i }
+-- the state that an opening leaves where 41 passes
+begins : (v : Values) (pools zeros : List Pool) (o : Opened) → Opens v pools o zeros → openingFine v pools ≡ true → stateOf (o .book) zeros ≡ openedState v pools
+begins v pools zeros o opens passes =
+    let fine : o .fine ≡ true = opens .fine ∙ passes in
+    rw (opens .book, fine, opens .zeros fine)
 
 -- the table of zeros: shut, so that no check computes it
 unfoldable pub noPools : ℕ → List Pool
@@ -77,11 +76,11 @@ no-pools-long n = length-replicate n noPool
 
 -- the report of a day over zeros that were opened
 pub reports : (v : Values) (zeros : List Pool) (o : Opened) → Opens v (noPools 512) o zeros → (b : Book) → b ≡ o .book → (tape : List ℕ) (d : Day) (left : List Pool) → Passes b zeros tape d left
-    → (b′ : Book) → b′ ≡ d .book → (f : Figures) → Says b′ left 0 f → (r : Report) → r ≡ reportOf d f → ReportsOver v tape r
-reports v zeros o opens b is tape d left p b′ is′ f says r e =
+    → (b′ : Book) → b′ ≡ d .book → (f : Figures) → Says b′ left 0 f → (r : Report) → r ≡ reportOf d f → valuesFine v ≡ true → ReportsOver v tape r
+reports v zeros o opens b is tape d left p b′ is′ f says r e fine =
     let opens₀ : Opens v (replicate 512 noPool) o zeros = subst (λ (l : List Pool). Opens v l o zeros) (sym (no-pools-are 512)) opens in
     let p₀ : Passes (o .book) zeros tape d left = subst (λ (c : Book). Passes c zeros tape d left) is p in
-    let first = begins v 512 zeros o opens₀ in
+    let first = begins v (replicate 512 noPool) zeros o opens₀ (given-passes v fine) in
     let said : f ≡ saidOf (afterAll (startOf v) (putsOf tape)) 0 = says .figures ∙ ap (λ (c : Book). figuresOf c left 0) is′ ∙ ap (λ (s : State). saidOf s 0) (p₀ .state ∙ ap (λ (s : State). afterAll s (putsOf tape)) first) in
     subst (ReportsOver v tape) (sym e)
     (record {
@@ -92,7 +91,7 @@ reports v zeros o opens b is tape d left p b′ is′ f says r e =
     })
 
 -- with the program's values
-pub given-reports : (v : Values) (tape : List ℕ) (r : Report) → v ≡ valuesGiven → ReportsOver v tape r → Reports tape r
+pub given-reports : (v : Values) (tape : List ℕ) (r : Report) → v ≡ valuesGiven → (valuesFine v ≡ true → ReportsOver v tape r) → Reports tape r
 given-reports v tape r e o =
-    let p : ReportsOver valuesGiven tape r = subst (λ (w : Values). ReportsOver w tape r) e o in
+    let p : ReportsOver valuesGiven tape r = subst (λ (w : Values). valuesFine w ≡ true → ReportsOver w tape r) e o given-fine in
     record { accepted = p .accepted; others = p .others; openPar = p .openPar; millions = p .millions }

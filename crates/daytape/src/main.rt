@@ -13,6 +13,8 @@ use libc::STDIN_FILENO;
 use libc::STDOUT_FILENO;
 use sequence::Outbound;
 ghost use mathlib.Core.Path.{_≡_};
+ghost use mathlib.Core.Bool.{true};
+ghost use Rattle.book.specs.Opening.{valuesFine};
 ghost use Rattle.daytape.specs.Program.{theTrade, valuesGiven, reportOf, ReportsOver, Reports};
 
 const RECORDS: usize = 512;
@@ -98,9 +100,9 @@ fn reported(passed: Day, said: Figures) -> Report
     }
 }
 
-// The day of a tape, over a table of the program's own.
+// The day of a tape, over a table of the program's own, with values that are in range.
 fn day_over(v: Values, tape: &[u8]) -> Report
-    ensures { λ r. ⌜ ReportsOver v (now (tape .entry)) r ⌝ }
+    ensures { λ r. ⌜ (valuesFine v ≡ true → ReportsOver v (now (tape .entry)) r) ⌝ }
 {
     let none = table_load::none();
     let mut pools = [none; RECORDS];

@@ -6,7 +6,7 @@ use mathlib.Core.Bool.{cond}
 use Rattle.lists.specs.Lists.{pasted}
 use Rattle.framing.specs.declared.Frame.{Frame}
 use Rattle.framing.specs.declared.Frame.the-variants.{Body, Nothing}
-use Rattle.book.specs.Reasons.{isAccepted, isSilent}
+use Rattle.book.specs.Reasons.{numberOf, openingRefused, isAccepted, isSilent}
 use Rattle.exports_numbers.specs.Bit.{bit}
 use Rattle.exports_numbers.specs.Said.{saidOf}
 use Rattle.image.specs.Images.{tradesWords, restImage, imageOf}
@@ -19,9 +19,9 @@ pub record Finishes (ws said : List ℕ) (r : Stepped) (ws′ said′ : List ℕ
   pub image : ws′ ≡ cond (isSilent (r .answer)) ws (cond (isAccepted (r .answer)) (pasted ws 0 (imageOf (r .book))) (pasted ws tradesWords (restImage (r .book))))
   pub answer : said′ ≡ pasted said 0 (saidOf (r .answer))
 
--- the end of an opening: where it passes, the words of the opened book
+-- the end of an opening: 0 and the words of the opened book where it passes, else the number of its refusal
 pub record OpensTo (ws : List ℕ) (o : Opened) (ws′ : List ℕ) (r : ℕ) : Type 0 where
-  pub code : r ≡ cond (o .fine) 0 41
+  pub code : r ≡ cond (o .fine) 0 (numberOf openingRefused)
   pub image : ws′ ≡ cond (o .fine) (pasted ws 0 (imageOf (o .book))) ws
 
 -- whether the trade is known, its open par and its standing millions

@@ -50,7 +50,7 @@ module _ (v : Values) (pools zeros : List Pool) (r : Opened) (o : Opens v pools 
   start = record { book = r .book; table = zeros }
 
   begins : start ≡ openedState v pools
-  begins = rw (o .book, o .zeros fine)
+  begins = rw (o .book, fine, o .zeros fine)
 
   module _ (s : State) (fs : List Fed) (run : Run start fs s) where
     from-opening : Trace (openedState v pools) fs s

@@ -19,7 +19,7 @@ use Rattle.exports_numbers.specs.Said.{saidOf}
 use Rattle.image.specs.Images.{tradesWords, isImage, bookIn, restImage, imageOf}
 use Rattle.image.proofs.Kept.{image-again, rest-alone}
 use Rattle.calls.specs.declared.Stepped.{Stepped}
-use Rattle.rows_step.proofs.Answering.{unsound-answer}
+use Rattle.book.proofs.Unsound.{unsound-answer}
 use Rattle.calls.specs.Calls.{Framed}
 use Rattle.exports_book.specs.Reading.{timeWidth, callerOf, callable, Reads}
 use Rattle.exports_book.specs.Writing.{Finishes}

@@ -7,7 +7,7 @@ use Rattle.lists.specs.Lists.{pasted}
 use Rattle.book.specs.declared.Values.{Values}
 use Rattle.book.specs.declared.Book.{Book}
 use Rattle.book.specs.declared.Pool.{Pool}
-use Rattle.book.specs.Opening.{openingFine, opened}
+use Rattle.book.specs.Opening.{openingFine, opened, unopened}
 use Rattle.image.specs.Images.{isImage, bookIn, imageOf}
 use Rattle.calls.specs.declared.Opened.{Opened}
 use Rattle.calls.specs.Calls.{Opens}
@@ -42,7 +42,7 @@ module _ (ws : List ℕ) (pools : List Pool) (v : Values) (o : Opened) (ws′ : 
             record {
               code = ended .code ∙ ap (λ (k : Bool). cond k 0 41) e;
               image =
-                  ended .image ∙ ap (λ (k : Bool). cond k (pasted ws 0 (imageOf (o .book))) ws) e ∙ ap (λ (k : Book). pasted ws 0 (imageOf k)) (opens .book)
+                  ended .image ∙ ap (λ (k : Bool). cond k (pasted ws 0 (imageOf (o .book))) ws) e ∙ ap (λ (k : Book). pasted ws 0 (imageOf k)) (opens .book ∙ ap (λ (k : Bool). cond k (opened v) (unopened v)) e)
                   ∙ ap (λ (u : Values). pasted ws 0 (imageOf (opened u))) (reads .values (image-known t));
               zeros = opens .zeros e;
             };

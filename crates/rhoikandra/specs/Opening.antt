@@ -5,6 +5,7 @@ use mathlib.Core.List.{List}
 use mathlib.Core.Bool.{Bool, true, false, _&&_}
 use Rattle.lists.specs.Lists.{pasted}
 use Rattle.book.specs.declared.Pool.{Pool}
+use Rattle.book.specs.Reasons.{numberOf, openingRefused}
 use Rattle.book.specs.Opening.{openingFine, opened, cleared}
 use Rattle.image.specs.Images.{isImage, bookIn, imageOf}
 
@@ -20,7 +21,7 @@ pub record Passed (ws : List ℕ) (pools : List Pool) (ws′ : List ℕ) (pools�
 
 -- all stays as it is
 pub record Refused (ws : List ℕ) (pools : List Pool) (ws′ : List ℕ) (pools′ : List Pool) (r : ℕ) : Type 0 where
-  pub code : r ≡ 41
+  pub code : r ≡ numberOf openingRefused
   pub image : ws′ ≡ ws
   pub table : pools′ ≡ pools
 

@@ -1,5 +1,5 @@
 -- A call on a table with zeros after its first rows is the call on those rows alone, with the zeros after them.
-use Prim.Native.Nat.{ℕ, _+_, _-_, _/_, _≤_}
+use Prim.Native.Nat.{ℕ, _+_, _-_, _≤_}
 use native.Mathlib.Omega.{arith}
 use native.Mathlib.Nat.{le-div-iff-mul-le, div-mul-le-self}
 use mathlib.Core.Logic.{_⊎_, inl, inr}

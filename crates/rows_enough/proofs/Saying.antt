@@ -5,15 +5,15 @@ use mathlib.Core.Path.{_≡_, sym, ap, _∙_}
 use mathlib.Core.List.{List}
 use mathlib.Core.Bool.{Bool, true, false, not, _||_}
 use lib.ListN.{length, take}
-use lib.Dec.{eqb, ltb}
+use lib.Dec.{ltb}
 use borrow.Author.Tests.{eq-eqb}
 use Rattle.book.specs.declared.Book.{Book}
 use Rattle.book.specs.declared.Pool.{Pool}
 use Rattle.book.specs.Opening.{recordsMax}
-use Rattle.book.specs.Soundness.{isSound}
 use Rattle.rows.specs.Rows.{tableOf}
 use Rattle.calls.specs.declared.Figures.{Figures}
 use Rattle.calls.specs.Figures.{unknown, figuresOf}
+use Rattle.calls.proofs.Unsound.{unsound-figures}
 use Rattle.rows_figures.specs.Saying.{rowsSay}
 use Rattle.rows_enough.specs.FirstRows.{rowsOf}
 use Rattle.rows_enough.specs.Moving.{SaysRows}
@@ -24,10 +24,6 @@ pub same-figures : (b : Book) (t : List Pool) (m n : ℕ) → Padded b t m n →
 unfolding figuresOf
 same-figures b t m n p trade = rw (same-sound b t m n p, same-live b t m n p)
 
-unsound-figures : (b : Book) (t : List Pool) (trade : ℕ) → isSound b t ≡ false → unknown ≡ figuresOf b t trade
-unfolding figuresOf
-unsound-figures b t trade e = rw e
-
 -- rows of one number say what their table does
 paired-say : (ns ks : List (List ℕ)) (b : Book) (trade : ℕ) → length ks ≡ length ns → rowsSay ns ks b trade ≡ figuresOf b (tableOf ns ks) trade
 unfolding rowsSay
@@ -35,7 +31,7 @@ paired-say ns ks b trade l = rw (eq-eqb (length ks) (length ns) l)
 
 module _ (b : Book) (ns ks : List (List ℕ)) (records : ℕ) (rest : Bool) (trade : ℕ) where
   pub unsound-says : (ltb recordsMax records || not rest) ≡ true → SaysRows b ns ks records rest trade unknown
-  unsound-says e = record { says = λ t s. record { figures = unsound-figures b t trade (test-unsound b (b .live) 0 (omega arith) ns ks records rest t s e) } }
+  unsound-says e = record { says = λ t s. record { figures = sym (unsound-figures b t trade (test-unsound b (b .live) 0 (omega arith) ns ks records rest t s e)) } }
 
   pub rows-say : (ltb recordsMax records || not rest) ≡ false → (rows : ℕ) → rows ≡ rowsOf records (b .live)
       → rowsOf records (b .live) ≤ length ns → rowsOf records (b .live) ≤ length ks → (r : Figures)

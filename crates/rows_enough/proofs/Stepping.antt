@@ -17,11 +17,11 @@ use Rattle.book.specs.Messages.{typeOf}
 use Rattle.book.specs.Opening.{recordsMax}
 use Rattle.book.specs.Soundness.{isSound}
 use Rattle.book.specs.Checks.{answerOf, call, askedBy}
-use Rattle.book.specs.Step.{bookAfter, tableAfter, outputFor, outputAfter, callWith}
+use Rattle.book.proofs.Unsound.{unsound-answer, unsound-book, unsound-table, unsound-output}
+use Rattle.book.specs.Step.{bookAfter, tableAfter, outputAfter, callWith}
 use Rattle.rows.specs.Rows.{tableOf}
 use Rattle.calls.specs.declared.Stepped.{Stepped}
 use Rattle.rows_step.specs.Frames.{Steps, Frames}
-use Rattle.rows_step.proofs.Answering.{unsound-answer}
 use Rattle.rows_enough.specs.declared.Moved.{Moved}
 use Rattle.rows_enough.specs.FirstRows.{bringsMax, wanted, rowsOf, fromOf, toOf, stored, FirstRows}
 use Rattle.calls.specs.Calls.{Framed}
@@ -38,14 +38,13 @@ module _ (b : Book) (body : List ℕ) (caller : Caller) (out : List ℕ) where
 
   -- 42: nothing moves
   unsound-moves : (t : List Pool) (ns ks : List (List ℕ)) → isSound b t ≡ false → Moves b t body caller out unmoved ns ks out
-  unfolding bookAfter tableAfter outputAfter outputFor
   unsound-moves t ns ks e =
-      let a : answerOf (callWith b t body caller out) ≡ Rejected bookUnsound = unsound-answer (callWith b t body caller out) e in
+      let c = callWith b t body caller out in
       record {
-        answer = sym a;
-        book = rw a;
-        table = rw a;
-        output = rw a;
+        answer = sym (unsound-answer c e);
+        book = sym (unsound-book c e);
+        table = sym (unsound-table c e);
+        output = sym (unsound-output c e out);
         ordered = omega arith;
         within = omega arith;
         staged = omega arith;

@@ -8,7 +8,7 @@ use Rattle.book.specs.declared.Caller.{Caller}
 use Rattle.book.specs.declared.Values.{Values}
 use Rattle.book.specs.declared.Book.{Book}
 use Rattle.book.specs.declared.Pool.{Pool}
-use Rattle.book.specs.Opening.{openingFine, opened}
+use Rattle.book.specs.Opening.{openingFine, opened, unopened}
 use Rattle.book.specs.Checks.{answerOf}
 use Rattle.book.specs.Step.{bookAfter, tableAfter, outputAfter, callWith}
 use Rattle.calls.specs.declared.Figures.{Figures}
@@ -37,8 +37,8 @@ pub record StepsRows (b : Book) (ns ks : List (List ℕ)) (records : ℕ) (rest 
 pub record SaysRows (b : Book) (ns ks : List (List ℕ)) (records : ℕ) (rest : Bool) (trade : ℕ) (r : Figures) : Type 0 where
   pub says : (pools : List Pool) → FirstRows (b .live) ns ks records rest pools → Says b pools trade r
 
--- an opening of a table of so many records: whether it passes, the opened book, and how many records are to be zeros
+-- an opening of a table of so many records: whether it passes, the opened book or one that every call refuses, and how many records are to be zeros
 pub record OpensRecords (v : Values) (records : ℕ) (r : Cleared) : Type 0 where
   pub fine : (pools : List Pool) → length pools ≡ records → r .opened .fine ≡ openingFine v pools
-  pub book : r .opened .book ≡ opened v
+  pub book : r .opened .book ≡ cond (r .opened .fine) (opened v) (unopened v)
   pub count : r .count ≡ cond (r .opened .fine) records 0

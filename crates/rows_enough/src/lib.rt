@@ -170,17 +170,20 @@ pub fn figures_rows(
     rows_figures::trade_figures(book, &numbers[..rows], &keys[..rows], trade)
 }
 
-// Opens a book over a table of so many records.
+// Opens a book over a table of so many records. Where 41 refuses it, the book has one trade more than a book can have.
 pub fn open_rows(v: Values, records: usize) -> Cleared
     ensures { λ r. ⌜ OpensRecords v records r ⌝ }
 {
     let book = check_opening::opened_book(v);
     let values = check_opening::values_fine(v);
     if !(values & (records <= book::RECORDS_MAX)) {
+        let mut none = book;
+        let count = book::TRADES_MAX + 1;
+        none.values.lent.tradeCount = count;
         return Cleared {
             opened: Opened {
                 fine: false,
-                book: book,
+                book: none,
             },
             count: 0,
         };

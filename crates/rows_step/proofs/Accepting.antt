@@ -3,16 +3,15 @@ use Prim.Native.Nat.{ℕ, zero, suc, _+_, _*_, _-_, _≤_, _<_}
 use native.Mathlib.Omega.{arith}
 use mathlib.Core.Path.{_≡_, refl, sym, ap, _∙_}
 use mathlib.Core.List.{List, [], _∷_, _++_}
-use mathlib.Core.Bool.{Bool, true, false, cond, not, _&&_}
-use lib.ListN.{length, take, drop, getD, set, replicate, length-take, length-drop}
+use mathlib.Core.Bool.{Bool, true, false, _&&_}
+use lib.ListN.{length, take, drop, getD, set, length-take, length-drop}
 use lib.Dec.{leb}
 use native.Mathlib.Decide.{decLt}
 use lib.Seq.{length-take-le, getD-take}
 use borrow.Author.Tests.{leb-true, eq-eqb}
-use Rattle.lists.specs.Lists.{any, all, keep}
+use Rattle.lists.specs.Lists.{any, all}
 use Rattle.lists.proofs.Tests.{and-left, and-right, all-out, keep-first, clash}
 use Rattle.layout.specs.Columns.{headerWidth}
-use Rattle.layout.specs.Details.{details}
 use Rattle.sequence.specs.declared.Inbound.{Inbound}
 use Rattle.sequence.specs.Sequence.{outboundMax}
 use Rattle.message_type.specs.declared.MessageType.{MessageType}
@@ -23,15 +22,15 @@ use Rattle.book.specs.declared.Trade.{Trade}
 use Rattle.book.specs.declared.Pool.{Pool}
 use Rattle.book.specs.declared.Answer.the-variants.{Accepted}
 use Rattle.book.specs.declared.Verdict.the-variants.{Passes}
-use Rattle.book.specs.Reasons.{isAccepted, isSilent}
+use Rattle.book.specs.Reasons.{isAccepted}
 use Rattle.book.specs.Dues.{due, dueWeight}
-use Rattle.book.specs.Records.{noPool, tradeWeight}
+use Rattle.book.specs.Records.{tradeWeight}
 use Rattle.book.specs.Messages.{typeOf, targetOf, under, listed, brought}
 use Rattle.book.specs.Trades.{tradesOf}
 use Rattle.book.specs.Opening.{tradesMax, recordsMax, elevenDigitsMax, holidaysMax, holidaysOf, limitsFine, accountFine, tradeFine, valuesFine}
 use Rattle.calendar.specs.Calendar.{isDate}
 use Rattle.book.specs.declared.Values.{Values}
-use Rattle.book.specs.Soundness.{recordFine, isNone, Sound}
+use Rattle.book.specs.Soundness.{recordFine, Sound}
 use Rattle.book.specs.Checks.{arrived, noTrade, tradeAt, targetTrade, tradeDue, duesBy, dues, duesFit, isTaken, taken, firstFailing, answerOf, traderChecks, Asked, askedBy}
 use Rattle.message_type.specs.Questions.{bringsLots, listsLots, isCx, isOther}
 use Rattle.book.specs.Step.{withOpenPar, outputFor, tradesMoved, liveMoved, tableMoved, bookAfter, tableAfter, outputAfter}
@@ -50,7 +49,6 @@ use Rattle.rows_move.proofs.Taking.{keep-most}
 use Rattle.check_soundness.proofs.Whole.{few-trades, record-light}
 use Rattle.check_trader.specs.declared.Decision.{Decision}
 use Rattle.check_trader.specs.Decisions.{callOn}
-use Rattle.calls.specs.declared.Stepped.{Stepped}
 use Rattle.rows_step.specs.Frames.{Acceptable, Steps}
 use Rattle.rows_step.proofs.Answering.{accepted-answer, sender-length, header-there}
 use Rattle.rows_step.proofs.Bounds.{weight-most, left-most, zeros-are}

@@ -3,7 +3,7 @@ use Prim.Native.Nat.{ℕ, _+_, _≤_}
 use native.Mathlib.Omega.{arith}
 use mathlib.Core.Path.{_≡_, refl, ap, _∙_}
 use mathlib.Core.List.{List, _++_}
-use mathlib.Core.Bool.{Bool, true, false, cond, not, _&&_, true≢false}
+use mathlib.Core.Bool.{Bool, true, false, cond, not, true≢false}
 use lib.ListN.{length}
 use borrow.Author.Tests.{not-false}
 use Rattle.layout.specs.Columns.{headerWidth}
@@ -15,8 +15,8 @@ use Rattle.book.specs.declared.Reason.{Reason}
 use Rattle.book.specs.declared.Reason.the-variants as by
 use Rattle.book.specs.declared.Verdict.{Verdict}
 use Rattle.book.specs.declared.Verdict.the-variants.{Passes, Fails}
-use Rattle.book.specs.declared.Answer.the-variants.{Accepted, Rejected}
-use Rattle.book.specs.Reasons.{silent, isSilentFor, bookUnsound, refusal}
+use Rattle.book.specs.declared.Answer.the-variants.{Accepted}
+use Rattle.book.specs.Reasons.{silent, isSilentFor, refusal}
 use Rattle.book.specs.Messages.{typeOf, brought}
 use Rattle.book.specs.Soundness.{isSound}
 use Rattle.book.specs.Checks.{Call, numbersSpent, outputShort, soundnessChecks, senderChecks, traderChecks, checks, firstFailing, answerTo, answerOf}
@@ -34,11 +34,6 @@ silentIn Passes = true
 silentIn (Fails q) = isSilentFor q
 
 module _ (c : Call) where
-  -- 42
-  pub unsound-answer : isSound (c .book) (c .table) ≡ false → answerOf c ≡ Rejected bookUnsound
-  unfolding answerOf soundnessChecks isSound
-  unsound-answer e = rw e
-
   module _ (s : isSound (c .book) (c .table) ≡ true) where
     past-first : firstFailing checks c ≡ firstFailing (senderChecks ++ traderChecks) c
     unfolding soundnessChecks isSound

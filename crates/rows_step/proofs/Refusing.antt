@@ -1,8 +1,8 @@
 -- A refused frame: its answer, the counters and the bytes that go out are one answer's.
 use Prim.Native.Nat.{ℕ, _≤_}
-use mathlib.Core.Path.{_≡_, refl, sym, ap, _∙_}
+use mathlib.Core.Path.{_≡_, sym, _∙_}
 use mathlib.Core.List.{List}
-use mathlib.Core.Bool.{Bool, true, false, cond}
+use mathlib.Core.Bool.{Bool, true, false}
 use lib.ListN.{length}
 use Rattle.layout.specs.Columns.{headerWidth}
 use Rattle.sequence.specs.declared.Inbound.{Inbound}
@@ -16,7 +16,6 @@ use Rattle.book.specs.Checks.{arrived}
 use Rattle.book.specs.Reasons.{isSilent, refusal}
 use Rattle.book.specs.Step.{outputFor}
 use Rattle.reply.specs.Counters.{withCounters}
-use Rattle.calls.specs.declared.Stepped.{Stepped}
 
 module _ (book : Book) (body : List ℕ) (reason : Reason) (k : MessageType) (number : Inbound) (a : Answer) (after : Book) (silent : Bool)
     (ek : k ≡ typeOf body) (en : number ≡ arrived body) (ea : a ≡ refusal k reason)

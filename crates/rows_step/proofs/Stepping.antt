@@ -1,8 +1,8 @@
 -- What a refused call leaves, and the ways through the frame call.
 use Prim.Native.Nat.{ℕ, _≤_}
-use mathlib.Core.Path.{_≡_, refl, sym, ap, _∙_}
+use mathlib.Core.Path.{_≡_, refl, sym, _∙_}
 use mathlib.Core.List.{List}
-use mathlib.Core.Bool.{Bool, true, false, cond, not, _&&_}
+use mathlib.Core.Bool.{Bool, true, false, not, _&&_}
 use lib.ListN.{length}
 use lib.Dec.{eqb}
 use borrow.Author.Tests.{eqb-true, eq-eqb, not-true, not-false}
@@ -10,7 +10,6 @@ use Rattle.lists.proofs.Tests.{and-left, and-right}
 use Rattle.layout.specs.Columns.{headerWidth}
 use Rattle.book.specs.declared.Caller.{Caller}
 use Rattle.book.specs.declared.Book.{Book}
-use Rattle.book.specs.declared.Pool.{Pool}
 use Rattle.book.specs.declared.Reason.{Reason}
 use Rattle.book.specs.declared.Answer.{Answer}
 use Rattle.book.specs.declared.Answer.the-variants.{Rejected}
@@ -25,9 +24,10 @@ use Rattle.reply.specs.Counters.{withCounters}
 use Rattle.check_trader.specs.declared.Decision.{Decision}
 use Rattle.check_trader.specs.Decisions.{callOn, Ready, DecidedBy}
 use Rattle.calls.specs.declared.Stepped.{Stepped}
-use Rattle.rows_step.specs.Frames.{Acceptable, Steps, Damaged, Frames}
+use Rattle.rows_step.specs.Frames.{Acceptable, Steps, Frames}
 use Rattle.book.proofs.Passed.{refusal-refuses, refusal-silent}
-use Rattle.rows_step.proofs.Answering.{header-there, unsound-answer, sender-answer, trader-answer, sender-length, sender-formed, sender-some, loud-length}
+use Rattle.book.proofs.Unsound.{unsound-answer}
+use Rattle.rows_step.proofs.Answering.{header-there, sender-answer, trader-answer, sender-length, sender-formed, sender-some, loud-length}
 
 module _ (b : Book) (ns ks : List (List ℕ)) (body : List ℕ) (caller : Caller) (out : List ℕ) where
   -- an answer that is not accepted moves the counters alone

@@ -4,7 +4,7 @@
 --     book-value, stepped-value, moved-value, caller-value      the laws of these values
 --     live-fits        what whoever holds a book knows of its live pools
 -- Assumes nothing.
-use Prim.Native.Nat.{ℕ, _<_, _^_}
+use Prim.Native.Nat.{_<_, _^_}
 use mathlib.Core.List.{List}
 use mir.Val.{Val}
 use denote.RattleType.{RattleType}

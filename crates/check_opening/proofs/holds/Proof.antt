@@ -1,14 +1,12 @@
 -- The loop's invariant: whether the byte stands in what is left from i on is still the answer.
-use mathlib.Core.Path.{_≡_, refl, sym, ap, _∙_}
+use mathlib.Core.Path.{_≡_, refl}
 use Prim.Native.Nat.{_≤_, _-_}
 use native.Mathlib.Omega.{arith}
-use lib.ListN.{length, drop, drop-of-length-le}
+use lib.ListN.{length, drop}
 use lib.Dec.{eqb}
-use borrow.Author.Tests.{eq-eqb, ne-eqb}
 use borrow.Author.Needs.{needs}
-use Rattle.lists.proofs.Parts.{drop-turn}
 use Rattle.lists.specs.Lists.{any}
-use Rattle.lists.proofs.Looking.{any-stop, any-more}
+use Rattle.book.proofs.ListLaws.{looked-found, looked-on, looked-through}
 use Rattle.check_opening.proofs.holds.Statement.{statement}
 use Rattle.check_opening.proofs.holds.Tie as tie
 
@@ -31,7 +29,7 @@ returns : tie.Need-returns Inv-loop μ-loop
 returns c =
     let a = c .before .before .before .before .args in
     let l = c .before .before .before .loop in
-    sym (any-stop (eqb (a .byte)) (drop-turn (a .s .now) (l .i) 0 (omega arith)) (eq-eqb _ _ (c .if1 .taken))) ∙ l .inv .1
+    looked-found (a .byte) (a .s .now) (l .i) (l .inv .1) (omega arith) (c .if1 .taken)
 
 loop-less : tie.Need-loop-less Inv-loop μ-loop
 loop-less c = omega arith
@@ -40,13 +38,13 @@ loop-again : tie.Need-loop-again Inv-loop μ-loop
 loop-again c =
     let a = c .before .before .before .before .args in
     let l = c .before .before .before .loop in
-    (omega arith, sym (any-more (eqb (a .byte)) (drop-turn (a .s .now) (l .i) 0 (omega arith)) (ne-eqb _ _ (c .if1 .left))) ∙ l .inv .1)
+    (omega arith, looked-on (a .byte) (a .s .now) (l .i) (l .inv .1) (omega arith) (c .if1 .left))
 
 returns-2 : tie.Need-returns-2 Inv-loop μ-loop
 returns-2 c =
     let a = c .before .before .args in
     let l = c .before .loop in
-    sym (ap (any (eqb (a .byte))) (drop-of-length-le (a .s .now) {i = l .i} (omega arith))) ∙ l .inv .1
+    looked-through (a .byte) (a .s .now) (l .i) (l .inv .1) (omega arith)
 
 pub holds-spec : {M : Type 1} → statement M
 holds-spec =

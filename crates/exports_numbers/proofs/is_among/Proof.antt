@@ -1,13 +1,11 @@
 -- The loop's invariant: whether the number stands among those from i on is still the answer.
-use mathlib.Core.Path.{_≡_, refl, sym, ap, _∙_}
+use mathlib.Core.Path.{_≡_, refl}
 use Prim.Native.Nat.{_≤_, _-_}
 use native.Mathlib.Omega.{arith}
-use lib.ListN.{length, drop, drop-of-length-le}
+use lib.ListN.{length, drop}
 use lib.Dec.{eqb}
-use borrow.Author.Tests.{eq-eqb, ne-eqb}
 use Rattle.lists.specs.Lists.{any}
-use Rattle.lists.proofs.Parts.{drop-turn}
-use Rattle.lists.proofs.Looking.{any-stop, any-more}
+use Rattle.book.proofs.ListLaws.{looked-found, looked-on, looked-through}
 use borrow.Author.Needs.{needs}
 use Rattle.exports_numbers.proofs.is_among.Statement.{statement}
 use Rattle.exports_numbers.proofs.is_among.Tie as tie
@@ -34,7 +32,7 @@ returns : tie.Need-returns Inv-loop μ-loop
 returns c =
     let a = c .before .before .before .before .args in
     let l = c .before .before .before .loop in
-    sym (any-stop (eqb (a .number)) (drop-turn (a .numbers .now) (l .i) 0 (omega arith)) (eq-eqb _ _ (c .if1 .taken))) ∙ l .inv .1
+    looked-found (a .number) (a .numbers .now) (l .i) (l .inv .1) (omega arith) (c .if1 .taken)
 
 loop-less : tie.Need-loop-less Inv-loop μ-loop
 loop-less c = search needs
@@ -43,13 +41,13 @@ loop-again : tie.Need-loop-again Inv-loop μ-loop
 loop-again c =
     let a = c .before .before .before .before .args in
     let l = c .before .before .before .loop in
-    (omega arith, sym (any-more (eqb (a .number)) (drop-turn (a .numbers .now) (l .i) 0 (omega arith)) (ne-eqb _ _ (c .if1 .left))) ∙ l .inv .1)
+    (omega arith, looked-on (a .number) (a .numbers .now) (l .i) (l .inv .1) (omega arith) (c .if1 .left))
 
 returns-2 : tie.Need-returns-2 Inv-loop μ-loop
 returns-2 c =
     let a = c .before .before .args in
     let l = c .before .loop in
-    sym (ap (any (eqb (a .number))) (drop-of-length-le (a .numbers .now) {i = l .i} (omega arith))) ∙ l .inv .1
+    looked-through (a .number) (a .numbers .now) (l .i) (l .inv .1) (omega arith)
 
 pub is-among-spec : {M : Type 1} → statement M
 is-among-spec =
