@@ -18,13 +18,14 @@ pub extern "C" fn rhoikandra_step(
     pools: &mut [Pool],
     body: &[u8],
     time: &[u8],
+    seed: u64,
     out: &mut [u8],
     said: &mut [u64],
 )
-    ensures { λ _. ⌜ Calls (now (image .entry)) (now (pools .entry)) (now (body .entry)) (now (time .entry)) (now (out .entry)) (now (said .entry)) (now (image .exit)) (now (pools .exit)) (now (out .exit)) (now (said .exit)) ⌝ }
+    ensures { λ _. ⌜ Calls (now (image .entry)) (now (pools .entry)) (now (body .entry)) (now (time .entry)) seed (now (out .entry)) (now (said .entry)) (now (image .exit)) (now (pools .exit)) (now (out .exit)) (now (said .exit)) ⌝ }
 {
     let book = exports_book::start(image, time);
-    let caller = exports_book::caller_of(time);
+    let caller = exports_book::caller_of(time, seed);
     let stepped = table_step::step(book, pools, body, caller, out);
     exports_book::finish(image, said, stepped);
 }
