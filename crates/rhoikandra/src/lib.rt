@@ -42,11 +42,17 @@ pub extern "C" fn rhoikandra_open(image: &mut [u64], pools: &mut [Pool]) -> u64
 
 // Writes whether a trade is known, its open par and its standing millions.
 #[no_mangle]
-pub extern "C" fn rhoikandra_figures(image: &[u64], pools: &[Pool], trade: usize, out: &mut [u64])
+pub extern "C" fn rhoikandra_figures(
+    image: &[u64],
+    pools: &[Pool],
+    trade: usize,
+    seed: u64,
+    out: &mut [u64],
+)
     ensures { λ _. ⌜ now (out .exit) ≡ pasted (now (out .entry)) 0 (figuresNumbers (figuresIn (now (image .entry)) (now (pools .entry)) trade)) ⌝ }
 {
     let book = exports_book::book_of(image);
-    let f = table_figures::table_figures(book, pools, trade);
+    let f = table_figures::table_figures(book, pools, trade, seed);
     exports_book::put_figures(out, f);
 }
 
