@@ -54,9 +54,10 @@ typedef struct {
 uint64_t rhoikandra_open(uint64_t *book, size_t book_len, rhoikandra_pool *pools, size_t pools_len);
 
 /* Puts a frame's body to a book. said gets two numbers: 0 and the message ID, 1 and the number of a rejection, or 2 and that of a DK.
-   time has six bytes. A damaged book is refused with 42, and everything stays. */
+   time has six bytes. A damaged book is refused with 42, and everything stays. seed is a random number, drawn once or for each call:
+   no answer depends on it, and while whoever sends frames does not know it, no choice of pools makes a call slow. */
 void rhoikandra_step(uint64_t *book, size_t book_len, rhoikandra_pool *pools, size_t pools_len, const uint8_t *body, size_t body_len,
-                     const uint8_t *time, size_t time_len, uint8_t *out, size_t out_len, uint64_t *said, size_t said_len);
+                     const uint8_t *time, size_t time_len, uint64_t seed, uint8_t *out, size_t out_len, uint64_t *said, size_t said_len);
 
 /* The figures of a trade, counted from 0: out gets 1, its open par in cents and its standing good millions, or three zeros. */
 void rhoikandra_figures(const uint64_t *book, size_t book_len, const rhoikandra_pool *pools, size_t pools_len, size_t trade,

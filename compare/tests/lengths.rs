@@ -21,6 +21,7 @@ fn step(book: &mut Book, body: &[u8], time: &[u8], out: &mut [u8], said: &mut [u
             body.len(),
             time.as_ptr(),
             time.len(),
+            0,
             out.as_mut_ptr(),
             out.len(),
             said.as_mut_ptr(),

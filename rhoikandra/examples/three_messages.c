@@ -2,6 +2,7 @@
 #include <stdio.h>
 #include <stdlib.h>
 #include <string.h>
+#include <sys/random.h>
 
 #include "../rhoikandra.h"
 
@@ -66,11 +67,19 @@ static void put_frame(const char *kind, int sequence, int millions, int target, 
     tape[taped++] = END;
 }
 
+/* A number that whoever sends the frames does not know. */
+static uint64_t seed(void) {
+    uint64_t drawn;
+    if (getrandom(&drawn, sizeof drawn, 0) != sizeof drawn)
+        exit(EXIT_FAILURE);
+    return drawn;
+}
+
 /* Puts the body of a frame to the book. */
 static void send(const uint8_t *body, size_t length) {
     uint8_t out[RHOIKANDRA_OUTPUT_LENGTH];
     uint64_t said[2], figures[3];
-    rhoikandra_step(book, RHOIKANDRA_BOOK_WORDS, pools, RECORDS, body, length, (const uint8_t *)"093000", 6, out, sizeof out, said, 2);
+    rhoikandra_step(book, RHOIKANDRA_BOOK_WORDS, pools, RECORDS, body, length, (const uint8_t *)"093000", 6, seed(), out, sizeof out, said, 2);
     rhoikandra_tally(tally, RHOIKANDRA_TALLY_ROWS, body, length, said, 2);
     rhoikandra_figures(book, RHOIKANDRA_BOOK_WORDS, pools, RECORDS, 0, figures, 3);
     printf("%.2s %s %llu; open par %llu, standing millions %llu\n", (const char *)body,

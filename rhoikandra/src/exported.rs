@@ -19,6 +19,7 @@ extern "C" {
         body_len: usize,
         time: *const u8,
         time_len: usize,
+        seed: u64,
         out: *mut u8,
         out_len: usize,
         said: *mut u64,

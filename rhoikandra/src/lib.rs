@@ -9,6 +9,9 @@ mod opening;
 
 pub use opening::{Limits, Opening, Trade};
 
+use std::collections::hash_map::RandomState;
+use std::hash::{BuildHasher, Hasher};
+
 /// The room that an output needs: a TX and an AA.
 pub const OUTPUT_LENGTH: usize = 217;
 
@@ -137,6 +140,11 @@ impl PartialEq for Pool {
     }
 }
 
+/// The seed of a call, drawn at random. No answer depends on it; whoever sends messages must not know it, for rows of pools are spread by it.
+fn seed() -> u64 {
+    RandomState::new().build_hasher().finish()
+}
+
 /// A book between two calls: its words and the records of its table.
 #[derive(Clone, Debug, PartialEq, Eq)]
 pub struct Book {
@@ -184,6 +192,7 @@ impl Book {
                 body.len(),
                 time.as_ptr(),
                 time.len(),
+                seed(),
                 output.as_mut_ptr(),
                 output.len(),
                 said.as_mut_ptr(),

@@ -109,7 +109,7 @@ unfoldable pub table : List Pool
 table = replicate 4 noPool
 
 abbrev pub midnight : Caller
-midnight = record { time = 48 ∷ 48 ∷ 48 ∷ 48 ∷ 48 ∷ 48 ∷ [] }
+midnight = record { time = 48 ∷ 48 ∷ 48 ∷ 48 ∷ 48 ∷ 48 ∷ []; seed = 0 }
 
 unfoldable pub put : List ℕ → Put
 put body = record { body = body; asked = askedBy midnight roomLeast }

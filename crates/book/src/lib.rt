@@ -73,9 +73,10 @@ pub struct Book {
     pub live: usize,
 }
 
-// What a call is given besides book, table, body and output: the time bytes of its AA.
+// What a call is given besides book, table, body and output: the time bytes of its AA, and a seed that no definition reads: a search for equal fields spreads them by it.
 pub struct Caller {
     pub time: [u8; acknowledgment::TIME_WIDTH],
+    pub seed: u64,
 }
 
 // A live pool: under which message ID it came, its lot's ordinal there, its trade, the three matched fields as bytes,

@@ -13,8 +13,8 @@ ghost use Rattle.book.specs.Records.{fieldsOf, distinct};
 ghost use Rattle.book.specs.Opening.{recordsMax};
 ghost use Rattle.book.specs.Soundness.{inOrder, fieldsOnce};
 ghost use Rattle.rows.specs.Rows.{numberAt, keyAt, tableOf};
-ghost use Rattle.rows_keys.specs.Keys.{keyOf, bucketOf};
-ghost use Rattle.check_once.specs.Seen.{LastIn, Linked};
+ghost use Rattle.rows_keys.specs.Keys.{keyOf};
+ghost use Rattle.check_once.specs.Seen.{Chain};
 
 fn wide(x: u32) -> usize
     ensures { λ r. ⌜ r ≡ x ⌝ }
@@ -43,8 +43,7 @@ fn run_of(numbers: &[[u64; rows::NUMBERS]], start: usize, i: usize) -> usize
 // Whether the i-th row stands among those from start to it: the rows of its bucket are gone through from the last.
 fn stands(keys: &[[u8; rows::KEY_WIDTH]], back: &[u32], last: usize, start: usize, i: usize) -> bool
     requires { ⌜ (i < length (now keys)) × (i ≤ length (now back)) × (start ≤ i) ⌝ }
-    requires { ⌜ LastIn (now keys) (bucketOf (keyAt (now keys) i)) i last ⌝ }
-    requires { ⌜ Linked (now keys) (now back) i ⌝ }
+    requires { ⌜ Chain (now keys) (now back) i last ⌝ }
     ensures { λ r. ⌜ r ≡ any (same (keyAt (now (keys .entry)) i)) (tab (keyAt (now (keys .entry))) (i - start) start) ⌝ }
 {
     let mut j = last;
@@ -57,22 +56,24 @@ fn stands(keys: &[[u8; rows::KEY_WIDTH]], back: &[u32], last: usize, start: usiz
     false
 }
 
-// The search for matched fields that stand twice: a row is sought among those of its own message before it.
+// The search for matched fields that stand twice: a row is sought among those of its own message before it, and of these among those of its bucket. The seed says how rows are spread over buckets, and nothing else hangs on it.
 fn search_rows(
     numbers: &[[u64; rows::NUMBERS]],
     keys: &[[u8; rows::KEY_WIDTH]],
     live: usize,
+    seed: u64,
 ) -> bool
     requires { ⌜ (length (now keys) ≡ length (now numbers)) × (live ≤ length (now numbers)) × (length (now numbers) ≤ recordsMax) × (inOrder (take live (tableOf (now numbers) (now keys))) ≡ true) ⌝ }
     ensures { λ r. ⌜ r ≡ fieldsOnce (take live (tableOf (now (numbers .entry)) (now (keys .entry)))) ⌝ }
 {
+    let spread = rows_keys::spread(seed);
     let mut seen = [0u32; rows_keys::BUCKETS];
     let mut back = [0u32; book::RECORDS_MAX];
     let mut start: usize = 0;
     let mut i: usize = 0;
     while i < live {
         start = run_of(numbers, start, i);
-        let b = rows_keys::bucket(&keys[i]);
+        let b = rows_keys::bucket(&keys[i], spread);
         let last = seen[b];
         if stands(keys, &back, wide(last), start, i) {
             return false;
@@ -89,6 +90,7 @@ pub fn fields_once(
     numbers: &[[u64; rows::NUMBERS]],
     keys: &[[u8; rows::KEY_WIDTH]],
     live: usize,
+    seed: u64,
 ) -> bool
     requires { ⌜ (length (now keys) ≡ length (now numbers)) × (live ≤ length (now numbers)) × (length (now numbers) ≤ recordsMax) × (inOrder (take live (tableOf (now numbers) (now keys))) ≡ true) ⌝ }
     ensures { λ r. ⌜ r ≡ fieldsOnce (take live (tableOf (now (numbers .entry)) (now (keys .entry)))) ⌝ }
@@ -96,7 +98,7 @@ pub fn fields_once(
     if live < 2 {
         return true;
     }
-    search_rows(numbers, keys, live)
+    search_rows(numbers, keys, live, seed)
 }
 
 fn is_new(d: Detail) -> bool
@@ -126,11 +128,11 @@ fn put_rows(body: &[u8], rows: &mut [[u8; rows::KEY_WIDTH]]) -> usize
 }
 
 // 36: whether a message's new pools have matched fields twice. Their rows are a table whose records are all of one message.
-pub fn repeated(body: &[u8]) -> bool
+pub fn repeated(body: &[u8], seed: u64) -> bool
     ensures { λ r. ⌜ r ≡ not (distinct (map fieldsOf (newPools (details (now (body .entry)))))) ⌝ }
 {
     let numbers = [[0u64; rows::NUMBERS]; layout::POOLS_MAX];
     let mut rows = [[0u8; rows::KEY_WIDTH]; layout::POOLS_MAX];
     let n = put_rows(body, &mut rows);
-    !fields_once(&numbers, &rows, n)
+    !fields_once(&numbers, &rows, n, seed)
 }

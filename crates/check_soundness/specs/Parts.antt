@@ -3,7 +3,7 @@ use Prim.Native.Nat.{ℕ, _≤_, _<_}
 use mathlib.Core.Path.{_≡_}
 use mathlib.Core.List.{List, []}
 use mathlib.Core.Bool.{true, _&&_}
-use lib.ListN.{take}
+use lib.ListN.{getD, take}
 use Rattle.lists.specs.Lists.{all}
 use Rattle.terminator.specs.Terminators.{millionsMost}
 use Rattle.sequence.specs.Sequence.{outbound, startLine}
@@ -28,6 +28,14 @@ against count last =
       lastMessageId = last;
       connection = record { id = []; line = startLine; outbound = outbound 0 };
     }
+
+-- two rows agree on message, ordinal, trade, kind and millions
+pub record SameLot (before row : List ℕ) : Type 0 where
+  pub message : getD before 0 0 ≡ getD row 0 0
+  pub ordinal : getD before 1 0 ≡ getD row 1 0
+  pub trade : getD before 2 0 ≡ getD row 2 0
+  pub kind : getD before 4 0 ≡ getD row 4 0
+  pub millions : getD before 5 0 ≡ getD row 5 0
 
 -- the first rows are fine live records in order, whatever bytes stand beside them
 abbrev pub RowsFine : Values → List (List ℕ) → ℕ → Type 0

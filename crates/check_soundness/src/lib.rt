@@ -3,7 +3,7 @@ use book::Book;
 use book::Values;
 ghost use mathlib.Core.Path.{_≡_};
 ghost use mathlib.Core.List.{List};
-ghost use mathlib.Core.Bool.{_&&_};
+ghost use mathlib.Core.Bool.{true, _&&_};
 ghost use Prim.Native.Nat.{ℕ, _≤_, _<_};
 ghost use lib.ListN.{length, take, drop, getD};
 ghost use lib.Dec.{eqb};
@@ -13,7 +13,7 @@ ghost use Rattle.book.specs.Opening.{tradesMax, recordsMax};
 ghost use Rattle.book.specs.Soundness.{recordFine, follows, inOrder, isNone, parsFrom, isSound};
 ghost use Rattle.rows.specs.Rows.{recordOf, tableOf};
 ghost use Rattle.rows.specs.Runs.{runSum, weightShare, shareOf};
-ghost use Rattle.check_soundness.specs.Parts.{against, RowsFine, Light};
+ghost use Rattle.check_soundness.specs.Parts.{against, SameLot, RowsFine, Light};
 
 // Eleven digits: a current face in cents.
 const ELEVEN_DIGITS_MAX: u64 = 99999999999;
@@ -59,17 +59,45 @@ fn row_follows(before: [u64; rows::NUMBERS], row: [u64; rows::NUMBERS]) -> bool
         | ((before[rows::MESSAGE] == row[rows::MESSAGE]) & message)
 }
 
+// Whether a record is of the lot of the one before it: only current face and matched fields can differ.
+fn same_lot(before: [u64; rows::NUMBERS], row: [u64; rows::NUMBERS]) -> bool
+    ensures { λ r. ⌜ (r ≡ true → SameLot before row) ⌝ }
+{
+    (before[rows::MESSAGE] == row[rows::MESSAGE])
+        & ((before[rows::ORDINAL] == row[rows::ORDINAL])
+            & ((before[rows::TRADE] == row[rows::TRADE])
+                & ((before[rows::KIND] == row[rows::KIND])
+                    & (before[rows::MILLIONS] == row[rows::MILLIONS]))))
+}
+
+// 42: a live record by itself and after a fine one, of whose lot it most often is.
+fn row_goes(before: [u64; rows::NUMBERS], row: [u64; rows::NUMBERS], count: u64, last: u64) -> bool
+    requires { ⌜ ((key : List ℕ) → recordFine (against count last) (recordOf before key) ≡ true) ⌝ }
+    ensures { λ r. ⌜ ((key next : List ℕ) → r ≡ (recordFine (against count last) (recordOf row next) && follows (recordOf before key) (recordOf row next))) ⌝ }
+{
+    if same_lot(before, row) {
+        return row[rows::CURRENT] <= ELEVEN_DIGITS_MAX;
+    }
+    row_fine(row, count, last) & row_follows(before, row)
+}
+
 // 42: the live records, each by itself and after the one before it.
 fn rows_fine(numbers: &[[u64; rows::NUMBERS]], live: usize, count: u64, last: u64) -> bool
     requires { ⌜ live ≤ length (now numbers) ⌝ }
     ensures { λ r. ⌜ ((ks : List (List ℕ)) → r ≡ (all (recordFine (against count last)) (take live (tableOf (now (numbers .entry)) ks)) && inOrder (take live (tableOf (now (numbers .entry)) ks)))) ⌝ }
 {
-    let mut before = [0u64; rows::NUMBERS];
-    let mut i: usize = 0;
+    if live == 0 {
+        return true;
+    }
+    let mut before = numbers[0];
+    if !row_fine(before, count, last) {
+        return false;
+    }
+    let mut i: usize = 1;
     while i < live {
         let row = numbers[i];
         i += 1;
-        if !(row_fine(row, count, last) & row_follows(before, row)) {
+        if !row_goes(before, row, count, last) {
             return false;
         }
         before = row;
@@ -183,11 +211,12 @@ fn pars_fine(v: Values, numbers: &[[u64; rows::NUMBERS]], live: usize) -> bool
     true
 }
 
-// 42: whether the book and its table, rows of numbers beside as many rows of bytes, are sound.
+// 42: whether the book and its table, rows of numbers beside as many rows of bytes, are sound. The seed spreads the search for equal fields, and nothing else hangs on it.
 pub fn is_sound(
     book: Book,
     numbers: &[[u64; rows::NUMBERS]],
     keys: &[[u8; rows::KEY_WIDTH]],
+    seed: u64,
 ) -> bool
     ensures { λ r. ⌜ r ≡ (eqb (length (now (keys .entry))) (length (now (numbers .entry))) && isSound book (tableOf (now (numbers .entry)) (now (keys .entry)))) ⌝ }
 {
@@ -212,7 +241,7 @@ pub fn is_sound(
     if !rows_fine(numbers, live, v.lent.tradeCount as u64, v.lastMessageId) {
         return false;
     }
-    if !check_once::fields_once(numbers, keys, live) {
+    if !check_once::fields_once(numbers, keys, live, seed) {
         return false;
     }
     if !zeros_after(numbers, keys, live) {

@@ -37,7 +37,7 @@ pub struct Decision {
 }
 
 // 30 to 36, where it is known whether the target has live pools, and of which trade.
-fn first_of_terms(v: Values, body: &[u8], there: bool, target: usize) -> Verdict
+fn first_of_terms(v: Values, body: &[u8], there: bool, target: usize, seed: u64) -> Verdict
     ensures { λ r. ⌜ ((book : Book) (table : List Pool) (asked : Asked) → book .values ≡ v → any (under (targetOf (now (body .entry)))) (liveOf book table) ≡ there → targetTrade (now (body .entry)) (liveOf book table) ≡ target → r ≡ firstFailing termsChecks (call book table (now (body .entry)) asked)) ⌝ }
 {
     let kind = header::message_type(body);
@@ -67,7 +67,7 @@ fn first_of_terms(v: Values, body: &[u8], there: bool, target: usize) -> Verdict
     if new_lots::lots_fail(body, limits.variance, limits.poolsAMillion) {
         return Verdict::Fails(Reason::Trader(35, book::TOLD));
     }
-    if check_once::repeated(body) {
+    if check_once::repeated(body, seed) {
         return Verdict::Fails(Reason::Trader(36, book::TOLD));
     }
     Verdict::Passes
@@ -203,6 +203,7 @@ pub fn decide(
     numbers: &[[u64; rows::NUMBERS]],
     keys: &[[u8; rows::KEY_WIDTH]],
     body: &[u8],
+    seed: u64,
 ) -> Decision
     requires { ⌜ Ready book (now numbers) (now keys) (now body) ⌝ }
     ensures { λ r. ⌜ ((asked : Asked) → DecidedBy traderChecks (callOn book (now (numbers .entry)) (now (keys .entry)) (now (body .entry)) asked) r) ⌝ }
@@ -211,7 +212,7 @@ pub fn decide(
     let run = rows_find::target_run(numbers, book.live, body);
     let there = run.start < run.stop;
     let target = target_trade(numbers, run);
-    let terms = first_of_terms(values, body, there, target);
+    let terms = first_of_terms(values, body, there, target, seed);
     match terms {
         Verdict::Fails(reason) => refused(reason),
         Verdict::Passes => decide_moves(book, numbers, keys, body, target),

@@ -24,9 +24,9 @@ bodiesFrom tape (suc n) at = bodyThen tape (bodiesFrom tape n) (nextFrame tape a
 unfoldable pub bodiesOf : List ℕ → List (List ℕ)
 bodiesOf tape = bodiesFrom tape (length tape) 0
 
--- the program's time bytes, 000000
+-- the program's time bytes, 000000, and its seed
 abbrev pub midnight : Caller
-midnight = record { time = 48 ∷ 48 ∷ 48 ∷ 48 ∷ 48 ∷ 48 ∷ [] }
+midnight = record { time = 48 ∷ 48 ∷ 48 ∷ 48 ∷ 48 ∷ 48 ∷ []; seed = 0 }
 
 -- a body, with those, and the room that the day lends for what goes out
 abbrev pub putOf : List ℕ → Put

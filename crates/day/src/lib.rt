@@ -135,12 +135,13 @@ fn counted(going: Going, stepped: Stepped, place: Place) -> Going
     }
 }
 
-// The program's time bytes, 000000.
+// The program's time bytes, 000000, and a seed that is always the same: a tape is read alone.
 fn at_midnight() -> Caller
     ensures { λ r. ⌜ r ≡ midnight ⌝ }
 {
     Caller {
         time: [b'0'; acknowledgment::TIME_WIDTH],
+        seed: 0,
     }
 }
 

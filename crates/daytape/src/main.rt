@@ -110,7 +110,7 @@ fn day_over(v: Values, tape: &[u8]) -> Report
     let book = book_opened(opened);
     let passed = day::run_day(book, &mut pools, tape);
     let after = book_after(passed);
-    let said = table_figures::table_figures(after, &pools, 0);
+    let said = table_figures::table_figures(after, &pools, 0, 0);
     reported(passed, said)
 }
 

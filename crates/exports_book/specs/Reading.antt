@@ -14,9 +14,9 @@ use Rattle.image.specs.Images.{isImage, bookIn}
 abbrev pub timeWidth : ℕ
 timeWidth = 6
 
--- what lent time bytes give a call
-abbrev pub callerOf : List ℕ → Caller
-callerOf time = record { time = time }
+-- what lent time bytes and a lent seed give a call
+abbrev pub callerOf : List ℕ → ℕ → Caller
+callerOf time seed = record { time = time; seed = seed }
 
 -- words that are a book's, and six time bytes
 unfoldable pub callable : List ℕ → List ℕ → Bool

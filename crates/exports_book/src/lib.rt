@@ -49,17 +49,19 @@ pub fn start(image: &[u64], time: &[u8]) -> Book
     refused_unless(read.fine & (time.len() == acknowledgment::TIME_WIDTH), book)
 }
 
-// What the time bytes give a call, where they are six.
-pub fn caller_of(time: &[u8]) -> Caller
-    ensures { λ r. ⌜ (length (now (time .entry)) ≡ timeWidth → r ≡ callerOf (now (time .entry))) ⌝ }
+// What the time bytes and the seed give a call, where the bytes are six.
+pub fn caller_of(time: &[u8], seed: u64) -> Caller
+    ensures { λ r. ⌜ (length (now (time .entry)) ≡ timeWidth → r ≡ callerOf (now (time .entry)) seed) ⌝ }
 {
     if time.len() != acknowledgment::TIME_WIDTH {
         return Caller {
             time: [0; acknowledgment::TIME_WIDTH],
+            seed,
         };
     }
     Caller {
         time: [time[0], time[1], time[2], time[3], time[4], time[5]],
+        seed,
     }
 }
 

@@ -89,14 +89,14 @@ image-known : (ws time : List ℕ) → callable ws time ≡ true → isImage ws 
 unfolding callable
 image-known ws time e = and-left (isImage ws) _ e
 
-pub called : (ws : List ℕ) (pools : List Pool) (body time out said : List ℕ) (b : Book) (caller : Caller) (r : Stepped) (ws′ : List ℕ) (pools′ : List Pool) (out′ said′ : List ℕ)
-    → Reads (callable ws time) ws b → (length time ≡ timeWidth → caller ≡ callerOf time) → Framed b pools body caller out r pools′ out′ → Finishes ws said r ws′ said′
-    → Calls ws pools body time out said ws′ pools′ out′ said′
-called ws pools body time out said b caller r ws′ pools′ out′ said′ reads sixes framed ended =
+pub called : (ws : List ℕ) (pools : List Pool) (body time : List ℕ) (seed : ℕ) (out said : List ℕ) (b : Book) (caller : Caller) (r : Stepped) (ws′ : List ℕ) (pools′ : List Pool) (out′ said′ : List ℕ)
+    → Reads (callable ws time) ws b → (length time ≡ timeWidth → caller ≡ callerOf time seed) → Framed b pools body caller out r pools′ out′ → Finishes ws said r ws′ said′
+    → Calls ws pools body time seed out said ws′ pools′ out′ said′
+called ws pools body time seed out said b caller r ws′ pools′ out′ said′ reads sixes framed ended =
     record {
       steps = λ t.
           let eb : b ≡ bookIn ws = reads .book t in
-          let et : caller ≡ callerOf time = sixes (callable-six ws time t) in
+          let et : caller ≡ callerOf time seed = sixes (callable-six ws time t) in
           let known : isImage ws ≡ true = image-known ws time t in
           let alone : (k : Book) → k .values .trades ≡ b .values .trades → pasted ws tradesWords (restImage k) ≡ pasted ws 0 (imageOf k) =
           λ k q. rest-alone ws k known (q ∙ ap (λ (x : Book). x .values .trades) eb) in

@@ -29,6 +29,7 @@ pub record Refuses (ws : List ℕ) (pools : List Pool) (out said : List ℕ) (ws
   pub output : out′ ≡ out
   pub answer : said′ ≡ pasted said 0 (saidOf (Rejected bookUnsound))
 
-pub record Calls (ws : List ℕ) (pools : List Pool) (body time out said : List ℕ) (ws′ : List ℕ) (pools′ : List Pool) (out′ said′ : List ℕ) : Type 0 where
-  pub steps : callable ws time ≡ true → StepsTo (bookIn ws) ws pools body (callerOf time) out said ws′ pools′ out′ said′
+-- the seed is handed on with the time bytes, and no definition reads it
+pub record Calls (ws : List ℕ) (pools : List Pool) (body time : List ℕ) (seed : ℕ) (out said : List ℕ) (ws′ : List ℕ) (pools′ : List Pool) (out′ said′ : List ℕ) : Type 0 where
+  pub steps : callable ws time ≡ true → StepsTo (bookIn ws) ws pools body (callerOf time seed) out said ws′ pools′ out′ said′
   pub refuses : callable ws time ≡ false → Refuses ws pools out said ws′ pools′ out′ said′

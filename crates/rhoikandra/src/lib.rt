@@ -18,13 +18,14 @@ pub extern "C" fn rhoikandra_step(
     pools: &mut [Pool],
     body: &[u8],
     time: &[u8],
+    seed: u64,
     out: &mut [u8],
     said: &mut [u64],
 )
-    ensures { λ _. ⌜ Calls (now (image .entry)) (now (pools .entry)) (now (body .entry)) (now (time .entry)) (now (out .entry)) (now (said .entry)) (now (image .exit)) (now (pools .exit)) (now (out .exit)) (now (said .exit)) ⌝ }
+    ensures { λ _. ⌜ Calls (now (image .entry)) (now (pools .entry)) (now (body .entry)) (now (time .entry)) seed (now (out .entry)) (now (said .entry)) (now (image .exit)) (now (pools .exit)) (now (out .exit)) (now (said .exit)) ⌝ }
 {
     let book = exports_book::start(image, time);
-    let caller = exports_book::caller_of(time);
+    let caller = exports_book::caller_of(time, seed);
     let stepped = table_step::step(book, pools, body, caller, out);
     exports_book::finish(image, said, stepped);
 }
@@ -41,11 +42,17 @@ pub extern "C" fn rhoikandra_open(image: &mut [u64], pools: &mut [Pool]) -> u64
 
 // Writes whether a trade is known, its open par and its standing millions.
 #[no_mangle]
-pub extern "C" fn rhoikandra_figures(image: &[u64], pools: &[Pool], trade: usize, out: &mut [u64])
+pub extern "C" fn rhoikandra_figures(
+    image: &[u64],
+    pools: &[Pool],
+    trade: usize,
+    seed: u64,
+    out: &mut [u64],
+)
     ensures { λ _. ⌜ now (out .exit) ≡ pasted (now (out .entry)) 0 (figuresNumbers (figuresIn (now (image .entry)) (now (pools .entry)) trade)) ⌝ }
 {
     let book = exports_book::book_of(image);
-    let f = table_figures::table_figures(book, pools, trade);
+    let f = table_figures::table_figures(book, pools, trade, seed);
     exports_book::put_figures(out, f);
 }
 

@@ -154,6 +154,7 @@ pub fn figures_rows(
     records: usize,
     rest: bool,
     trade: usize,
+    seed: u64,
 ) -> Figures
     requires { ⌜ (rowsOf records (book .live) ≤ length (now numbers)) × (rowsOf records (book .live) ≤ length (now keys)) ⌝ }
     ensures { λ r. ⌜ SaysRows book (now (numbers .entry)) (now (keys .entry)) records rest trade r ⌝ }
@@ -167,7 +168,7 @@ pub fn figures_rows(
         };
     }
     let rows = rows_of(records, live);
-    rows_figures::trade_figures(book, &numbers[..rows], &keys[..rows], trade)
+    rows_figures::trade_figures(book, &numbers[..rows], &keys[..rows], trade, seed)
 }
 
 // Opens a book over a table of so many records. Where 41 refuses it, the book has one trade more than a book can have.

@@ -52,13 +52,14 @@ pub fn trade_figures(
     numbers: &[[u64; rows::NUMBERS]],
     keys: &[[u8; rows::KEY_WIDTH]],
     trade: usize,
+    seed: u64,
 ) -> Figures
     ensures { λ r. ⌜ r ≡ rowsSay (now (numbers .entry)) (now (keys .entry)) book trade ⌝ }
 {
     let v = book.values;
     let count = v.lent.tradeCount;
     let live = book.live;
-    if !check_soundness::is_sound(book, numbers, keys) {
+    if !check_soundness::is_sound(book, numbers, keys, seed) {
         return Figures {
             known: false,
             openPar: 0,

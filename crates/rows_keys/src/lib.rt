@@ -1,12 +1,11 @@
 // The matched fields of a pool as one row of twenty-two bytes: made from a detail, compared, and spread over buckets.
 use layout::Detail;
 ghost use mathlib.Core.Path.{_≡_};
-ghost use Prim.Native.Nat.{_+_, _*_, _≤_, _<_};
+ghost use Prim.Native.Nat.{_+_, _*_, _%_, _/_, _<_};
 ghost use lib.ListN.{length};
 ghost use Rattle.lists.specs.Lists.{same};
-ghost use Rattle.layout.specs.Columns.{lotId, poolNumber, originalFace};
-ghost use Rattle.rows.specs.Rows.{poolFrom, originalFrom, keyWidth};
-ghost use Rattle.rows_keys.specs.Keys.{keyOf, alike, wordAt, sixAt, bucketOf, bucketCount};
+ghost use Rattle.rows.specs.Rows.{keyWidth, bytesFrom};
+ghost use Rattle.rows_keys.specs.Keys.{keyOf, numberOf, Bytes, half, spreadMost, Spreads, bucketOf, bucketCount};
 
 // Every bucket is below this number.
 pub const BUCKETS: usize = 4096;
@@ -21,104 +20,127 @@ pub fn key_of(d: Detail) -> [u8; rows::KEY_WIDTH]
     rows::key_of(l, p, o)
 }
 
-// Whether the bytes of two Lot-IDs are equal, without a branch.
-fn same_lot(a: &[u8], b: &[u8]) -> bool
-    requires { ⌜ (length (now a) ≡ keyWidth) × (length (now b) ≡ keyWidth) ⌝ }
-    ensures { λ r. ⌜ r ≡ alike (now (a .entry)) (now (b .entry)) 0 (lotId .width) ⌝ }
-{
-    (a[0] == b[0])
-        & (a[1] == b[1])
-        & (a[2] == b[2])
-        & (a[3] == b[3])
-        & (a[4] == b[4])
-        & (a[5] == b[5])
-}
-
-// Of two pool numbers.
-fn same_pool(a: &[u8], b: &[u8]) -> bool
-    requires { ⌜ (length (now a) ≡ keyWidth) × (length (now b) ≡ keyWidth) ⌝ }
-    ensures { λ r. ⌜ r ≡ alike (now (a .entry)) (now (b .entry)) poolFrom (poolNumber .width) ⌝ }
-{
-    (a[6] == b[6])
-        & (a[7] == b[7])
-        & (a[8] == b[8])
-        & (a[9] == b[9])
-        & (a[10] == b[10])
-        & (a[11] == b[11])
-        & (a[12] == b[12])
-}
-
-// Of two original faces.
-fn same_original(a: &[u8], b: &[u8]) -> bool
-    requires { ⌜ (length (now a) ≡ keyWidth) × (length (now b) ≡ keyWidth) ⌝ }
-    ensures { λ r. ⌜ r ≡ alike (now (a .entry)) (now (b .entry)) originalFrom (originalFace .width) ⌝ }
-{
-    (a[13] == b[13])
-        & (a[14] == b[14])
-        & (a[15] == b[15])
-        & (a[16] == b[16])
-        & (a[17] == b[17])
-        & (a[18] == b[18])
-        & (a[19] == b[19])
-        & (a[20] == b[20])
-        & (a[21] == b[21])
-}
-
-// Whether two slices of twenty-two bytes are equal.
-fn same_bytes(a: &[u8], b: &[u8]) -> bool
-    requires { ⌜ (length (now a) ≡ keyWidth) × (length (now b) ≡ keyWidth) ⌝ }
-    ensures { λ r. ⌜ r ≡ same (now (a .entry)) (now (b .entry)) ⌝ }
-{
-    same_lot(a, b) & same_pool(a, b) & same_original(a, b)
-}
-
-// Whether two rows are equal.
-pub fn same_key(a: &[u8; rows::KEY_WIDTH], b: &[u8; rows::KEY_WIDTH]) -> bool
-    ensures { λ r. ⌜ r ≡ same (now (a .entry)) (now (b .entry)) ⌝ }
-{
-    same_bytes(a, b)
-}
-
 fn wide(x: u8) -> u64
-    ensures { λ r. ⌜ (r ≡ x) × (r < 256) ⌝ }
+    ensures { λ r. ⌜ (r ≡ x) × (x < 256) ⌝ }
 {
     x as u64
 }
 
 // Two bytes as one number, the first the lower.
 fn pair(a: u8, b: u8) -> u64
-    ensures { λ r. ⌜ (r ≡ a + b * 256) × (r < 65536) ⌝ }
+    ensures { λ r. ⌜ (r ≡ a + b * 256) × (a < 256) × (b < 256) ⌝ }
 {
     wide(a) + wide(b) * 256
 }
 
-// The eight bytes from at as one number.
-fn word(key: &[u8], at: usize) -> u64
-    requires { ⌜ (length (now key) ≡ keyWidth) × (at + 8 ≤ keyWidth) ⌝ }
-    ensures { λ r. ⌜ r ≡ wordAt (now (key .entry)) at ⌝ }
+// The first eight bytes of a row as one number.
+fn first(key: &[u8]) -> u64
+    requires { ⌜ length (now key) ≡ keyWidth ⌝ }
+    ensures { λ r. ⌜ (r ≡ numberOf (bytesFrom (now (key .entry)) 0 8)) × Bytes (bytesFrom (now (key .entry)) 0 8) ⌝ }
 {
-    let a = pair(key[at], key[at + 1]);
-    let b = pair(key[at + 2], key[at + 3]);
-    let c = pair(key[at + 4], key[at + 5]);
-    let d = pair(key[at + 6], key[at + 7]);
+    let a = pair(key[0], key[1]);
+    let b = pair(key[2], key[3]);
+    let c = pair(key[4], key[5]);
+    let d = pair(key[6], key[7]);
     a + b * 65536 + c * 4294967296 + d * 281474976710656
 }
 
-// The six bytes from at as one number.
-fn six(key: &[u8], at: usize) -> u64
-    requires { ⌜ (length (now key) ≡ keyWidth) × (at + 6 ≤ keyWidth) ⌝ }
-    ensures { λ r. ⌜ r ≡ sixAt (now (key .entry)) at ⌝ }
+// The next eight.
+fn second(key: &[u8]) -> u64
+    requires { ⌜ length (now key) ≡ keyWidth ⌝ }
+    ensures { λ r. ⌜ (r ≡ numberOf (bytesFrom (now (key .entry)) 8 8)) × Bytes (bytesFrom (now (key .entry)) 8 8) ⌝ }
 {
-    let a = pair(key[at], key[at + 1]);
-    let b = pair(key[at + 2], key[at + 3]);
-    let c = pair(key[at + 4], key[at + 5]);
+    let a = pair(key[8], key[9]);
+    let b = pair(key[10], key[11]);
+    let c = pair(key[12], key[13]);
+    let d = pair(key[14], key[15]);
+    a + b * 65536 + c * 4294967296 + d * 281474976710656
+}
+
+// The last six.
+fn third(key: &[u8]) -> u64
+    requires { ⌜ length (now key) ≡ keyWidth ⌝ }
+    ensures { λ r. ⌜ (r ≡ numberOf (bytesFrom (now (key .entry)) 16 6)) × Bytes (bytesFrom (now (key .entry)) 16 6) ⌝ }
+{
+    let a = pair(key[16], key[17]);
+    let b = pair(key[18], key[19]);
+    let c = pair(key[20], key[21]);
     a + b * 65536 + c * 4294967296
 }
 
-// The bucket of a row: rows that differ in a few digits seldom share one. That a row has its width is told to callers who find it in a slice of rows.
-pub fn bucket(key: &[u8; rows::KEY_WIDTH]) -> usize
-    ensures { λ r. ⌜ (r ≡ bucketOf (now (key .entry))) × (r < bucketCount) × (length (now (key .entry)) ≡ keyWidth) ⌝ }
+// Whether two rows are equal: as three numbers, without a branch.
+pub fn same_key(a: &[u8; rows::KEY_WIDTH], b: &[u8; rows::KEY_WIDTH]) -> bool
+    ensures { λ r. ⌜ r ≡ same (now (a .entry)) (now (b .entry)) ⌝ }
 {
-    let n = (word(key, 0) % 4093 + word(key, 8) % 4091 + six(key, 16) % 4079) % 4096;
+    (first(a) == first(b)) & (second(a) == second(b)) & (third(a) == third(b))
+}
+
+// The product of two halves of words.
+fn times(x: u64, y: u64) -> u64
+    requires { ⌜ (x < half) × (y < half) ⌝ }
+    ensures { λ r. ⌜ r ≡ x * y ⌝ }
+{
+    x * y
+}
+
+// The low 64 bits of a product.
+fn product(x: u64, y: u64) -> u64 {
+    let low = x % 4294967296;
+    let last = y % 4294967296;
+    let crossed = std::num::wrapping_add_u64(
+        times(low, y / 4294967296),
+        times(x / 4294967296, last),
+    );
+    std::num::wrapping_add_u64(times(low, last), crossed % 4294967296 * 4294967296)
+}
+
+// A number whose every bit hangs on every bit of x: the mixing of splitmix64.
+fn mixed(x: u64) -> u64 {
+    let a = product(x ^ (x >> 30), 13787848793156543929);
+    let b = product(a ^ (a >> 27), 10723151780598845931);
+    b ^ (b >> 31)
+}
+
+// The low 29 bits.
+fn low(x: u64) -> u64
+    ensures { λ r. ⌜ r < spreadMost ⌝ }
+{
+    x % 536870912
+}
+
+// The high 29 bits.
+fn high(x: u64) -> u64
+    ensures { λ r. ⌜ r < spreadMost ⌝ }
+{
+    x / 34359738368
+}
+
+// The six numbers that rows are spread by, from a seed: which they are is nobody's business.
+pub fn spread(seed: u64) -> [u64; 6]
+    ensures { λ r. ⌜ Spreads r ⌝ }
+{
+    let a = mixed(std::num::wrapping_add_u64(seed, 11400714819323198485));
+    let b = mixed(std::num::wrapping_add_u64(seed, 4354685564936845354));
+    let c = mixed(std::num::wrapping_add_u64(seed, 15755400384260043839));
+    [low(a), high(a), low(b), high(b), low(c), high(c)]
+}
+
+// A spread number by one half of a word and another by the other.
+fn shares(x: u64, y: u64, word: u64) -> u64
+    requires { ⌜ (x < spreadMost) × (y < spreadMost) ⌝ }
+    ensures { λ r. ⌜ (r ≡ x * (word % half) + y * (word / half)) × (r < 4611686018427387904) ⌝ }
+{
+    times(x, word % 4294967296) + times(y, word / 4294967296)
+}
+
+// The bucket of a row. To whoever does not know the spread numbers two rows that differ share one with a chance of at most about 2^-8, whatever they are: of six spread numbers one stands by a half that differs, and each of the 2^21 differences of the sums that end in one bucket leaves it one value of 2^29. That a row has its width is told to callers who find it in a slice of rows.
+pub fn bucket(key: &[u8; rows::KEY_WIDTH], spread: [u64; 6]) -> usize
+    requires { ⌜ Spreads spread ⌝ }
+    ensures { λ r. ⌜ (r ≡ bucketOf spread (now (key .entry))) × (r < bucketCount) × (length (now (key .entry)) ≡ keyWidth) ⌝ }
+{
+    let a = shares(spread[0], spread[1], first(key));
+    let b = shares(spread[2], spread[3], second(key));
+    let c = shares(spread[4], spread[5], third(key));
+    let n = (a + b + c) % 4294967311 % 4096;
     n as usize
 }

@@ -149,7 +149,7 @@ fn step_on(
     requires { ⌜ firstFailing senderChecks (callOn book (now numbers) (now keys) (now body) (askedBy caller (length (now out)))) ≡ Passes ⌝ }
     ensures { λ r. ⌜ Steps book (now (numbers .entry)) (now (keys .entry)) (now (body .entry)) caller (now (out .entry)) r (now (numbers .exit)) (now (keys .exit)) (now (out .exit)) ⌝ }
 {
-    let decision = check_trader::decide(book, &*numbers, &*keys, body);
+    let decision = check_trader::decide(book, &*numbers, &*keys, body, caller.seed);
     let verdict = decision.verdict;
     match verdict {
         Verdict::Fails(reason) => refuse(book, body, reason, caller, &mut *out),
@@ -176,7 +176,7 @@ pub fn step(
 ) -> Stepped
     ensures { λ r. ⌜ Frames book (now (numbers .entry)) (now (keys .entry)) (now (body .entry)) caller (now (out .entry)) r (now (numbers .exit)) (now (keys .exit)) (now (out .exit)) ⌝ }
 {
-    if !check_soundness::is_sound(book, &*numbers, &*keys) {
+    if !check_soundness::is_sound(book, &*numbers, &*keys, caller.seed) {
         return Stepped {
             book: book,
             answer: Answer::Rejected(Reason::Operator(42, book::SILENT)),

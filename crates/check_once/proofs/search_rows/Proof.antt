@@ -13,20 +13,24 @@ use Rattle.check_once.proofs.search_rows.Statement.{statement}
 use Rattle.check_once.proofs.search_rows.Tie as tie
 
 abbrev Inv-loop : tie.InvT-loop
-Inv-loop numbers keys live seen₀ back₀ start₀ i₀ seen back start i =
-    (i ≤ live) × (length seen ≡ bucketCount) × (length back ≡ recordsMax) × Seen keys seen i × Linked keys back i × Once numbers keys live start i
+Inv-loop numbers keys live seed spread seen₀ back₀ start₀ i₀ seen back start i =
+    (i ≤ live) × (length seen ≡ bucketCount) × (length back ≡ recordsMax) × Seen spread keys seen i × Linked spread keys back i × Once numbers keys live start i
 
 abbrev μ-loop : tie.MeasureT-loop
-μ-loop numbers keys live seen₀ back₀ start₀ i₀ seen back start i = live - i
+μ-loop numbers keys live seed spread seen₀ back₀ start₀ i₀ seen back start i = live - i
+
+spread-requires : tie.Need-spread-requires Inv-loop μ-loop
+spread-requires c κs = search needs
 
 loop-holds : tie.Need-loop-holds Inv-loop μ-loop
 loop-holds c =
-    let a = c .args in (
+    let a = c .before .args in
+    let k = c .spread .result in (
       search needs,
       length-replicate {A = ℕ} bucketCount 0,
       length-replicate {A = ℕ} recordsMax 0,
-      seen-none (a .keys .now),
-      linked-none (a .keys .now) (replicate recordsMax 0),
+      seen-none k (a .keys .now),
+      linked-none k (a .keys .now) (replicate recordsMax 0),
       once-none (a .numbers .now) (a .keys .now) (a .live),
     )
 
@@ -40,7 +44,7 @@ shared-slice-element-bucket : tie.Need-shared-slice-element-bucket Inv-loop μ-l
 shared-slice-element-bucket c = search needs
 
 bucket-requires : tie.Need-bucket-requires Inv-loop μ-loop
-bucket-requires c κs = search needs
+bucket-requires c κs = c .before .before .before .before .spread .ensures
 
 mul-last : tie.Need-mul-last Inv-loop μ-loop
 mul-last c = search needs
@@ -56,20 +60,21 @@ wide-requires c κs = search needs
 
 stands-requires : tie.Need-stands-requires Inv-loop μ-loop
 stands-requires c κs =
-    let a = c .before .before .before .before .before .before .before .args in
+    let a = c .before .before .before .before .before .before .before .before .args in
+    let k = c .before .before .before .before .before .before .before .spread .result in
     let l = c .before .before .before .before .before .before .loop in
-    let p = c .before .before .before .before .before .before .before .pre in
+    let p = c .before .before .before .before .before .before .before .before .pre in
     let b = c .before .before .bucket .ensures in
     let up = live-rises (a .numbers .now) (a .keys .now) (a .live) (p .1) (p .3) in (
       (omega arith, omega arith, run-before (a .numbers .now) (a .keys .now) (a .live) (l .start) (l .i) up (l .inv .5) (c .before .before .before .before .before .loop-test .taken) _ (c .before .before .before .before .run-of .ensures) (b .2)),
-      (seen-last (a .keys .now) (l .seen) (l .back) (l .i) (l .inv .3) (l .inv .4) _ (b .0) (b .1) _ (c .wide .ensures), l .inv .4),
+      record { spread = k; last = seen-last k (a .keys .now) (l .seen) (l .back) (l .i) (l .inv .3) (l .inv .4) _ (b .0) (b .1) _ (c .wide .ensures); links = l .inv .4 },
     )
 
 returns : tie.Need-returns Inv-loop μ-loop
 returns c =
-    let a = c .before .before .before .before .before .before .before .before .before .args in
+    let a = c .before .before .before .before .before .before .before .before .before .before .args in
     let l = c .before .before .before .before .before .before .before .before .loop in
-    let p = c .before .before .before .before .before .before .before .before .before .pre in
+    let p = c .before .before .before .before .before .before .before .before .before .before .pre in
     let b = c .before .before .before .before .bucket .ensures in
     let up = live-rises (a .numbers .now) (a .keys .now) (a .live) (p .1) (p .3) in
     once-stop (a .numbers .now) (a .keys .now) (a .live) (l .start) (l .i) up (l .inv .5) (c .before .before .before .before .before .before .before .loop-test .taken) _ (c .before .before .before .before .before .before .run-of .ensures) (b .2) (p .1) _ (c .before .stands .ensures) (c .if1 .taken)
@@ -97,24 +102,25 @@ loop-less c = search needs
 
 loop-again : tie.Need-loop-again Inv-loop μ-loop
 loop-again c =
-    let a = c .before .before .before .before .before .before .before .before .before .before .args in
+    let a = c .before .before .before .before .before .before .before .before .before .before .before .args in
+    let k = c .before .before .before .before .before .before .before .before .before .before .spread .result in
     let l = c .before .before .before .before .before .before .before .before .before .loop in
-    let p = c .before .before .before .before .before .before .before .before .before .before .pre in
+    let p = c .before .before .before .before .before .before .before .before .before .before .before .pre in
     let b = c .before .before .before .before .before .bucket .ensures in
     let up = live-rises (a .numbers .now) (a .keys .now) (a .live) (p .1) (p .3) in (
       omega arith,
       simp length-set (l .inv .1),
       simp length-set (l .inv .2),
-      seen-more (a .keys .now) (l .seen) (l .back) (l .i) (l .inv .3) (l .inv .4) _ (b .0) (b .1) (omega arith) _ (c .narrow .ensures),
-      linked-more (a .keys .now) (l .seen) (l .back) (l .i) (l .inv .3) (l .inv .4) _ (b .0) (b .1) (omega arith),
+      seen-more k (a .keys .now) (l .seen) (l .back) (l .i) (l .inv .3) (l .inv .4) _ (b .0) (b .1) (omega arith) _ (c .narrow .ensures),
+      linked-more k (a .keys .now) (l .seen) (l .back) (l .i) (l .inv .3) (l .inv .4) _ (b .0) (b .1) (omega arith),
       once-more (a .numbers .now) (a .keys .now) (a .live) (l .start) (l .i) up (l .inv .5) (c .before .before .before .before .before .before .before .before .loop-test .taken) _ (c .before .before .before .before .before .before .before .run-of .ensures) (b .2) _ (c .before .before .stands .ensures) (c .before .if1 .left),
     )
 
 returns-2 : tie.Need-returns-2 Inv-loop μ-loop
 returns-2 c =
-    let a = c .before .before .args in
+    let a = c .before .before .before .args in
     let l = c .before .loop in
-    once-done (a .numbers .now) (a .keys .now) (a .live) (c .before .before .pre .1) (l .start) (l .i) (l .inv .5) (c .loop-test .left)
+    once-done (a .numbers .now) (a .keys .now) (a .live) (c .before .before .before .pre .1) (l .start) (l .i) (l .inv .5) (c .loop-test .left)
 
 pub search-rows-spec : {M : Type 1} → statement M
 search-rows-spec =
@@ -122,6 +128,7 @@ search-rows-spec =
     (tie.spec
     Inv-loop
     μ-loop
+    spread-requires
     loop-holds
     run-of-requires
     mul-bucket

@@ -28,7 +28,7 @@ use denote.RattleType.{owns}
 use denote.Laws.{Is, shows}
 use denote.Memory as memory
 use denote.Plain.{uint-makes}
-use denote.Builtin.{u8, usize}
+use denote.Builtin.{u8, u64, usize}
 use denote.Ref.{RefT}
 use denote.Slice.{sliceVal, ShrSlice, MutSlice, Room, slice-vals, shr-slice-tells, shr-slice-copy}
 use denote.Lend.{Held, lends-slice, slice-back}
@@ -237,16 +237,16 @@ module _ {M : Type 1} (𝓤 : URA M) (H : Heap 𝓤) (A : Atoms 𝓤) (W : Given
   said-after d b = exE 𝓤 _ (λ zs. snd∗ 𝓤 (sem 𝓤 H A (lasts ba.ended tt (d, tt) zs)) (fact 𝓤 (b ≡ d .book)))
 
   abbrev to-figures : ℕ → ℕ → GName → Book → List Pool → TableFigures 𝓤 H A mem run .Ghost
-  to-figures l ν δ b ps = (((ν ∷ [], tt), (fullShare, tt), tt, (b, (x l δ ps, (0, tt))), (bookVals b, (sliceVal (l, 0) 512 ∷ [], (vint w64 0 ∷ [], tt)))), tt)
+  to-figures l ν δ b ps = (((ν ∷ [], tt), (fullShare, tt), tt, (b, (x l δ ps, (0, (0, tt)))), (bookVals b, (sliceVal (l, 0) 512 ∷ [], (vint w64 0 ∷ [], (vint w64 0 ∷ [], tt))))), tt)
 
   goes-figures : (l ν : ℕ) (δ : GName) (b : Book) (ps : List Pool) → Is BookR b (bookVals b)
       → ent 𝓤 (⋆ 𝓤 H A (‵ (flft (ν ∷ []) fullShare) ∷ Shared l ν δ ps 512 ∷ [])) (TableFigures 𝓤 H A mem run .pre (to-figures l ν δ b ps))
   goes-figures l ν δ b ps gb =
-      qed W (‵ (flft (ν ∷ []) fullShare) ∷ Shared l ν δ ps 512 ∷ []) ∵ nothing ! $ owned ! usize (Is usize) (uint-makes 𝓤 H A W w64) 0 _ (refl, lit< tt) $ fjoin ! $ move ! (2 ∷ 0 ∷ []) $ fjoin ! $
+      qed W (‵ (flft (ν ∷ []) fullShare) ∷ Shared l ν δ ps 512 ∷ []) ∵ nothing ! $ owned ! u64 (Is u64) (uint-makes 𝓤 H A W w64) 0 _ (refl, lit< tt) $ fjoin ! $ owned ! usize (Is usize) (uint-makes 𝓤 H A W w64) 0 _ (refl, lit< tt) $ fjoin ! $ move ! (2 ∷ 0 ∷ []) $ fjoin ! $
       owned ! BookR (Is BookR) (book-value .makes 𝓤 H A) b _ gb $ fjoin ! $ nothing ! $ move ! (2 ∷ 0 ∷ []) $ join ! $ join ! $ frame ! $ done !
 
-  said-figures : (l ν : ℕ) (δ : GName) (b : Book) (ps : List Pool) (r : Figures) → ent 𝓤 (ensured 𝓤 H A tf.ended (tf.clauses 𝓤 H A mem run) (ν ∷ [], tt) (b, (x l δ ps, (0, tt))) tt r) (fact 𝓤 (Says b ps 0 r))
-  said-figures l ν δ b ps r = exE 𝓤 _ (λ zs. snd∗ 𝓤 (sem 𝓤 H A (lasts tf.ended (ν ∷ [], tt) (b, (x l δ ps, (0, tt))) zs)) (fact 𝓤 (Says b ps 0 r)))
+  said-figures : (l ν : ℕ) (δ : GName) (b : Book) (ps : List Pool) (r : Figures) → ent 𝓤 (ensured 𝓤 H A tf.ended (tf.clauses 𝓤 H A mem run) (ν ∷ [], tt) (b, (x l δ ps, (0, (0, tt)))) tt r) (fact 𝓤 (Says b ps 0 r))
+  said-figures l ν δ b ps r = exE 𝓤 _ (λ zs. snd∗ 𝓤 (sem 𝓤 H A (lasts tf.ended (ν ∷ [], tt) (b, (x l δ ps, (0, (0, tt)))) zs)) (fact 𝓤 (Says b ps 0 r)))
 
   abbrev to-report : Day → Figures → MakeReport 𝓤 H A mem run .Ghost
   to-report d g = ((tt, tt, tt, (d, (g, tt)), (dayVals d, (figuresVals g, tt))), tt)
@@ -325,8 +325,8 @@ module _ {M : Type 1} (𝓤 : URA M) (H : Heap 𝓤) (A : Atoms 𝓤) (W : Given
         rewrite ! 0 (λ (m : ℕ). Shared l₄ μ ε (zs₂ .1 .0) m) (lz₂ ∙ lz ∙ long) refl $ move ! (2 ∷ 0 ∷ []) $
         use2 W (raw (TableFigures 𝓤 H A mem run .pre (to-figures l₄ μ ε b₂ (zs₂ .1 .0)))) (goes-figures l₄ μ ε b₂ (zs₂ .1 .0) (book-value .its b₂ w₄ gb₂)) $
         -- [what `table_figures` asks; the lender's part; the tape's token; tape; _15 at 4; …; _8 at 18; …]
-        calls-at ! (fmOf 𝓤 H (W .laws) 𝓣) (TableFigures 𝓤 H A mem run) known-figures (to-figures l₄ μ ε b₂ (zs₂ .1 .0)) (and-then ! (load ! (from ! (stop !)) (look ! 18 refl)) (and-then ! (load ! (from ! (stop !)) (look ! 4 refl)) (and-then ! (lit ! tt) (no-more !)))) (λ w₅.
-        use1 W (later (some (λ (g : Figures). ((‵ (flft (μ ∷ []) fullShare) ⊛ ‵ ftrue) ⊛ ‵ (FiguresR .own g (w₅ ∷ []))) ⊛ raw (ensured 𝓤 H A tf.ended (tf.clauses 𝓤 H A mem run) (μ ∷ [], tt) (b₂, (x l₄ ε (zs₂ .1 .0), (0, tt))) tt g)))) (id⊢ 𝓤 _) $ await ! tt $ pick ! (λ g.
+        calls-at ! (fmOf 𝓤 H (W .laws) 𝓣) (TableFigures 𝓤 H A mem run) known-figures (to-figures l₄ μ ε b₂ (zs₂ .1 .0)) (and-then ! (load ! (from ! (stop !)) (look ! 18 refl)) (and-then ! (load ! (from ! (stop !)) (look ! 4 refl)) (and-then ! (lit ! tt) (and-then ! (lit ! tt) (no-more !))))) (λ w₅.
+        use1 W (later (some (λ (g : Figures). ((‵ (flft (μ ∷ []) fullShare) ⊛ ‵ ftrue) ⊛ ‵ (FiguresR .own g (w₅ ∷ []))) ⊛ raw (ensured 𝓤 H A tf.ended (tf.clauses 𝓤 H A mem run) (μ ∷ [], tt) (b₂, (x l₄ ε (zs₂ .1 .0), (0, (0, tt)))) tt g)))) (id⊢ 𝓤 _) $ await ! tt $ pick ! (λ g.
         split ! $ move ! (1 ∷ []) $ use1 W (raw (fact 𝓤 (Says b₂ (zs₂ .1 .0) 0 g))) (said-figures l₄ μ ε b₂ (zs₂ .1 .0) g) $ heard ! (Says b₂ (zs₂ .1 .0) 0 g) (λ e₅. split ! $ move ! (1 ∷ []) $
         peeks ! FiguresR (Is FiguresR) (shows 𝓤 H A FiguresR) g (w₅ ∷ []) (λ gf. land ! (from ! (stop !)) (init ! 17 refl (figures-value .typed 𝓤 H A W g w₅ gf)) $ rewrite ! 17 (λ (u : Val). ‵ (fat fullShare (τ 9) l₉ 0 u)) (figures-value .is g w₅ gf) refl $ drop ! $
         split ! $ lft-end ! tt $ move ! (0 ∷ 2 ∷ []) $ use2 W (later (‵ (cells (memory.mem R) (zs₂ .1 .0) l₄ 0))) (elems-back R 𝓤 H A W (μ ∷ []) (zs₂ .1 .0) l₄) $ await ! tt $

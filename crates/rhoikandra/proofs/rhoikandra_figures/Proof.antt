@@ -65,10 +65,10 @@ use Rattle.rhoikandra.proofs.rhoikandra_figures.Statement as stated
 use Rattle.rhoikandra.proofs.rhoikandra_figures.Code as code
 
 abbrev Arg : Type 0
-Arg = RefT (List ℕ) × (RefT (List Pool) × (ℕ × (RefT (List ℕ) × Unit {0})))
+Arg = RefT (List ℕ) × (RefT (List Pool) × (ℕ × (ℕ × (RefT (List ℕ) × Unit {0}))))
 
 abbrev stayed : Stays (f.ended .signature .params) (f.ended .kept)
-stayed = (stay-none-slice (0 ∷ []) tt (plain (λ _. u64)) yes, (stay-none-slice (1 ∷ []) tt (plain (λ _. R)) yes, (stay-none (λ _. usize) yes, (gave-slice (2 ∷ []) tt (plain (λ _. u64)), tt))))
+stayed = (stay-none-slice (0 ∷ []) tt (plain (λ _. u64)) yes, (stay-none-slice (1 ∷ []) tt (plain (λ _. R)) yes, (stay-none (λ _. usize) yes, (stay-none (λ _. u64) yes, (gave-slice (2 ∷ []) tt (plain (λ _. u64)), tt)))))
 
 module _ {M : Type 1} (𝓤 : URA M) (H : Heap 𝓤) (A : Atoms 𝓤) (mem : Memory → SProp 𝓤) (run : Routine → Fun 𝓤) where
   -- the contracts that the proof cites
@@ -81,7 +81,7 @@ module _ {M : Type 1} (𝓤 : URA M) (H : Heap 𝓤) (A : Atoms 𝓤) (mem : Mem
   abbrev PutFigures : Contract 𝓤
   PutFigures = tripleOf 𝓤 H A pf.signature (pf.spec 𝓤 H A mem run)
 
-module _ {M : Type 1} (𝓤 : URA M) (H : Heap 𝓤) (A : Atoms 𝓤) (W : Given 𝓤 H A) (mem : Memory → SProp 𝓤) (run : Routine → Fun 𝓤) (κ κ₂ κ₃ : Lft) (q q₂ q₃ : Share) (b o : ℕ) (γ : GName) (ws : List ℕ) (b₂ o₂ : ℕ) (γ₂ : GName) (ys : List Pool) (v : ℕ) (b₃ o₃ : ℕ) (γ₃ : GName) (us : List ℕ) where
+module _ {M : Type 1} (𝓤 : URA M) (H : Heap 𝓤) (A : Atoms 𝓤) (W : Given 𝓤 H A) (mem : Memory → SProp 𝓤) (run : Routine → Fun 𝓤) (κ κ₂ κ₃ : Lft) (q q₂ q₃ : Share) (b o : ℕ) (γ : GName) (ws : List ℕ) (b₂ o₂ : ℕ) (γ₂ : GName) (ys : List Pool) (v seed : ℕ) (b₃ o₃ : ℕ) (γ₃ : GName) (us : List ℕ) where
   abbrev x : RefT (List ℕ)
   x = record { ptr = (b, o); name = γ; now = ws }
 
@@ -92,7 +92,7 @@ module _ {M : Type 1} (𝓤 : URA M) (H : Heap 𝓤) (A : Atoms 𝓤) (W : Given
   z = record { ptr = (b₃, o₃); name = γ₃; now = us }
 
   abbrev a : Arg
-  a = (x, (y, (v, (z, tt))))
+  a = (x, (y, (v, (seed, (z, tt)))))
 
   -- the machine values of the three slices
   abbrev s : Val
@@ -105,7 +105,7 @@ module _ {M : Type 1} (𝓤 : URA M) (H : Heap 𝓤) (A : Atoms 𝓤) (W : Given
   s₃ = sliceVal (b₃, o₃) (length us)
 
   abbrev at : Vals f.signature (κ, (κ₂, (κ₃, tt)))
-  at = (s ∷ [], (s₂ ∷ [], (vint w64 v ∷ [], (s₃ ∷ [], tt))))
+  at = (s ∷ [], (s₂ ∷ [], (vint w64 v ∷ [], (vint w64 seed ∷ [], (s₃ ∷ [], tt)))))
 
   -- the numbers written
   abbrev said : List ℕ
@@ -142,11 +142,11 @@ module _ {M : Type 1} (𝓤 : URA M) (H : Heap 𝓤) (A : Atoms 𝓤) (W : Given
   abbrev Left : List ℕ → List (Item 𝓤)
   Left l = Third ∷ ‵ (finally u64 γ₃ l) ∷ Second ∷ Pools ∷ First ∷ Image ∷ []
 
-  exits : v < 2 ^ 64 → (l : List ℕ) → length l ≡ length us → l ≡ said → ent 𝓤 (⋆ 𝓤 H A (Left l)) (Post vunit)
-  exits gv l len e =
-      qed W (Left l) ∵ suffices ! _ (ends-at 𝓤 H A f.ended stayed (f.clauses 𝓤 H A mem run) W bound vunit tt (tt, (tt, (tt, (l, tt)))) (tt, (tt, (tt, (len, tt))))) $ says ! e $
+  exits : v < 2 ^ 64 → seed < 2 ^ 64 → (l : List ℕ) → length l ≡ length us → l ≡ said → ent 𝓤 (⋆ 𝓤 H A (Left l)) (Post vunit)
+  exits gv gs l len e =
+      qed W (Left l) ∵ suffices ! _ (ends-at 𝓤 H A f.ended stayed (f.clauses 𝓤 H A mem run) W bound vunit tt (tt, (tt, (tt, (tt, (l, tt))))) (tt, (tt, (tt, (tt, (len, tt)))))) $ says ! e $
       move ! (2 ∷ []) $ split ! $ move ! (1 ∷ []) $ drop ! $ join ! $ move ! (3 ∷ []) $ split ! $ move ! (1 ∷ []) $ drop ! $ join ! $ frame ! $
-      nothing ! $ move ! (1 ∷ 0 ∷ []) $ fjoin ! $ owned ! usize (Is usize) (uint-makes 𝓤 H A W w64) v _ (refl, gv) $ fjoin ! $ move ! (1 ∷ 0 ∷ []) $ fjoin ! $ move ! (1 ∷ 0 ∷ []) $ fjoin ! $ frame ! $
+      nothing ! $ move ! (1 ∷ 0 ∷ []) $ fjoin ! $ owned ! u64 (Is u64) (uint-makes 𝓤 H A W w64) seed _ (refl, gs) $ fjoin ! $ owned ! usize (Is usize) (uint-makes 𝓤 H A W w64) v _ (refl, gv) $ fjoin ! $ move ! (1 ∷ 0 ∷ []) $ fjoin ! $ move ! (1 ∷ 0 ∷ []) $ fjoin ! $ frame ! $
       feqI ! (List Val) (vunit ∷ []) (vunit ∷ []) refl $ done !
 
   -- what each callee's triple binds outside, and that the caller has what it asks
@@ -161,15 +161,15 @@ module _ {M : Type 1} (𝓤 : URA M) (H : Heap 𝓤) (A : Atoms 𝓤) (W : Given
 
   module _ (k : Book) (w : Val) where
     abbrev to-figures : TableFigures 𝓤 H A mem run .Ghost
-    to-figures = (((κ₂, tt), (q₂, tt), tt, (k, (y, (v, tt))), (w ∷ [], (s₂ ∷ [], (vint w64 v ∷ [], tt)))), tt)
+    to-figures = (((κ₂, tt), (q₂, tt), tt, (k, (y, (v, (seed, tt)))), (w ∷ [], (s₂ ∷ [], (vint w64 v ∷ [], (vint w64 seed ∷ [], tt))))), tt)
 
-    goes-figures : Is BookR k (w ∷ []) → v < 2 ^ 64 → ent 𝓤 (⋆ 𝓤 H A (‵ (flft κ₂ q₂) ∷ Pools ∷ [])) (TableFigures 𝓤 H A mem run .pre to-figures)
-    goes-figures is gv =
+    goes-figures : Is BookR k (w ∷ []) → v < 2 ^ 64 → seed < 2 ^ 64 → ent 𝓤 (⋆ 𝓤 H A (‵ (flft κ₂ q₂) ∷ Pools ∷ [])) (TableFigures 𝓤 H A mem run .pre to-figures)
+    goes-figures is gv gs =
         qed W (‵ (flft κ₂ q₂) ∷ Pools ∷ []) ∵ nothing ! $ move ! (1 ∷ 0 ∷ []) $ join ! $ move ! (1 ∷ []) $
-        nothing ! $ owned ! usize (Is usize) (uint-makes 𝓤 H A W w64) v _ (refl, gv) $ fjoin ! $ move ! (1 ∷ 0 ∷ []) $ fjoin ! $ owned ! BookR (Is BookR) (book-value .makes 𝓤 H A) k _ is $ fjoin ! $ move ! (1 ∷ 0 ∷ []) $ join ! $ frame ! $ done !
+        nothing ! $ owned ! u64 (Is u64) (uint-makes 𝓤 H A W w64) seed _ (refl, gs) $ fjoin ! $ owned ! usize (Is usize) (uint-makes 𝓤 H A W w64) v _ (refl, gv) $ fjoin ! $ move ! (1 ∷ 0 ∷ []) $ fjoin ! $ owned ! BookR (Is BookR) (book-value .makes 𝓤 H A) k _ is $ fjoin ! $ move ! (1 ∷ 0 ∷ []) $ join ! $ frame ! $ done !
 
-    said-figures : (r : Figures) → ent 𝓤 (ensured 𝓤 H A tf.ended (tf.clauses 𝓤 H A mem run) (κ₂, tt) (k, (y, (v, tt))) tt r) (fact 𝓤 (Says k ys v r))
-    said-figures r = exE 𝓤 _ (λ zs. snd∗ 𝓤 (sem 𝓤 H A (lasts tf.ended (κ₂, tt) (k, (y, (v, tt))) zs)) (fact 𝓤 (Says k ys v r)))
+    said-figures : (r : Figures) → ent 𝓤 (ensured 𝓤 H A tf.ended (tf.clauses 𝓤 H A mem run) (κ₂, tt) (k, (y, (v, (seed, tt)))) tt r) (fact 𝓤 (Says k ys v r))
+    said-figures r = exE 𝓤 _ (λ zs. snd∗ 𝓤 (sem 𝓤 H A (lasts tf.ended (κ₂, tt) (k, (y, (v, (seed, tt)))) zs)) (fact 𝓤 (Says k ys v r)))
 
   module _ (r : Figures) (w : Val) where
     abbrev to-put : PutFigures 𝓤 H A mem run .Ghost
@@ -180,62 +180,62 @@ module _ {M : Type 1} (𝓤 : URA M) (H : Heap 𝓤) (A : Atoms 𝓤) (W : Given
         qed W (Third ∷ Out ∷ []) ∵ nothing ! $ owned ! FiguresR (Is FiguresR) (figures-value .makes 𝓤 H A) r _ is $ fjoin ! $ move ! (2 ∷ 0 ∷ []) $ fjoin ! $ move ! (1 ∷ 0 ∷ []) $ join ! $ frame ! $ done !
 
   module _ (𝓣 : Tables 𝓤 H) (known-book : Triple 𝓤 (𝓣 .C #book-of) (BookOf 𝓤 H A mem run)) (known-figures : Triple 𝓤 (𝓣 .C #table-figures) (TableFigures 𝓤 H A mem run)) (known-put : Triple 𝓤 (𝓣 .C #put-figures) (PutFigures 𝓤 H A mem run)) where
-    walk : Room u64 (length ws) → Room R (length ys) → v < 2 ^ 64 → Room u64 (length us)
-        → ent 𝓤 (onEntry 𝓤 H A f.signature (κ, (κ₂, (κ₃, tt))) (q, (q₂, (q₃, tt))) a at) (WpFn 𝓤 H (𝓣 .C) (𝓣 .Λ) code.function (s ∷ s₂ ∷ vint w64 v ∷ s₃ ∷ []) Post)
-    walk room room₂ gv room₃ =
-        qed W (Tokens ∷ ‵ (owns (ShrSlice (named 0) κ u64 ∷ ShrSlice (named 1) κ₂ R ∷ usize ∷ MutSlice (named 2) κ₃ u64 ∷ []) a at) ∷ []) ∵ enter ! (𝓣 .C) (𝓣 .Λ) code.function (s ∷ s₂ ∷ vint w64 v ∷ s₃ ∷ []) _ $
-        alloc1 ! (λ l₀. alloc1 ! (λ l₁. alloc1 ! (λ l₂. alloc1 ! (λ l₃. alloc1 ! (λ l₄. alloc1 ! (λ l₅. alloc1 ! (λ l₆. alloc1 ! (λ l₇. alloc1 ! (λ l₈. alloc1 ! (λ l₉. alloc0 ! $ params1 ! $
-        pass1 ! (init ! 16 refl (tt, (tt, (record { fits = room .0 }, tt)))) $ pass1 ! (init ! 14 refl (tt, (tt, (record { fits = room₂ .0 }, tt)))) $ pass1 ! (init ! 12 refl (tt, record { fits = gv })) $ pass1 ! (init ! 10 refl (tt, (tt, (record { fits = room₃ .0 }, tt)))) $ pass0 ! $
-        -- [_9; …; _0; …; the tokens; what the parameters own]
-        move ! (21 ∷ []) $ fsplit ! $ move ! (1 ∷ []) $ fsplit ! $ move ! (1 ∷ []) $ fsplit ! $ drop ! $ fsplit ! $ move ! (1 ∷ []) $ drop ! $ move ! (23 ∷ 2 ∷ 1 ∷ 0 ∷ []) $
-        -- [the tokens; image; pools; out; _9 at 4; …; _0 at 22]: `book_of` has a copy of the words
+    walk : Room u64 (length ws) → Room R (length ys) → v < 2 ^ 64 → seed < 2 ^ 64 → Room u64 (length us)
+        → ent 𝓤 (onEntry 𝓤 H A f.signature (κ, (κ₂, (κ₃, tt))) (q, (q₂, (q₃, tt))) a at) (WpFn 𝓤 H (𝓣 .C) (𝓣 .Λ) code.function (s ∷ s₂ ∷ vint w64 v ∷ vint w64 seed ∷ s₃ ∷ []) Post)
+    walk room room₂ gv gs room₃ =
+        qed W (Tokens ∷ ‵ (owns (ShrSlice (named 0) κ u64 ∷ ShrSlice (named 1) κ₂ R ∷ usize ∷ u64 ∷ MutSlice (named 2) κ₃ u64 ∷ []) a at) ∷ []) ∵ enter ! (𝓣 .C) (𝓣 .Λ) code.function (s ∷ s₂ ∷ vint w64 v ∷ vint w64 seed ∷ s₃ ∷ []) _ $
+        alloc1 ! (λ l₀. alloc1 ! (λ l₁. alloc1 ! (λ l₂. alloc1 ! (λ l₃. alloc1 ! (λ l₄. alloc1 ! (λ l₅. alloc1 ! (λ l₆. alloc1 ! (λ l₇. alloc1 ! (λ l₈. alloc1 ! (λ l₉. alloc1 ! (λ l₁₀. alloc0 ! $ params1 ! $
+        pass1 ! (init ! 18 refl (tt, (tt, (record { fits = room .0 }, tt)))) $ pass1 ! (init ! 16 refl (tt, (tt, (record { fits = room₂ .0 }, tt)))) $ pass1 ! (init ! 14 refl (tt, record { fits = gv })) $ pass1 ! (init ! 12 refl (tt, record { fits = gs })) $ pass1 ! (init ! 10 refl (tt, (tt, (record { fits = room₃ .0 }, tt)))) $ pass0 ! $
+        -- [_10; …; _0; …; the tokens; what the parameters own]
+        move ! (23 ∷ []) $ fsplit ! $ move ! (1 ∷ []) $ fsplit ! $ move ! (1 ∷ []) $ fsplit ! $ drop ! $ fsplit ! $ drop ! $ fsplit ! $ move ! (1 ∷ []) $ drop ! $ move ! (25 ∷ 2 ∷ 1 ∷ 0 ∷ []) $
+        -- [the tokens; image; pools; out; _10 at 4; …; _0 at 24]: `book_of` has a copy of the words
         split ! $ move ! (2 ∷ []) $ use1 W (Image ⊛ Image) (shr-slice-copy 𝓤 H A W (named 0) κ u64 .twice x (s ∷ [])) $ split ! $ move ! (2 ∷ 0 ∷ []) $ use2 W (raw (BookOf 𝓤 H A mem run .pre to-book)) goes-book $
-        -- [what `book_of` asks; image; the other tokens; pools; out; _9 at 5; …; _1 at 21; …]
-        calls-at ! (fmOf 𝓤 H (W .laws) 𝓣) (BookOf 𝓤 H A mem run) known-book to-book (and-then ! (load ! (from ! (stop !)) (look ! 21 refl)) (no-more !)) (λ w.
+        -- [what `book_of` asks; image; the other tokens; pools; out; _10 at 5; …; _1 at 23; …]
+        calls-at ! (fmOf 𝓤 H (W .laws) 𝓣) (BookOf 𝓤 H A mem run) known-book to-book (and-then ! (load ! (from ! (stop !)) (look ! 23 refl)) (no-more !)) (λ w.
         use1 W (later (some (λ (k : Book). (First ⊛ ‵ (BookR .own k (w ∷ []))) ⊛ raw (ensured 𝓤 H A bo.ended (bo.clauses 𝓤 H A mem run) (κ, tt) (x, tt) tt k)))) (id⊢ 𝓤 _) $ await ! tt $ pick ! (λ k.
         split ! $ move ! (1 ∷ []) $ use1 W (raw (fact 𝓤 (Reads (isImage ws) ws k))) (said-book k) $ heard ! (Reads (isImage ws) ws k) (λ e. split ! $ move ! (1 ∷ []) $
         peeks ! BookR (Is BookR) (shows 𝓤 H A BookR) k (w ∷ []) (λ is. land ! (from ! (stop !)) (init ! 14 refl (book-value .typed 𝓤 H A W k w is)) $ drop ! $
-        -- [the first token; image; the other tokens; pools; out; _9 at 5; …]: `table_figures` has a copy of the records
-        move ! (2 ∷ []) $ split ! $ move ! (4 ∷ []) $ use1 W (Pools ⊛ Pools) (shr-slice-copy 𝓤 H A W (named 1) κ₂ R .twice y (s₂ ∷ [])) $ split ! $ move ! (2 ∷ 0 ∷ []) $ use2 W (raw (TableFigures 𝓤 H A mem run .pre (to-figures k w))) (goes-figures k w is gv) $
-        -- [what `table_figures` asks; pools; the third token; the first token; image; out; _9 at 6; …; _5 at 14; …; _3 at 18; …; _2 at 20; …]
-        calls-at ! (fmOf 𝓤 H (W .laws) 𝓣) (TableFigures 𝓤 H A mem run) known-figures (to-figures k w) (and-then ! (load ! (from ! (stop !)) (look ! 14 refl)) (and-then ! (load ! (from ! (stop !)) (look ! 20 refl)) (and-then ! (load ! (from ! (stop !)) (look ! 18 refl)) (no-more !)))) (λ w₂.
-        use1 W (later (some (λ (r : Figures). (Second ⊛ ‵ (FiguresR .own r (w₂ ∷ []))) ⊛ raw (ensured 𝓤 H A tf.ended (tf.clauses 𝓤 H A mem run) (κ₂, tt) (k, (y, (v, tt))) tt r)))) (id⊢ 𝓤 _) $ await ! tt $ pick ! (λ r.
+        -- [the first token; image; the other tokens; pools; out; _10 at 5; …]: `table_figures` has a copy of the records
+        move ! (2 ∷ []) $ split ! $ move ! (4 ∷ []) $ use1 W (Pools ⊛ Pools) (shr-slice-copy 𝓤 H A W (named 1) κ₂ R .twice y (s₂ ∷ [])) $ split ! $ move ! (2 ∷ 0 ∷ []) $ use2 W (raw (TableFigures 𝓤 H A mem run .pre (to-figures k w))) (goes-figures k w is gv gs) $
+        -- [what `table_figures` asks; pools; the third token; the first token; image; out; _10 at 6; …; _6 at 14; …; _3 at 20; …; _2 at 22; …]
+        calls-at ! (fmOf 𝓤 H (W .laws) 𝓣) (TableFigures 𝓤 H A mem run) known-figures (to-figures k w) (and-then ! (load ! (from ! (stop !)) (look ! 14 refl)) (and-then ! (load ! (from ! (stop !)) (look ! 22 refl)) (and-then ! (load ! (from ! (stop !)) (look ! 20 refl)) (and-then ! (load ! (from ! (stop !)) (look ! 18 refl)) (no-more !))))) (λ w₂.
+        use1 W (later (some (λ (r : Figures). (Second ⊛ ‵ (FiguresR .own r (w₂ ∷ []))) ⊛ raw (ensured 𝓤 H A tf.ended (tf.clauses 𝓤 H A mem run) (κ₂, tt) (k, (y, (v, (seed, tt)))) tt r)))) (id⊢ 𝓤 _) $ await ! tt $ pick ! (λ r.
         split ! $ move ! (1 ∷ []) $ use1 W (raw (fact 𝓤 (Says k ys v r))) (said-figures k w r) $ heard ! (Says k ys v r) (λ e₂. split ! $ move ! (1 ∷ []) $
         peeks ! FiguresR (Is FiguresR) (shows 𝓤 H A FiguresR) r (w₂ ∷ []) (λ is₂. land ! (from ! (stop !)) (init ! 13 refl (figures-value .typed 𝓤 H A W r w₂ is₂)) $ drop ! $
-        -- [the second token; pools; the third token; the first token; image; out; _9 at 6; …]
+        -- [the second token; pools; the third token; the first token; image; out; _10 at 6; …]
         assigns ! (addr ! (from ! (fld ! refl (hop ! (look-in ! 16 (sub ! 0 refl (whole !))) (stop !))))) (from ! (stop !)) (init ! 8 refl (tt, tt)) $
         assigns ! (agg ! (and-then ! (load ! (from ! (stop !)) (look ! 8 refl)) (and-then ! (load ! (from ! (fld ! refl (stop !))) (look-in ! 16 (sub ! 1 refl (whole !)))) (no-more !)))) (from ! (stop !)) (init ! 6 refl (tt, (tt, (record { fits = room₃ .0 }, tt)))) $
         move ! (2 ∷ 5 ∷ []) $ use2 W (raw (PutFigures 𝓤 H A mem run .pre (to-put r w₂))) (goes-put r w₂ is₂) $
-        -- [what `put_figures` asks; the second token; pools; the first token; image; _9 at 5; …; _6 at 11; …]
+        -- [what `put_figures` asks; the second token; pools; the first token; image; _10 at 5; …; _7 at 11; …]
         calls-at ! (fmOf 𝓤 H (W .laws) 𝓣) (PutFigures 𝓤 H A mem run) known-put (to-put r w₂) (and-then ! (load ! (from ! (stop !)) (look ! 5 refl)) (and-then ! (load ! (from ! (stop !)) (look ! 11 refl)) (no-more !))) (λ w₃.
         use1 W (later (some (λ (u : Unit {0}). (Third ⊛ ‵ (Nothing .own u (w₃ ∷ []))) ⊛ raw (ensured 𝓤 H A pf.ended (pf.clauses 𝓤 H A mem run) (κ₃, tt) (z, (r, tt)) tt u)))) (id⊢ 𝓤 _) $ await ! tt $ pick ! (λ u.
         split ! $ move ! (1 ∷ []) $ use1 W (some (λ (zs : List ℕ × (Unit {0} × Unit {0})). ‵ (lasts pf.ended (κ₃, tt) (z, (r, tt)) zs) ⊛ raw (fact 𝓤 (zs .0 ≡ pasted us 0 (figuresNumbers r))))) (id⊢ 𝓤 _) $ pick ! (λ zs.
         split ! $ move ! (1 ∷ []) $ heard ! (zs .0 ≡ pasted us 0 (figuresNumbers r)) (λ e₃. fsplit ! $ fsplit ! $ move ! (1 ∷ []) $ feqL ! (λ len.
-        -- [the last numbers; true; the third token and the result; the second token; pools; the first token; image; _9 at 7; …]
+        -- [the last numbers; true; the third token and the result; the second token; pools; the first token; image; _10 at 7; …]
         move ! (1 ∷ []) $ drop ! $ move ! (1 ∷ []) $ split ! $ move ! (1 ∷ []) $ peeks ! Nothing (Is Nothing) (shows 𝓤 H A Nothing) u (w₃ ∷ []) (λ is₃. land ! (from ! (stop !)) (init ! 11 refl (nothing-lawful 𝓤 H A W .typed u _ is₃ .0)) $ drop ! $
-        -- [the third token; the last numbers; the second token; pools; the first token; image; _9 at 6; …; _0 at 24]
-        assigns ! (of-opd ! (unit-lit !)) (from ! (stop !)) (init ! 24 refl (tt, tt)) $
-        returns ! (look ! 24 refl) $ forget ! 6 refl $ forget ! 8 refl $ forget ! 10 refl $ forget ! 12 refl $ forget ! 14 refl $ forget ! 16 refl $ forget ! 18 refl $ forget ! 20 refl $ forget ! 22 refl $ forget ! 24 refl $
-        move ! (24 ∷ 25 ∷ []) $ free1 ! $ move ! (22 ∷ 23 ∷ []) $ free1 ! $ move ! (20 ∷ 21 ∷ []) $ free1 ! $ move ! (18 ∷ 19 ∷ []) $ free1 ! $ move ! (16 ∷ 17 ∷ []) $ free1 ! $ move ! (14 ∷ 15 ∷ []) $ free1 ! $
+        -- [the third token; the last numbers; the second token; pools; the first token; image; _10 at 6; …; _0 at 26]
+        assigns ! (of-opd ! (unit-lit !)) (from ! (stop !)) (init ! 26 refl (tt, tt)) $
+        returns ! (look ! 26 refl) $ forget ! 6 refl $ forget ! 8 refl $ forget ! 10 refl $ forget ! 12 refl $ forget ! 14 refl $ forget ! 16 refl $ forget ! 18 refl $ forget ! 20 refl $ forget ! 22 refl $ forget ! 24 refl $ forget ! 26 refl $
+        move ! (26 ∷ 27 ∷ []) $ free1 ! $ move ! (24 ∷ 25 ∷ []) $ free1 ! $ move ! (22 ∷ 23 ∷ []) $ free1 ! $ move ! (20 ∷ 21 ∷ []) $ free1 ! $ move ! (18 ∷ 19 ∷ []) $ free1 ! $ move ! (16 ∷ 17 ∷ []) $ free1 ! $ move ! (14 ∷ 15 ∷ []) $ free1 ! $
         move ! (12 ∷ 13 ∷ []) $ free1 ! $ move ! (10 ∷ 11 ∷ []) $ free1 ! $ move ! (8 ∷ 9 ∷ []) $ free1 ! $ move ! (6 ∷ 7 ∷ []) $ free1 ! $ free0 ! $
-        by ! (exits gv (zs .0) len (e₃ ∙ ap (λ (g : Figures). pasted us 0 (figuresNumbers g)) (figures-said ws ys v k r e e₂)))))))))))))))))))))))))))
+        by ! (exits gv gs (zs .0) len (e₃ ∙ ap (λ (g : Figures). pasted us 0 (figuresNumbers g)) (figures-said ws ys v k r e e₂))))))))))))))))))))))))))))
 
 module _ {M : Type 1} (𝓤 : URA M) (H : Heap 𝓤) (A : Atoms 𝓤) (W : Given 𝓤 H A) (mem : Memory → SProp 𝓤) (run : Routine → Fun 𝓤) where
   figures-walks : (𝓣 : Tables 𝓤 H) → Triple 𝓤 (𝓣 .C #book-of) (BookOf 𝓤 H A mem run) → Triple 𝓤 (𝓣 .C #table-figures) (TableFigures 𝓤 H A mem run) → Triple 𝓤 (𝓣 .C #put-figures) (PutFigures 𝓤 H A mem run)
       → Walks 𝓤 H A f.ended stayed (WpFn 𝓤 H (𝓣 .C) (𝓣 .Λ) code.function) (f.clauses 𝓤 H A mem run)
   figures-walks 𝓣 known-book known-figures known-put = walked 𝓤 H A f.ended stayed (f.clauses 𝓤 H A mem run) (WpFn 𝓤 H (𝓣 .C) (𝓣 .Λ) code.function)
-      (λ κs. (slice-vals, (slice-vals, (uint-vals w64, (slice-vals, tt))))) (λ κs. (shr-slice-tells (named 0) (κs .0) u64, (shr-slice-tells (named 1) (κs .1 .0) R, (uint-tells w64, (mut-slice-tells (named 2) (κs .1 .1 .0) u64, tt)))))
+      (λ κs. (slice-vals, (slice-vals, (uint-vals w64, (uint-vals w64, (slice-vals, tt)))))) (λ κs. (shr-slice-tells (named 0) (κs .0) u64, (shr-slice-tells (named 1) (κs .1 .0) R, (uint-tells w64, (uint-tells w64, (mut-slice-tells (named 2) (κs .1 .1 .0) u64, tt))))))
       (λ κs qs bounds a g are. via 𝓤 _ (fst∗ 𝓤 _ (emp 𝓤))
-      (walk 𝓤 H A W mem run (κs .0) (κs .1 .0) (κs .1 .1 .0) (qs .0) (qs .1 .0) (qs .1 .1 .0) (a .0 .ptr .0) (a .0 .ptr .1) (a .0 .name) (a .0 .now) (a .1 .0 .ptr .0) (a .1 .0 .ptr .1) (a .1 .0 .name) (a .1 .0 .now) (a .1 .1 .0)
-      (a .1 .1 .1 .0 .ptr .0) (a .1 .1 .1 .0 .ptr .1) (a .1 .1 .1 .0 .name) (a .1 .1 .1 .0 .now)
-      𝓣 known-book known-figures known-put (are .0 .0 .1) (are .1 .0 .0 .1) (are .1 .1 .0 .1) (are .1 .1 .1 .0 .0 .1)))
+      (walk 𝓤 H A W mem run (κs .0) (κs .1 .0) (κs .1 .1 .0) (qs .0) (qs .1 .0) (qs .1 .1 .0) (a .0 .ptr .0) (a .0 .ptr .1) (a .0 .name) (a .0 .now) (a .1 .0 .ptr .0) (a .1 .0 .ptr .1) (a .1 .0 .name) (a .1 .0 .now) (a .1 .1 .0) (a .1 .1 .1 .0)
+      (a .1 .1 .1 .1 .0 .ptr .0) (a .1 .1 .1 .1 .0 .ptr .1) (a .1 .1 .1 .1 .0 .name) (a .1 .1 .1 .1 .0 .now)
+      𝓣 known-book known-figures known-put (are .0 .0 .1) (are .1 .0 .0 .1) (are .1 .1 .0 .1) (are .1 .1 .1 .0 .1) (are .1 .1 .1 .1 .0 .0 .1)))
 
 figures-meets : {M : Type 1} (𝓤 : URA M) (H : Heap 𝓤) (A : Atoms 𝓤) → Given 𝓤 H A → (mem : Memory → SProp 𝓤) (run : Routine → Fun 𝓤) (𝓣 : Tables 𝓤 H)
     → Triple 𝓤 (𝓣 .C #book-of) (BookOf 𝓤 H A mem run) → Triple 𝓤 (𝓣 .C #table-figures) (TableFigures 𝓤 H A mem run) → Triple 𝓤 (𝓣 .C #put-figures) (PutFigures 𝓤 H A mem run)
     → Meets 𝓤 H A f.signature (WpFn 𝓤 H (𝓣 .C) (𝓣 .Λ) code.function) (f.spec 𝓤 H A mem run)
 figures-meets 𝓤 H A W mem run 𝓣 known-book known-figures known-put =
     walk-meets 𝓤 H A f.ended stayed W
-    (goes-none-slice 𝓤 H A W 3 (0 ∷ []) tt (plain (λ _. u64)) yes, (goes-none-slice 𝓤 H A W 3 (1 ∷ []) tt (plain (λ _. R)) yes, (goes-none 𝓤 H A W 3 (λ _. usize) yes (λ κs x f. refl), (goes-gave-slice 𝓤 H A W 3 2 tt (plain (λ _. u64)), tt)))) (f.clauses 𝓤 H A mem run)
+    (goes-none-slice 𝓤 H A W 3 (0 ∷ []) tt (plain (λ _. u64)) yes, (goes-none-slice 𝓤 H A W 3 (1 ∷ []) tt (plain (λ _. R)) yes, (goes-none 𝓤 H A W 3 (λ _. usize) yes (λ κs x f. refl), (goes-none 𝓤 H A W 3 (λ _. u64) yes (λ κs x f. refl), (goes-gave-slice 𝓤 H A W 3 2 tt (plain (λ _. u64)), tt))))) (f.clauses 𝓤 H A mem run)
     (WpFn 𝓤 H (𝓣 .C) (𝓣 .Λ) code.function) (WpFn-mono 𝓤 H (W .laws) 𝓣 code.function) (figures-walks 𝓤 H A W mem run 𝓣 known-book known-figures known-put)
 
 pub rhoikandra-figures-spec : {M : Type 1} → stated.statement M
