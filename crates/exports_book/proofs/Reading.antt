@@ -1,18 +1,18 @@
 -- A book that words say, and a book that 41 and 42 refuse with any table where they say none.
 use Prim.Native.Nat.{ℕ}
-use mathlib.Core.Path.{_≡_, ap, _∙_}
+use mathlib.Core.Path.{_≡_, sym, ap, _∙_}
 use mathlib.Core.List.{List}
 use mathlib.Core.Bool.{Bool, true, false, _&&_}
 use lib.ListN.{length}
 use lib.Dec.{eqb}
 use borrow.Author.Tests.{eqb-true}
-use Rattle.lists.proofs.Tests.{and-left, and-right}
+use Rattle.lists.proofs.Tests.{and-left, and-right, clash}
 use Rattle.book.specs.declared.Values.{Values}
 use Rattle.book.specs.declared.Book.{Book}
 use Rattle.book.specs.declared.Pool.{Pool}
 use Rattle.book.specs.Opening.{valuesFine, openingFine}
 use Rattle.book.specs.Soundness.{isSound}
-use Rattle.image.specs.Images.{isImage, bookIn}
+use Rattle.image.specs.Images.{isLent, isImage, valuesIn, bookIn}
 use Rattle.exports_book.specs.Reading.{timeWidth, callable, Reads, ReadsValues}
 
 -- values of more trades than a book has
@@ -45,5 +45,9 @@ pub callable-six : (ws time : List ℕ) → callable ws time ≡ true → length
 unfolding callable
 callable-six ws time e = eqb-true (length time) timeWidth (and-right (isImage ws) (eqb (length time) timeWidth) e)
 
-pub values-read : (ws : List ℕ) (b : Book) → Reads (isImage ws) ws b → ReadsValues ws (b .values)
-values-read ws b r = record { values = λ t. ap (λ (k : Book). k .values) (r .book t); none = r .none }
+-- values that are given where words lend some, else with more trades than a book has
+pub values-lent : (ws : List ℕ) (v : Values) (fine : Bool) → fine ≡ isLent ws → fine ≡ true → v ≡ valuesIn ws → ReadsValues ws v
+values-lent ws v fine q t e = record { values = λ x. e; none = λ n. clash (sym q ∙ t) n }
+
+pub values-none : (ws : List ℕ) (v : Values) (fine : Bool) → fine ≡ isLent ws → fine ≡ false → v .lent .tradeCount ≡ 65 → ReadsValues ws v
+values-none ws v fine q f e = record { values = λ t. clash t (sym q ∙ f); none = λ n. too-many v e }

@@ -9,7 +9,7 @@ use Rattle.book.specs.declared.Caller.{Caller}
 use Rattle.book.specs.declared.Values.{Values}
 use Rattle.book.specs.declared.Book.{Book}
 use Rattle.book.specs.Opening.{valuesFine}
-use Rattle.image.specs.Images.{isImage, bookIn}
+use Rattle.image.specs.Images.{isLent, isImage, valuesIn, bookIn}
 
 abbrev pub timeWidth : ℕ
 timeWidth = 6
@@ -27,7 +27,7 @@ pub record Reads (known : Bool) (ws : List ℕ) (b : Book) : Type 0 where
   pub book : known ≡ true → b ≡ bookIn ws
   pub none : known ≡ false → valuesFine (b .values) ≡ false
 
--- the values alone
+-- what words lend to opening
 pub record ReadsValues (ws : List ℕ) (v : Values) : Type 0 where
-  pub values : isImage ws ≡ true → v ≡ bookIn ws .values
-  pub none : isImage ws ≡ false → valuesFine v ≡ false
+  pub values : isLent ws ≡ true → v ≡ valuesIn ws
+  pub none : isLent ws ≡ false → valuesFine v ≡ false

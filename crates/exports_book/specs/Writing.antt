@@ -1,23 +1,58 @@
 -- What the calls on words write (01, "The book", "What goes out"): after a frame call and an opening, of a trade, and of a frame.
-use Prim.Native.Nat.{ℕ}
+use Prim.Native.Nat.{ℕ, _+_}
 use mathlib.Core.Path.{_≡_}
-use mathlib.Core.List.{List, [], _∷_}
-use mathlib.Core.Bool.{cond}
+use mathlib.Core.List.{List, [], _∷_, _++_}
+use mathlib.Core.Bool.{Bool, cond}
+use lib.ListN.{length, getD}
+use lib.Dec.{eqb}
 use Rattle.lists.specs.Lists.{pasted}
 use Rattle.framing.specs.declared.Frame.{Frame}
 use Rattle.framing.specs.declared.Frame.the-variants.{Body, Nothing}
-use Rattle.book.specs.Reasons.{numberOf, openingRefused, isAccepted, isSilent}
+use Rattle.acknowledgment.specs.Frames.{aaLength}
+use Rattle.book.specs.declared.Book.{Book}
+use Rattle.book.specs.declared.Answer.{Answer}
+use Rattle.book.specs.declared.Answer.the-variants.{Rejected}
+use Rattle.book.specs.declared.Reason.{Reason}
+use Rattle.book.specs.declared.Reason.the-variants.{Operator}
+use Rattle.book.specs.Reasons.{silent, numberOf, openingRefused, isAccepted, isSilent}
+use Rattle.book.specs.Checks.{roomLeast}
 use Rattle.exports_numbers.specs.Bit.{bit}
 use Rattle.exports_numbers.specs.Said.{saidOf}
-use Rattle.image.specs.Images.{tradesWords, restImage, imageOf}
+use Rattle.image.specs.Words as words
+use Rattle.image.specs.Images.{tradesWords, bookWords, restImage, imageOf}
+use Rattle.exports_book.specs.Reading.{timeWidth}
 use Rattle.calls.specs.declared.Stepped.{Stepped}
 use Rattle.calls.specs.declared.Opened.{Opened}
 use Rattle.calls.specs.declared.Figures.{Figures}
 
--- the end of a call: the answer in two numbers, and of the words of the book after it what can have moved: nothing after a silent refusal, and all but the trades' after any other
-pub record Finishes (ws said : List ℕ) (r : Stepped) (ws′ said′ : List ℕ) : Type 0 where
-  pub image : ws′ ≡ cond (isSilent (r .answer)) ws (cond (isAccepted (r .answer)) (pasted ws 0 (imageOf (r .book))) (pasted ws tradesWords (restImage (r .book))))
-  pub answer : said′ ≡ pasted said 0 (saidOf (r .answer))
+-- 90, which refuses a frame call whose time bytes are not six
+abbrev pub timeRefused : Reason
+timeRefused = Operator 90 silent
+
+-- the answer that is told: the call's own where the time bytes are six
+unfoldable pub toldAs : List ℕ → Answer → Answer
+toldAs time a = cond (eqb (length time) timeWidth) a (Rejected timeRefused)
+
+-- what is said: the answer in two numbers, and how many bytes went out
+abbrev pub saidWith : Answer → ℕ → List ℕ
+saidWith a bytes = saidOf a ++ (bytes ∷ [])
+
+-- the words after an answer: none move after a silent refusal, and all but the trades' after any other
+unfoldable pub wordsAfter : List ℕ → Answer → Book → List ℕ
+wordsAfter ws a b = cond (isSilent a) ws (cond (isAccepted a) (pasted ws 0 (imageOf b)) (pasted ws tradesWords (restImage b)))
+
+-- the last outbound number that words say
+unfoldable pub outboundIn : List ℕ → ℕ
+outboundIn ws = cond (eqb (length ws) bookWords) (getD ws (tradesWords + words.outbound) 0) 0
+
+-- the bytes that went out between two outbound numbers
+unfoldable pub bytesOut : Bool → ℕ → ℕ → ℕ
+bytesOut quiet before after = cond quiet 0 (cond (eqb (before + 1) after) aaLength roomLeast)
+
+-- the end of a call
+pub record Finishes (ws said time : List ℕ) (r : Stepped) (ws′ said′ : List ℕ) : Type 0 where
+  pub image : ws′ ≡ wordsAfter ws (toldAs time (r .answer)) (r .book)
+  pub answer : said′ ≡ pasted said 0 (saidWith (toldAs time (r .answer)) (bytesOut (isSilent (toldAs time (r .answer))) (outboundIn ws) (r .book .values .connection .outbound .0)))
 
 -- the end of an opening: 0 and the words of the opened book where it passes, else the number of its refusal
 pub record OpensTo (ws : List ℕ) (o : Opened) (ws′ : List ℕ) (r : ℕ) : Type 0 where

@@ -1,6 +1,8 @@
 // What the calls for C and Rust do on either side of a call on the table: the book that words say, the answer and the book after a call written, a trade's figures, a frame and a tally in numbers.
+use book::Answer;
 use book::Book;
 use book::Caller;
+use book::Reason;
 use book::Values;
 use calls::Figures;
 use calls::Opened;
@@ -13,11 +15,14 @@ ghost use Rattle.lists.specs.Lists.{pasted};
 ghost use Rattle.book.specs.Opening.{valuesFine};
 ghost use Rattle.image.specs.Images.{isImage};
 ghost use Rattle.exports_book.specs.Reading.{timeWidth, callerOf, callable, Reads, ReadsValues};
-ghost use Rattle.exports_book.specs.Writing.{Finishes, OpensTo, figuresNumbers, frameNumbers};
+ghost use Rattle.exports_book.specs.Writing.{toldAs, outboundIn, bytesOut, Finishes, OpensTo, figuresNumbers, frameNumbers};
 ghost use Rattle.exports_book.specs.Tally.{rowsAfter};
 
 // The number of an opening that is refused.
 const REFUSED: u64 = 41;
+
+// The number of a frame call whose time bytes are not six: it is the caller's fault and not the book's, and no number of the papers.
+const TIME_REFUSED: u64 = 90;
 
 // A book where it is known; else it gets more trades than a book has: an opening by its values and every call on it are refused, whatever the table is.
 fn refused_unless(known: bool, book: Book) -> Book
@@ -65,14 +70,59 @@ pub fn caller_of(time: &[u8], seed: u64) -> Caller
     }
 }
 
-// Writes the answer in two numbers, and of the book after the call what can have moved: nothing after a silent refusal, and all but the trades after any other.
-pub fn finish(image: &mut [u64], said: &mut [u64], stepped: Stepped)
-    ensures { λ _. ⌜ Finishes (now (image .entry)) (now (said .entry)) stepped (now (image .exit)) (now (said .exit)) ⌝ }
+// The answer that is told: the call's own where the time bytes are six.
+fn told_answer(time: &[u8], answer: Answer) -> Answer
+    ensures { λ r. ⌜ r ≡ toldAs (now (time .entry)) answer ⌝ }
 {
-    let answer = stepped.answer;
+    if time.len() != acknowledgment::TIME_WIDTH {
+        return Answer::Rejected(Reason::Operator(TIME_REFUSED, book::SILENT));
+    }
+    answer
+}
+
+// The last outbound number that words say, 0 where they are too few or too many.
+fn outbound_in(image: &[u64]) -> u64
+    ensures { λ r. ⌜ r ≡ outboundIn (now (image .entry)) ⌝ }
+{
+    if image.len() != image::BOOK_WORDS {
+        return 0;
+    }
+    image[image::REST + image::OUTBOUND]
+}
+
+// How many bytes went out between two outbound numbers: an AA alone where they are neighbors, else a TX before it.
+fn bytes_out(silent: bool, before: u64, after: u64) -> u64
+    ensures { λ r. ⌜ r ≡ bytesOut silent before after ⌝ }
+{
+    if silent {
+        return 0;
+    }
+    if after == 0 {
+        return book::ROOM_LEAST as u64;
+    }
+    if before == after - 1 {
+        return acknowledgment::AA_LENGTH as u64;
+    }
+    book::ROOM_LEAST as u64
+}
+
+// Writes the answer in two numbers and how many bytes went out, and of the book after the call what can have moved: nothing after a silent refusal, and all but the trades after any other.
+pub fn finish(image: &mut [u64], said: &mut [u64], time: &[u8], stepped: Stepped)
+    ensures { λ _. ⌜ Finishes (now (image .entry)) (now (said .entry)) (now (time .entry)) stepped (now (image .exit)) (now (said .exit)) ⌝ }
+{
+    let own = stepped.answer;
+    let answer = told_answer(time, own);
+    let silent = answers::is_silent(answer);
+    let before = outbound_in(image);
+    let bytes = bytes_out(
+        silent,
+        before,
+        stepped.book.values.connection.outbound.0 as u64,
+    );
     let two = exports_numbers::said_of(answer);
-    exports_numbers::put_numbers(&mut *said, &two);
-    if answers::is_silent(answer) {
+    let three = [two[0], two[1], bytes];
+    exports_numbers::put_numbers(&mut *said, &three);
+    if silent {
         return;
     }
     let after = stepped.book;
@@ -83,12 +133,17 @@ pub fn finish(image: &mut [u64], said: &mut [u64], stepped: Stepped)
     image::write_rest(&mut *image, after);
 }
 
-// The values that words say; where they say none, values that are refused.
+// The values that words lend to opening; where they lend none, values that are refused.
 pub fn values_of(image: &[u64]) -> Values
     ensures { λ r. ⌜ ReadsValues (now (image .entry)) r ⌝ }
 {
-    let book = book_of(image);
-    book.values
+    let read = image_reading::read_lent(image);
+    let mut given = read.values;
+    if !read.fine {
+        let count = book::TRADES_MAX + 1;
+        given.lent.tradeCount = count;
+    }
+    given
 }
 
 // Writes the opened book, and gives the number of the opening.
