@@ -61,6 +61,7 @@ pub record Source (lots : List Brought) (body : List ℕ) (pool : Fields) : Type
   pub taken : takesOff body lot ≡ true
   pub itsPool : List·Memᴰ pool (lotFields (lot .lot))
 
+-- demand 3, sentence by sentence
 pub record Demand3 (v : Values) (s : State) (fs : List Fed) : Type 0 where
   -- each trade's open par is its opening par less the weights of the lots brought to it and not taken off
   pub historySum : (t : ℕ) → t < length (tradesOf v) → tradeAt (tradesOf (s .book .values)) t .openPar + standingWeight t (lotsBrought v fs) ≡ tradeAt (tradesOf v) t .par

@@ -13,7 +13,8 @@ use Rattle.book.specs.declared.Pool.{Pool}
 use Rattle.book.specs.Opening.{valuesFine, openingFine}
 use Rattle.book.specs.Soundness.{isSound}
 use Rattle.image.specs.Images.{isLent, isImage, valuesIn, bookIn}
-use Rattle.exports_book.specs.Reading.{timeWidth, callable, Reads, ReadsValues}
+use Rattle.calls_words.specs.Calls.{timeWidth, callable}
+use Rattle.exports_book.specs.Reading.{Reads, ReadsValues}
 
 -- values of more trades than a book has
 pub too-many : (v : Values) → v .lent .tradeCount ≡ 65 → valuesFine v ≡ false

@@ -17,8 +17,9 @@ use Rattle.image.specs.Images.{tradesWords, bookWords, restImage, imageOf}
 use Rattle.calls.specs.declared.Stepped.{Stepped}
 use Rattle.calls.specs.declared.Opened.{Opened}
 use Rattle.calls.specs.declared.Figures.{Figures}
-use Rattle.exports_book.specs.Writing.{timeRefused, toldAs, saidWith, wordsAfter, outboundIn, bytesOut, Finishes, OpensTo, figuresNumbers, frameNumbers}
-use Rattle.exports_book.specs.Reading.{timeWidth}
+use Rattle.exports_book.specs.Writing.{toldAs, outboundIn, bytesOut, Finishes, OpensTo, frameNumbers}
+use Rattle.calls_words.specs.Calls.{timeWidth, timeRefused, saidWith, wordsAfter}
+use Rattle.calls_words.specs.Figures.{figuresNumbers}
 
 -- ---- the end of a call
 pub bytes-silent : (quiet : Bool) (before after : ℕ) → quiet ≡ true → 0 ≡ bytesOut quiet before after

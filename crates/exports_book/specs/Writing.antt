@@ -1,7 +1,7 @@
 -- What the calls on words write (01, "The book", "What goes out"): after a frame call and an opening, of a trade, and of a frame.
 use Prim.Native.Nat.{ℕ, _+_}
 use mathlib.Core.Path.{_≡_}
-use mathlib.Core.List.{List, [], _∷_, _++_}
+use mathlib.Core.List.{List, [], _∷_}
 use mathlib.Core.Bool.{Bool, cond}
 use lib.ListN.{length, getD}
 use lib.Dec.{eqb}
@@ -9,37 +9,19 @@ use Rattle.lists.specs.Lists.{pasted}
 use Rattle.framing.specs.declared.Frame.{Frame}
 use Rattle.framing.specs.declared.Frame.the-variants.{Body, Nothing}
 use Rattle.acknowledgment.specs.Frames.{aaLength}
-use Rattle.book.specs.declared.Book.{Book}
 use Rattle.book.specs.declared.Answer.{Answer}
 use Rattle.book.specs.declared.Answer.the-variants.{Rejected}
-use Rattle.book.specs.declared.Reason.{Reason}
-use Rattle.book.specs.declared.Reason.the-variants.{Operator}
-use Rattle.book.specs.Reasons.{silent, numberOf, openingRefused, isAccepted, isSilent}
+use Rattle.book.specs.Reasons.{numberOf, openingRefused, isSilent}
 use Rattle.book.specs.Checks.{roomLeast}
-use Rattle.exports_numbers.specs.Bit.{bit}
-use Rattle.exports_numbers.specs.Said.{saidOf}
 use Rattle.image.specs.Words as words
-use Rattle.image.specs.Images.{tradesWords, bookWords, restImage, imageOf}
-use Rattle.exports_book.specs.Reading.{timeWidth}
+use Rattle.image.specs.Images.{tradesWords, bookWords, imageOf}
+use Rattle.calls_words.specs.Calls.{isTime, timeRefused, saidWith, wordsAfter}
 use Rattle.calls.specs.declared.Stepped.{Stepped}
 use Rattle.calls.specs.declared.Opened.{Opened}
-use Rattle.calls.specs.declared.Figures.{Figures}
-
--- 90, which refuses a frame call whose time bytes are not six
-abbrev pub timeRefused : Reason
-timeRefused = Operator 90 silent
 
 -- the answer that is told: the call's own where the time bytes are six
 unfoldable pub toldAs : List ℕ → Answer → Answer
-toldAs time a = cond (eqb (length time) timeWidth) a (Rejected timeRefused)
-
--- what is said: the answer in two numbers, and how many bytes went out
-abbrev pub saidWith : Answer → ℕ → List ℕ
-saidWith a bytes = saidOf a ++ (bytes ∷ [])
-
--- the words after an answer: none move after a silent refusal, and all but the trades' after any other
-unfoldable pub wordsAfter : List ℕ → Answer → Book → List ℕ
-wordsAfter ws a b = cond (isSilent a) ws (cond (isAccepted a) (pasted ws 0 (imageOf b)) (pasted ws tradesWords (restImage b)))
+toldAs time a = cond (isTime time) a (Rejected timeRefused)
 
 -- the last outbound number that words say
 unfoldable pub outboundIn : List ℕ → ℕ
@@ -58,10 +40,6 @@ pub record Finishes (ws said time : List ℕ) (r : Stepped) (ws′ said′ : Lis
 pub record OpensTo (ws : List ℕ) (o : Opened) (ws′ : List ℕ) (r : ℕ) : Type 0 where
   pub code : r ≡ cond (o .fine) 0 (numberOf openingRefused)
   pub image : ws′ ≡ cond (o .fine) (pasted ws 0 (imageOf (o .book))) ws
-
--- whether the trade is known, its open par and its standing millions
-unfoldable pub figuresNumbers : Figures → List ℕ
-figuresNumbers f = bit (f .known) ∷ f .openPar ∷ f .millions ∷ []
 
 -- of a frame: whether there is one, where its body starts and ends, and the place after it
 abbrev pub frameNumbers : Frame → List ℕ

@@ -14,8 +14,10 @@ ghost use lib.ListN.{length};
 ghost use Rattle.lists.specs.Lists.{pasted};
 ghost use Rattle.book.specs.Opening.{valuesFine};
 ghost use Rattle.image.specs.Images.{isImage};
-ghost use Rattle.exports_book.specs.Reading.{timeWidth, callerOf, callable, Reads, ReadsValues};
-ghost use Rattle.exports_book.specs.Writing.{toldAs, outboundIn, bytesOut, Finishes, OpensTo, figuresNumbers, frameNumbers};
+ghost use Rattle.calls_words.specs.Calls.{timeWidth, callerOf, callable};
+ghost use Rattle.calls_words.specs.Figures.{figuresNumbers};
+ghost use Rattle.exports_book.specs.Reading.{Reads, ReadsValues};
+ghost use Rattle.exports_book.specs.Writing.{toldAs, outboundIn, bytesOut, Finishes, OpensTo, frameNumbers};
 ghost use Rattle.exports_book.specs.Tally.{rowsAfter};
 
 // The number of an opening that is refused.

@@ -57,7 +57,7 @@ numbers s (body ∷ bodies) = numberOn s body ∷ numbers (after s (put body)) b
 abbrev pub passes : ℕ
 passes = 30
 
--- the terminator that positions two to four make
+-- what four bytes say, with 0 at position one
 abbrev pub termOf : ℕ → Terminator
 termOf n = terminatorOf (digitsOf 4 n)
 

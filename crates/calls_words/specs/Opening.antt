@@ -1,4 +1,4 @@
--- Opening on words (01, "The book" and number 41): the values that the words say are opened; of their open pars, line and live pools only this is asked, that they are words of a book.
+-- Opening on words (01, "The book" and number 41): the values that the words lend are opened; of what opening sets itself, and of words past the counts, nothing is asked.
 use Prim.Native.Nat.{ℕ}
 use mathlib.Core.Path.{_≡_}
 use mathlib.Core.List.{List}
@@ -7,16 +7,16 @@ use Rattle.lists.specs.Lists.{pasted}
 use Rattle.book.specs.declared.Pool.{Pool}
 use Rattle.book.specs.Reasons.{numberOf, openingRefused}
 use Rattle.book.specs.Opening.{openingFine, opened, cleared}
-use Rattle.image.specs.Images.{isImage, bookIn, imageOf}
+use Rattle.image.specs.Images.{isLent, valuesIn, imageOf}
 
--- words that are a book's, and values and a table that 41 lets pass
+-- words that lend values, and values and a table that 41 lets pass
 unfoldable pub openable : List ℕ → List Pool → Bool
-openable ws pools = isImage ws && openingFine (bookIn ws .values) pools
+openable ws pools = isLent ws && openingFine (valuesIn ws) pools
 
 -- the words of the opened book and a table of zeros
 pub record Passed (ws : List ℕ) (pools : List Pool) (ws′ : List ℕ) (pools′ : List Pool) (r : ℕ) : Type 0 where
   pub code : r ≡ 0
-  pub image : ws′ ≡ pasted ws 0 (imageOf (opened (bookIn ws .values)))
+  pub image : ws′ ≡ pasted ws 0 (imageOf (opened (valuesIn ws)))
   pub zeros : pools′ ≡ cleared pools
 
 -- all stays as it is
