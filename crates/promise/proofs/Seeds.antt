@@ -2,46 +2,54 @@
 use Prim.Native.Nat.{ℕ}
 use mathlib.Core.Path.{_≡_, refl, ap, _∙_}
 use mathlib.Core.List.{List, [], _∷_}
+use mathlib.Core.Bool.{Bool}
 use Rattle.book.specs.declared.Book.{Book}
 use Rattle.book.specs.declared.Pool.{Pool}
 use Rattle.book.specs.declared.Verdict.{Verdict}
 use Rattle.book.specs.declared.Verdict.the-variants.{Passes, Fails}
-use Rattle.book.specs.Checks.{Call, call, askedBy, Test, ofBody, ofValues, ofLine, ofAsked, ofLive, ofTable, fails, Check, soundnessChecks, senderChecks, termsChecks, movesChecks, checks, firstFailing, answerTo, answerOf}
+use Rattle.book.specs.Checks.{Asked, Call, call, askedBy, Test, ofBody, ofValues, ofLine, ofAsked, ofLive, ofTable, fails, Check, soundnessChecks, senderChecks, termsChecks, movesChecks, checks, firstFailing, answerTo, answerOf}
 use Rattle.book.specs.Step.{tradesMoved, liveMoved, tableMoved, bookAfter, tableAfter, outputFor, outputAfter}
+
+-- the tests of a list that look at what the caller gives
+abbrev withAsked : Test → List (Asked → Bool) → List (Asked → Bool)
+withAsked (ofBody p) ps = ps
+withAsked (ofValues p) ps = ps
+withAsked (ofLine p) ps = ps
+withAsked (ofAsked p) ps = p ∷ ps
+withAsked (ofLive p) ps = ps
+withAsked (ofTable p) ps = ps
+
+abbrev askedTests : List Check → List (Asked → Bool)
+askedTests [] = []
+askedTests (k ∷ ks) = withAsked (k .test) (askedTests ks)
 
 module _ (b : Book) (t : List Pool) (body time : List ℕ) (room s z : ℕ) where
   -- the call by a seed
   abbrev pub by : ℕ → Call
   by seed = call b t body (askedBy (record { time = time; seed = seed }) room)
 
-  -- tests that say the same by both seeds, where those of what the caller gives do
-  abbrev Blind : Test → Type 0
-  Blind (ofBody p) = Unit {0}
-  Blind (ofValues p) = Unit {0}
-  Blind (ofLine p) = Unit {0}
-  Blind (ofAsked p) = p (by s .asked) ≡ p (by z .asked)
-  Blind (ofLive p) = Unit {0}
-  Blind (ofTable p) = Unit {0}
+  -- they say the same by both seeds
+  abbrev Agree : List (Asked → Bool) → Type 0
+  Agree [] = Unit {0}
+  Agree (p ∷ ps) = (p (by s .asked) ≡ p (by z .asked)) × Agree ps
 
-  abbrev AllBlind : List Check → Type 0
-  AllBlind [] = Unit {0}
-  AllBlind (k ∷ ks) = Blind (k .test) × AllBlind ks
+  test-same : (x : Test) (ps : List (Asked → Bool)) → Agree (withAsked x ps) → (fails x (by s) ≡ fails x (by z)) × Agree ps
+  test-same (ofBody p) ps a = (refl, a)
+  test-same (ofValues p) ps a = (refl, a)
+  test-same (ofLine p) ps a = (refl, a)
+  test-same (ofAsked p) ps a = (a .0, a .1)
+  test-same (ofLive p) ps a = (refl, a)
+  test-same (ofTable p) ps a = (refl, a)
 
-  test-same : (x : Test) → Blind x → fails x (by s) ≡ fails x (by z)
-  test-same (ofBody p) h = refl
-  test-same (ofValues p) h = refl
-  test-same (ofLine p) h = refl
-  test-same (ofAsked p) h = h
-  test-same (ofLive p) h = refl
-  test-same (ofTable p) h = refl
+  first-same : (ks : List Check) → Agree (askedTests ks) → firstFailing ks (by s) ≡ firstFailing ks (by z)
+  first-same [] a = refl
+  first-same (k ∷ ks) a =
+      let q = test-same (k .test) (askedTests ks) a in
+      rw (q .0, first-same ks (q .1))
 
-  first-same : (ks : List Check) → AllBlind ks → firstFailing ks (by s) ≡ firstFailing ks (by z)
-  first-same [] h = refl
-  first-same (k ∷ ks) h = rw (test-same (k .test) (h .0), first-same ks (h .1))
-
-  all-blind : AllBlind checks
+  all-agree : Agree (askedTests checks)
   unfolding soundnessChecks senderChecks termsChecks movesChecks
-  all-blind = (tt, tt, refl, tt, tt, tt, tt, tt, tt, tt, tt, tt, tt, tt, tt, tt, tt, tt, tt, tt, tt, tt, tt, tt, tt, tt, tt, tt, tt, tt)
+  all-agree = (refl, tt)
 
   to-same : (v : Verdict) → answerTo (by s) v ≡ answerTo (by z) v
   to-same Passes = refl
@@ -49,7 +57,7 @@ module _ (b : Book) (t : List Pool) (body time : List ℕ) (room s z : ℕ) wher
 
   pub answer-by-any : answerOf (by s) ≡ answerOf (by z)
   unfolding answerOf
-  answer-by-any = to-same (firstFailing checks (by s)) ∙ ap (answerTo (by z)) (first-same checks all-blind)
+  answer-by-any = to-same (firstFailing checks (by s)) ∙ ap (answerTo (by z)) (first-same checks all-agree)
 
   pub book-by-any : bookAfter (by s) ≡ bookAfter (by z)
   unfolding bookAfter tradesMoved liveMoved
