@@ -59,9 +59,10 @@ uint64_t rhoikandra_open(uint64_t *book, size_t book_len, rhoikandra_pool *pools
 void rhoikandra_step(uint64_t *book, size_t book_len, rhoikandra_pool *pools, size_t pools_len, const uint8_t *body, size_t body_len,
                      const uint8_t *time, size_t time_len, uint64_t seed, uint8_t *out, size_t out_len, uint64_t *said, size_t said_len);
 
-/* The figures of a trade, counted from 0: out gets 1, its open par in cents and its standing good millions, or three zeros. */
+/* The figures of a trade, counted from 0: out gets 1, its open par in cents and its standing good millions, or three zeros.
+   seed as above. */
 void rhoikandra_figures(const uint64_t *book, size_t book_len, const rhoikandra_pool *pools, size_t pools_len, size_t trade,
-                        uint64_t *out, size_t out_len);
+                        uint64_t seed, uint64_t *out, size_t out_len);
 
 /* A tally: a row for each of ON, CC, DK and CX, with the answers accepted, rejected and DKed. */
 #define RHOIKANDRA_TALLY_ROWS 4

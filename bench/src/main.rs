@@ -18,11 +18,15 @@ const FACE_CENTS: u64 = 100;
 
 /// A desk with so many live pools, brought by messages of 250: each is one odd lot.
 fn desk(live: u64) -> Desk {
+    desk_of((0..live).step_by(POOLS as usize).map(|first| odd_lot(first, POOLS, b'0')))
+}
+
+/// A desk that accepted these messages.
+fn desk_of(messages: impl Iterator<Item = Vec<(DraftPool, [u8; 4])>>) -> Desk {
     let mut values = reference::day::opening_values();
     values.trades[0].par_cents = CENTS_MAX;
     let mut desk = Desk::open(&values, TABLE_MAX);
-    for first in (0..live).step_by(POOLS as usize) {
-        let pools = odd_lot(first, POOLS, b'0');
+    for pools in messages {
         assert_eq!(desk.send(&desk.on(0, 0, &lent(&pools))), Answer::Accepted);
     }
     desk
@@ -30,14 +34,58 @@ fn desk(live: u64) -> Desk {
 
 /// The pools of one odd lot.
 fn odd_lot(first: u64, count: u64, position_one: u8) -> Vec<(DraftPool, [u8; 4])> {
-    let terminator = |i| if i + 1 == count { *b"0999" } else { *b"0000" };
-    (0..count)
-        .map(|i| {
-            let mut code = terminator(i);
-            code[0] = position_one;
-            (pool(first + i, FACE_CENTS), code)
-        })
-        .collect()
+    lot_of((0..count).map(|i| pool(first + i, FACE_CENTS)).collect(), position_one)
+}
+
+fn lot_of(pools: Vec<DraftPool>, position_one: u8) -> Vec<(DraftPool, [u8; 4])> {
+    let last = pools.len() - 1;
+    let terminator = |i| {
+        if i == last {
+            [position_one, b'9', b'9', b'9']
+        } else {
+            [position_one, b'0', b'0', b'0']
+        }
+    };
+    pools.into_iter().enumerate().map(|(i, pool)| (pool, terminator(i))).collect()
+}
+
+/// The numbers that the engine spreads rows by under a seed: the arithmetic of `rows_keys`.
+fn spread(seed: u64) -> [u64; 6] {
+    let mixed = |n: u64| {
+        let x = seed.wrapping_add(n.wrapping_mul(0x9e37_79b9_7f4a_7c15));
+        let a = (x ^ (x >> 30)).wrapping_mul(0xbf58_476d_1ce4_e5b9);
+        let b = (a ^ (a >> 27)).wrapping_mul(0x94d0_49bb_1331_11eb);
+        b ^ (b >> 31)
+    };
+    let [a, b, c] = [1, 2, 3].map(mixed);
+    let low = |x| x % (1 << 29);
+    [low(a), a >> 35, low(b), b >> 35, low(c), c >> 35]
+}
+
+/// The bucket of a pool's matched fields by such numbers.
+fn bucket(spread: &[u64; 6], pool: &DraftPool) -> u64 {
+    let fields = &pool.matched;
+    let mut row = [0; 24];
+    row[..6].copy_from_slice(&fields.lot_id);
+    row[6..13].copy_from_slice(&fields.pool_number);
+    row[13..22].copy_from_slice(&fields.original_face);
+    let halves = row.chunks_exact(4).map(|four| u64::from(u32::from_le_bytes(four.try_into().unwrap())));
+    spread.iter().zip(halves).map(|(by, half)| by * half).sum::<u64>() % 4_294_967_311 % 4_096
+}
+
+/// A desk with 3,750 live pools whose fields share one bucket under a seed, in messages of 250.
+fn desk_chosen_against(seed: u64) -> Desk {
+    let spread = spread(seed);
+    let sharing = |lot: u8| {
+        let pools = (0..10_000_000).map(move |number| {
+            let mut pool = pool(number, FACE_CENTS);
+            pool.matched.lot_id[1] = lot;
+            pool
+        });
+        let pools: Vec<DraftPool> = pools.filter(|pool| bucket(&spread, pool) == 0).collect();
+        pools.chunks_exact(POOLS as usize).map(|pools| lot_of(pools.to_vec(), b'0')).collect::<Vec<_>>()
+    };
+    desk_of([b'A', b'B'].into_iter().flat_map(sharing).take(15))
 }
 
 fn lent(pools: &[(DraftPool, [u8; 4])]) -> Vec<(DraftPool, &[u8; 4])> {
@@ -78,21 +126,32 @@ impl Least {
 
 /// Puts each body to the same book, round after round, by both in turn; the book is set back in its place between calls,
 /// untimed. Of each body the quickest call counts: what else the machine does only adds to the others.
-fn time(name: &str, desk: &Desk, bodies: &[Vec<u8>], rounds: usize) {
+fn time(name: &str, desk: &Desk, bodies: &[Vec<u8>], rounds: usize) -> f64 {
+    time_by(name, desk, bodies, rounds, rhoikandra::Book::step)
+}
+
+/// The same for one way to call the engine; gives the engine's microseconds.
+fn time_by(
+    name: &str,
+    desk: &Desk,
+    bodies: &[Vec<u8>],
+    rounds: usize,
+    call: impl Fn(&mut rhoikandra::Book, &[u8], &[u8; 6], &mut [u8]) -> rhoikandra::Answer,
+) -> f64 {
     let before = held(&desk.book, &desk.table);
     let mut client = before.clone();
     let (mut book, mut table) = (desk.book.clone(), desk.table.clone());
     let (mut engine, mut reference) = (Least::of(bodies.len()), Least::of(bodies.len()));
     let mut answers = Vec::new();
-    for call in 0..rounds * bodies.len() {
-        let at = call % bodies.len();
+    for turn in 0..rounds * bodies.len() {
+        let at = turn % bodies.len();
         let body = &bodies[at];
         let mut output = [0; OUTPUT];
 
         client.words.copy_from_slice(&before.words);
         client.pools.copy_from_slice(&before.pools);
         let began = Instant::now();
-        let answer = black_box(client.step(black_box(body), b"000000", &mut output));
+        let answer = black_box(call(&mut client, black_box(body), b"000000", &mut output));
         engine.take(at, began.elapsed());
 
         book.clone_from(&desk.book);
@@ -115,6 +174,7 @@ fn time(name: &str, desk: &Desk, bodies: &[Vec<u8>], rounds: usize) {
         1e6 / engine.micros(),
         answers.iter().map(|answer| answer.to_string()).collect::<Vec<_>>().join(", "),
     );
+    engine.micros()
 }
 
 fn main() {
@@ -150,6 +210,14 @@ fn main() {
         let on = desk.on(0, 0, &lent(&odd_lot(9_000, 1, b'0'))).body();
         time(&format!("ON of 1 pool, {live} live pools"), &desk, &[on], 3000);
     }
+
+    let usual = desk(3750);
+    let chosen = desk_chosen_against(0);
+    let on = [usual.on(0, 0, &lent(&odd_lot(9_000, 1, b'0'))).body()];
+    let usual = time("ON of 1 pool, 3,750 live pools", &usual, &on, 1000);
+    let unknown = time("the same, fields chosen against seed 0", &chosen, &on, 1000);
+    time_by("the same by seed 0", &chosen, &on, 100, |book, body, time, output| book.step_by(0, body, time, output));
+    assert!(unknown <= 2.0 * usual, "fields chosen against another seed made a call slow");
 
     let full = desk(4000);
     let target = 8;

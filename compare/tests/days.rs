@@ -63,7 +63,7 @@ fn both(
     let mut out = random.bytes(length);
     let mut output = out.clone();
     let words = client.words.clone();
-    let said = client.step(body, time, &mut out);
+    let said = client.step_by(random.number(), body, time, &mut out);
     let answer = told(said);
     let before = tally.rows;
     tally.count(body, said);
@@ -258,6 +258,26 @@ fn damaged_books() {
     }
     println!("met on scribbled books: {met:?}");
     assert!(met.times(UNSOUND_BOOK) > 1_000 && met.times(0) > 50 && met.codes.len() > 5, "{met:?}");
+}
+
+/// Whatever the seed, a call answers and leaves the same.
+#[test]
+fn any_seed() {
+    let mut cases = Cases::of("any seed");
+    let (book, table) = sound_book();
+    let before = held(&book, &table);
+    for body in on_the_sound_book() {
+        let (mut after, mut wrote) = (before.clone(), [0; 217]);
+        let answer = after.step_by(0, &body, b"093000", &mut wrote);
+        for _ in 0..1_000 {
+            let seed = cases.random.number();
+            let (mut client, mut out) = (before.clone(), [0; 217]);
+            assert_eq!(client.step_by(seed, &body, b"093000", &mut out), answer, "seed {seed}");
+            assert!(client == after && out == wrote, "seed {seed}");
+            assert_eq!(client.figures_by(seed, 0), after.figures_by(0, 0), "seed {seed}");
+            cases.count();
+        }
+    }
 }
 
 /// One number or one byte that is not 0, in any record after the live ones.

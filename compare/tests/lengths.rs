@@ -99,6 +99,7 @@ fn figures_without_room() {
                 book.pools.as_ptr(),
                 book.pools.len(),
                 0,
+                0,
                 out.as_mut_ptr(),
                 out.len(),
             )

@@ -81,7 +81,7 @@ static void send(const uint8_t *body, size_t length) {
     uint64_t said[2], figures[3];
     rhoikandra_step(book, RHOIKANDRA_BOOK_WORDS, pools, RECORDS, body, length, (const uint8_t *)"093000", 6, seed(), out, sizeof out, said, 2);
     rhoikandra_tally(tally, RHOIKANDRA_TALLY_ROWS, body, length, said, 2);
-    rhoikandra_figures(book, RHOIKANDRA_BOOK_WORDS, pools, RECORDS, 0, figures, 3);
+    rhoikandra_figures(book, RHOIKANDRA_BOOK_WORDS, pools, RECORDS, 0, seed(), figures, 3);
     printf("%.2s %s %llu; open par %llu, standing millions %llu\n", (const char *)body,
            said[0] == 0   ? "accepted under"
            : said[0] == 1 ? "rejected with"

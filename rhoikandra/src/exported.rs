@@ -32,6 +32,7 @@ extern "C" {
         pools: *const Pool,
         pools_len: usize,
         trade: usize,
+        seed: u64,
         out: *mut u64,
         out_len: usize,
     );

@@ -180,6 +180,11 @@ impl Book {
 
     /// Puts a frame's body to the book. TX and AA stand at the output's head; the rest of it stays.
     pub fn step(&mut self, body: &[u8], time: &[u8; 6], output: &mut [u8]) -> Answer {
+        self.step_by(seed(), body, time, output)
+    }
+
+    /// The same by a seed of one's own, for a run that is to be repeated. No answer depends on it.
+    pub fn step_by(&mut self, seed: u64, body: &[u8], time: &[u8; 6], output: &mut [u8]) -> Answer {
         let Book { words, pools } = self;
         let mut said = [0; 2];
         unsafe {
@@ -192,7 +197,7 @@ impl Book {
                 body.len(),
                 time.as_ptr(),
                 time.len(),
-                seed(),
+                seed,
                 output.as_mut_ptr(),
                 output.len(),
                 said.as_mut_ptr(),
@@ -204,6 +209,11 @@ impl Book {
 
     /// The figures of a trade, counted from 0 in opening order; none where there is no such trade or the book is damaged.
     pub fn figures(&self, trade: usize) -> Option<Figures> {
+        self.figures_by(seed(), trade)
+    }
+
+    /// The same by a seed of one's own.
+    pub fn figures_by(&self, seed: u64, trade: usize) -> Option<Figures> {
         let Book { words, pools } = self;
         let mut told = [0; 3];
         unsafe {
@@ -213,6 +223,7 @@ impl Book {
                 pools.as_ptr(),
                 pools.len(),
                 trade,
+                seed,
                 told.as_mut_ptr(),
                 told.len(),
             )

@@ -2,3 +2,4 @@ pub mod Promised
 pub mod Refused
 pub mod Figures
 pub mod Counting
+pub mod Seeds
