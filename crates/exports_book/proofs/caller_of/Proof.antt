@@ -2,7 +2,7 @@
 use Prim.Native.Nat.{ℕ}
 use mathlib.Core.Path.{sym, ap}
 use mathlib.Core.List.{List}
-use Rattle.exports_book.specs.Reading.{callerOf}
+use Rattle.calls_words.specs.Calls.{callerOf}
 use Rattle.lists.proofs.Tables.{table-of}
 use borrow.Author.Needs.{needs}
 use Rattle.exports_book.proofs.caller_of.Statement.{statement}

@@ -1,25 +1,23 @@
+-- The values that were read, or one trade more than a book has.
+use mathlib.Core.Path.{refl}
+use borrow.Author.Tests.{not-true, not-false}
+use Rattle.image_reading.proofs.Whole.{lent-fine, lent-whole}
+use Rattle.exports_book.proofs.Reading.{values-lent, values-none}
 use borrow.Author.Needs.{needs}
 use Rattle.exports_book.proofs.values_of.Statement.{statement}
 use Rattle.exports_book.proofs.values_of.Tie as tie
-use Rattle.exports_book.proofs.values_of.Reads as reads
-use Rattle.exports_book.proofs.values_of.Lts as lts
-use Rattle.image_reading.proofs.read_lent.Reads as read-lent-reads
 
--- src/lib.rt:140:9
 read-lent-requires : tie.Need-read-lent-requires
 read-lent-requires c κs = search needs
 
--- src/lib.rt:143:21
 add-count : tie.Need-add-count
 add-count c = search needs
 
--- src/lib.rt:137:1
 returns : tie.Need-returns
-returns c = search needs
+returns c = let w = c .before .before .before .before .before .before .args .image .now in let e = c .before .before .before .before .read-lent .ensures in values-none w _ _ (lent-fine w _ e) (not-true _ (c .before .if1 .taken)) refl
 
--- src/lib.rt:137:1
 returns-2 : tie.Need-returns-2
-returns-2 c = search needs
+returns-2 c = let w = c .before .before .before .before .before .args .image .now in let e = c .before .before .before .read-lent .ensures in let f = not-false _ (c .if1 .left) in values-lent w _ _ (lent-fine w _ e) f (lent-whole w _ e f)
 
 pub values-of-spec : {M : Type 1} → statement M
 values-of-spec = tie.close (tie.spec read-lent-requires add-count returns returns-2)
