@@ -1,3 +1,4 @@
+pub mod Written
 mod Calling
 mod Opening
 mod Saying

@@ -12,7 +12,7 @@ use Rattle.calls.specs.Calls.{Says}
 use Rattle.calls.proofs.Unsound.{unsound-figures}
 use Rattle.exports_book.specs.Reading.{Reads}
 use Rattle.exports_book.proofs.Reading.{values-unsound}
-use Rattle.rhoikandra.specs.Figures.{figuresIn}
+use Rattle.calls_words.specs.Figures.{figuresIn}
 
 pub figures-said : (ws : List ℕ) (pools : List Pool) (trade : ℕ) (b : Book) (f : Figures) → Reads (isImage ws) ws b → Says b pools trade f → f ≡ figuresIn ws pools trade
 unfolding figuresIn

@@ -5,13 +5,13 @@ ghost use Prim.Native.Nat.{_-_, _≤_};
 ghost use lib.ListN.{length};
 ghost use Rattle.lists.specs.Lists.{pasted};
 ghost use Rattle.framing.specs.Framing.{nextFrame};
-ghost use Rattle.exports_book.specs.Writing.{figuresNumbers, frameNumbers};
+ghost use Rattle.exports_book.specs.Writing.{frameNumbers};
 ghost use Rattle.exports_book.specs.Tally.{rowsAfter};
-ghost use Rattle.rhoikandra.specs.Calls.{Calls};
-ghost use Rattle.rhoikandra.specs.Opening.{Opening};
-ghost use Rattle.rhoikandra.specs.Figures.{figuresIn};
+ghost use Rattle.calls_words.specs.Calls.{Calls};
+ghost use Rattle.calls_words.specs.Opening.{Opening};
+ghost use Rattle.calls_words.specs.Figures.{figuresIn, figuresNumbers};
 
-// The frame call on the book that words say. Words that are no book's and time bytes that are not six are refused with 42.
+// The frame call on the book that words say. It says the answer in two numbers, and how many bytes of the output are its own. Time bytes that are not six are refused with 90, and words that are no book's with 42.
 #[no_mangle]
 pub extern "C" fn rhoikandra_step(
     image: &mut [u64],
@@ -27,7 +27,7 @@ pub extern "C" fn rhoikandra_step(
     let book = exports_book::start(image, time);
     let caller = exports_book::caller_of(time, seed);
     let stepped = table_step::step(book, pools, body, caller, out);
-    exports_book::finish(image, said, stepped);
+    exports_book::finish(image, said, time, stepped);
 }
 
 // Opens a book by the values that words say: 0, or 41 where it is refused.

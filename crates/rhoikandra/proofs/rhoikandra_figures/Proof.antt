@@ -42,8 +42,7 @@ use Rattle.table_load.proofs.Row.{R}
 use Rattle.image.specs.Images.{isImage}
 use Rattle.calls.specs.Calls.{Says}
 use Rattle.exports_book.specs.Reading.{Reads}
-use Rattle.exports_book.specs.Writing.{figuresNumbers}
-use Rattle.rhoikandra.specs.Figures.{figuresIn}
+use Rattle.calls_words.specs.Figures.{figuresIn, figuresNumbers}
 use Rattle.table_rows.proofs.Values.{BookR, book-value}
 use Rattle.table_figures.proofs.MachineValues.{FiguresR, figures-value}
 use Rattle.rhoikandra.proofs.Saying.{figures-said}

@@ -44,7 +44,7 @@ use Rattle.table_load.proofs.Row.{R}
 use Rattle.calls.specs.Calls.{Opens}
 use Rattle.exports_book.specs.Reading.{ReadsValues}
 use Rattle.exports_book.specs.Writing.{OpensTo}
-use Rattle.rhoikandra.specs.Opening.{Opening}
+use Rattle.calls_words.specs.Opening.{Opening}
 use Rattle.table_open.proofs.MachineValues.{ValuesR, OpenedR, values-value, opened-value}
 use Rattle.rhoikandra.proofs.Opening.{opening-made}
 use Rattle.exports_book.proofs.values_of as vo

@@ -43,9 +43,9 @@ use Rattle.book.specs.declared.Pool.{Pool}
 use Rattle.calls.specs.declared.Stepped.{Stepped}
 use Rattle.table_load.proofs.Row.{R}
 use Rattle.calls.specs.Calls.{Framed}
-use Rattle.exports_book.specs.Reading.{timeWidth, callerOf, callable, Reads}
+use Rattle.exports_book.specs.Reading.{Reads}
 use Rattle.exports_book.specs.Writing.{Finishes}
-use Rattle.rhoikandra.specs.Calls.{Calls}
+use Rattle.calls_words.specs.Calls.{timeWidth, callerOf, callable, Calls}
 use Rattle.table_rows.proofs.Values.{BookR, SteppedR, CallerR, book-value, stepped-value, caller-value}
 use Rattle.rhoikandra.proofs.Calling.{called}
 use Rattle.exports_book.proofs.start as sa
@@ -191,14 +191,14 @@ module _ {M : Type 1} (𝓤 : URA M) (H : Heap 𝓤) (A : Atoms 𝓤) (W : Given
   Said = ‵ (MutSlice (named 5) κ₆ u64 .own x₆ (s₆ ∷ []))
 
   abbrev Left : List ℕ → List Pool → List ℕ → List ℕ → List (Item 𝓤)
-  Left l ps os ms = (K₁ ⊛ K₆ ⊛ ‵ ftrue) ∷ ‵ (finally u64 γ₆ ms) ∷ ‵ (finally u64 γ₁ l) ∷ (K₂ ⊛ K₃ ⊛ K₅ ⊛ ‵ ftrue) ∷ ‵ (finally u8 γ₅ os) ∷ ‵ (finally R γ₂ ps) ∷ Body ∷ (K₄ ⊛ ‵ ftrue) ∷ Time ∷ []
+  Left l ps os ms = (K₁ ⊛ K₆ ⊛ K₄ ⊛ ‵ ftrue) ∷ ‵ (finally u64 γ₆ ms) ∷ ‵ (finally u64 γ₁ l) ∷ Time ∷ (K₂ ⊛ K₃ ⊛ K₅ ⊛ ‵ ftrue) ∷ ‵ (finally u8 γ₅ os) ∷ ‵ (finally R γ₂ ps) ∷ Body ∷ []
 
   exits : seed < 2 ^ 64 → (l : List ℕ) (ps : List Pool) (os ms : List ℕ) → length l ≡ length ws → length ps ≡ length ys → length os ≡ length us → length ms ≡ length ns → Calls ws ys bs ts seed us ns l ps os ms → ent 𝓤 (⋆ 𝓤 H A (Left l ps os ms)) (Post vunit)
   exits gs l ps os ms len₁ len₂ len₅ len₆ e =
       qed W (Left l ps os ms) ∵ suffices ! _ (ends-at 𝓤 H A f.ended stayed (f.clauses 𝓤 H A mem run) W bound vunit tt (l, (ps, (tt, (tt, (tt, (os, (ms, tt))))))) (len₁, (len₂, (tt, (tt, (tt, (len₅, (len₆, tt)))))))) $ says ! e $
-      split ! $ move ! (4 ∷ []) $ split ! $ move ! (1 ∷ []) $ split ! $ move ! (1 ∷ []) $ split ! $ move ! (1 ∷ []) $ drop ! $ move ! (0 ∷ 4 ∷ []) $ join ! $
-      move ! (9 ∷ []) $ split ! $ move ! (1 ∷ []) $ drop ! $ join ! $ move ! (1 ∷ 0 ∷ []) $ join ! $ move ! (1 ∷ 0 ∷ []) $ join ! $ move ! (1 ∷ 0 ∷ []) $ join ! $ frame ! $
-      nothing ! $ move ! (1 ∷ 0 ∷ []) $ fjoin ! $ move ! (2 ∷ 0 ∷ []) $ fjoin ! $ owned ! u64 (Is u64) (uint-makes 𝓤 H A W w64) seed _ (refl, gs) $ fjoin ! $ move ! (4 ∷ 0 ∷ []) $ fjoin ! $ move ! (3 ∷ 0 ∷ []) $ fjoin ! $ move ! (2 ∷ 0 ∷ []) $ fjoin ! $ move ! (1 ∷ 0 ∷ []) $ fjoin ! $ frame ! $
+      split ! $ move ! (1 ∷ []) $ split ! $ move ! (1 ∷ []) $ split ! $ move ! (2 ∷ 1 ∷ []) $ join ! $ move ! (6 ∷ []) $ split ! $ move ! (1 ∷ []) $ split ! $ move ! (1 ∷ []) $ split ! $ move ! (1 ∷ []) $ drop ! $
+      move ! (0 ∷ 3 ∷ []) $ join ! $ move ! (3 ∷ 0 ∷ []) $ join ! $ move ! (1 ∷ 0 ∷ []) $ join ! $ move ! (1 ∷ 0 ∷ []) $ join ! $ move ! (1 ∷ 0 ∷ []) $ join ! $ frame ! $
+      nothing ! $ move ! (1 ∷ 0 ∷ []) $ fjoin ! $ move ! (3 ∷ 0 ∷ []) $ fjoin ! $ owned ! u64 (Is u64) (uint-makes 𝓤 H A W w64) seed _ (refl, gs) $ fjoin ! $ move ! (2 ∷ 0 ∷ []) $ fjoin ! $ move ! (3 ∷ 0 ∷ []) $ fjoin ! $ move ! (2 ∷ 0 ∷ []) $ fjoin ! $ move ! (1 ∷ 0 ∷ []) $ fjoin ! $ frame ! $
       feqI ! (List Val) (vunit ∷ []) (vunit ∷ []) refl $ done !
 
   -- what each callee's triple binds outside, and that the caller has what it asks
@@ -245,12 +245,12 @@ module _ {M : Type 1} (𝓤 : URA M) (H : Heap 𝓤) (A : Atoms 𝓤) (W : Given
 
   module _ (r : Stepped) (w : Val) where
     abbrev to-finish : Finish 𝓤 H A mem run .Ghost
-    to-finish = (((κ₁, (κ₆, tt)), (q₁, (q₆, tt)), tt, (x₁ γ₁, (x₆, (r, tt))), (s₁ ∷ [], (s₆ ∷ [], (w ∷ [], tt)))), tt)
+    to-finish = (((κ₁, (κ₆, (κ₄, tt))), (q₁, (q₆, (q₄, tt))), tt, (x₁ γ₁, (x₆, (x₄, (r, tt)))), (s₁ ∷ [], (s₆ ∷ [], (s₄ ∷ [], (w ∷ [], tt))))), tt)
 
-    goes-finish : Is SteppedR r (w ∷ []) → ent 𝓤 (⋆ 𝓤 H A ((K₁ ⊛ K₆) ∷ (Image ⊛ Said) ∷ [])) (Finish 𝓤 H A mem run .pre to-finish)
+    goes-finish : Is SteppedR r (w ∷ []) → ent 𝓤 (⋆ 𝓤 H A ((K₁ ⊛ K₆ ⊛ K₄) ∷ (Image ⊛ Said ⊛ Time) ∷ [])) (Finish 𝓤 H A mem run .pre to-finish)
     goes-finish is =
-        qed W ((K₁ ⊛ K₆) ∷ (Image ⊛ Said) ∷ []) ∵ split ! $ nothing ! $ move ! (2 ∷ 0 ∷ []) $ join ! $ move ! (1 ∷ 0 ∷ []) $ join ! $ move ! (1 ∷ []) $ split ! $
-        nothing ! $ owned ! SteppedR (Is SteppedR) (stepped-value .makes 𝓤 H A) r _ is $ fjoin ! $ move ! (2 ∷ 0 ∷ []) $ fjoin ! $ move ! (1 ∷ 0 ∷ []) $ fjoin ! $ move ! (1 ∷ 0 ∷ []) $ join ! $ frame ! $ done !
+        qed W ((K₁ ⊛ K₆ ⊛ K₄) ∷ (Image ⊛ Said ⊛ Time) ∷ []) ∵ split ! $ move ! (1 ∷ []) $ split ! $ nothing ! $ move ! (2 ∷ 0 ∷ []) $ join ! $ move ! (1 ∷ 0 ∷ []) $ join ! $ move ! (1 ∷ 0 ∷ []) $ join ! $ move ! (1 ∷ []) $ split ! $ move ! (1 ∷ []) $ split ! $
+        nothing ! $ owned ! SteppedR (Is SteppedR) (stepped-value .makes 𝓤 H A) r _ is $ fjoin ! $ move ! (2 ∷ 0 ∷ []) $ fjoin ! $ move ! (1 ∷ 0 ∷ []) $ fjoin ! $ move ! (1 ∷ 0 ∷ []) $ fjoin ! $ move ! (1 ∷ 0 ∷ []) $ join ! $ frame ! $ done !
 
   module _ (𝓣 : Tables 𝓤 H) (known-start : Triple 𝓤 (𝓣 .C #start) (Start 𝓤 H A mem run)) (known-caller : Triple 𝓤 (𝓣 .C #caller-of) (CallerOf 𝓤 H A mem run)) (known-step : Triple 𝓤 (𝓣 .C #step) (Step 𝓤 H A mem run)) (known-finish : Triple 𝓤 (𝓣 .C #finish) (Finish 𝓤 H A mem run)) where
     walk : Room u64 (length ws) → Room R (length ys) → Room u8 (length bs) → Room u8 (length ts) → seed < 2 ^ 64 → Room u8 (length us) → Room u64 (length ns)
@@ -305,21 +305,23 @@ module _ {M : Type 1} (𝓤 : URA M) (H : Heap 𝓤) (A : Atoms 𝓤) (W : Given
         assigns ! (agg ! (and-then ! (load ! (from ! (stop !)) (look ! 16 refl)) (and-then ! (load ! (from ! (fld ! refl (stop !))) (look-in ! 50 (sub ! 1 refl (whole !)))) (no-more !)))) (from ! (stop !)) (init ! 14 refl (tt, (tt, (record { fits = room₁ .0 }, tt)))) $
         assigns ! (addr ! (from ! (fld ! refl (hop ! (look-in ! 38 (sub ! 0 refl (whole !))) (stop !))))) (from ! (stop !)) (init ! 12 refl (tt, tt)) $
         assigns ! (agg ! (and-then ! (load ! (from ! (stop !)) (look ! 12 refl)) (and-then ! (load ! (from ! (fld ! refl (stop !))) (look-in ! 38 (sub ! 1 refl (whole !)))) (no-more !)))) (from ! (stop !)) (init ! 10 refl (tt, (tt, (record { fits = room₆ .0 }, tt)))) $
-        move ! (7 ∷ 8 ∷ []) $ join ! $ move ! (7 ∷ 8 ∷ []) $ join ! $ move ! (1 ∷ 0 ∷ []) $ use2 W (raw (Finish 𝓤 H A mem run .pre (to-finish r w₃))) (goes-finish r w₃ is₃) $
-        -- [what `finish` asks; tokens 2, 3, 5; the last output; the last records; body; token 4; time; _21 at 7; …]
-        calls-at ! (fmOf 𝓤 H (W .laws) 𝓣) (Finish 𝓤 H A mem run) known-finish (to-finish r w₃) (and-then ! (load ! (from ! (stop !)) (look ! 11 refl)) (and-then ! (load ! (from ! (stop !)) (look ! 7 refl)) (and-then ! (load ! (from ! (stop !)) (look ! 29 refl)) (no-more !)))) (λ w₄.
-        use1 W (later (some (λ (u : Unit {0}). ((K₁ ⊛ K₆ ⊛ ‵ ftrue) ⊛ ‵ (Nothing .own u (w₄ ∷ []))) ⊛ raw (ensured 𝓤 H A fi.ended (fi.clauses 𝓤 H A mem run) (κ₁, (κ₆, tt)) (x₁ γ₁, (x₆, (r, tt))) tt u)))) (id⊢ 𝓤 _) $ await ! tt $ pick ! (λ u.
-        split ! $ move ! (1 ∷ []) $ use1 W (some (λ (ls : List ℕ × (List ℕ × (Unit {0} × Unit {0}))). ‵ (lasts fi.ended (κ₁, (κ₆, tt)) (x₁ γ₁, (x₆, (r, tt))) ls) ⊛ raw (fact 𝓤 (Finishes ws ns r (ls .0) (ls .1 .0))))) (id⊢ 𝓤 _) $ pick ! (λ ls.
-        split ! $ move ! (1 ∷ []) $ heard ! (Finishes ws ns r (ls .0) (ls .1 .0)) (λ e₄. fsplit ! $ fsplit ! $ move ! (1 ∷ []) $ feqL ! (λ len₁. move ! (1 ∷ []) $ fsplit ! $ fsplit ! $ move ! (1 ∷ []) $ feqL ! (λ len₆. move ! (1 ∷ []) $ drop ! $
+        -- `finish` has a copy of the time bytes
+        move ! (5 ∷ []) $ use1 W (Time ⊛ Time) (shr-slice-copy 𝓤 H A W (named 3) κ₄ u8 .twice x₄ (s₄ ∷ [])) $ split ! $ move ! (6 ∷ []) $ split ! $ move ! (1 ∷ []) $ drop ! $ move ! (9 ∷ 0 ∷ []) $ join ! $ move ! (8 ∷ 0 ∷ []) $ join ! $
+        move ! (8 ∷ 1 ∷ []) $ join ! $ move ! (7 ∷ 0 ∷ []) $ join ! $ move ! (1 ∷ 0 ∷ []) $ use2 W (raw (Finish 𝓤 H A mem run .pre (to-finish r w₃))) (goes-finish r w₃ is₃) $
+        -- [what `finish` asks; time; tokens 2, 3, 5; the last output; the last records; body; _20 at 6; …]
+        calls-at ! (fmOf 𝓤 H (W .laws) 𝓣) (Finish 𝓤 H A mem run) known-finish (to-finish r w₃) (and-then ! (load ! (from ! (stop !)) (look ! 10 refl)) (and-then ! (load ! (from ! (stop !)) (look ! 6 refl)) (and-then ! (load ! (from ! (stop !)) (look ! 40 refl)) (and-then ! (load ! (from ! (stop !)) (look ! 28 refl)) (no-more !))))) (λ w₄.
+        use1 W (later (some (λ (u : Unit {0}). ((K₁ ⊛ K₆ ⊛ K₄ ⊛ ‵ ftrue) ⊛ ‵ (Nothing .own u (w₄ ∷ []))) ⊛ raw (ensured 𝓤 H A fi.ended (fi.clauses 𝓤 H A mem run) (κ₁, (κ₆, (κ₄, tt))) (x₁ γ₁, (x₆, (x₄, (r, tt)))) tt u)))) (id⊢ 𝓤 _) $ await ! tt $ pick ! (λ u.
+        split ! $ move ! (1 ∷ []) $ use1 W (some (λ (ls : List ℕ × (List ℕ × (Unit {0} × (Unit {0} × Unit {0})))). ‵ (lasts fi.ended (κ₁, (κ₆, (κ₄, tt))) (x₁ γ₁, (x₆, (x₄, (r, tt)))) ls) ⊛ raw (fact 𝓤 (Finishes ws ns ts r (ls .0) (ls .1 .0))))) (id⊢ 𝓤 _) $ pick ! (λ ls.
+        split ! $ move ! (1 ∷ []) $ heard ! (Finishes ws ns ts r (ls .0) (ls .1 .0)) (λ e₄. fsplit ! $ fsplit ! $ move ! (1 ∷ []) $ feqL ! (λ len₁. move ! (1 ∷ []) $ fsplit ! $ fsplit ! $ move ! (1 ∷ []) $ feqL ! (λ len₆. move ! (1 ∷ []) $ drop ! $
         -- [the last numbers; the last words; the tokens and the result; tokens 2, 3, 5; the last output; the last records; body; token 4; time; _21 at 9; …]
-        move ! (2 ∷ []) $ split ! $ move ! (1 ∷ []) $ peeks ! Nothing (Is Nothing) (shows 𝓤 H A Nothing) u (w₄ ∷ []) (λ is₄. land ! (from ! (stop !)) (init ! 18 refl (nothing-lawful 𝓤 H A W .typed u _ is₄ .0)) $ drop ! $
-        -- [tokens 1, 6; the last numbers; the last words; tokens 2, 3, 5; the last output; the last records; body; token 4; time; _21 at 9; …; _0 at 51]
-        assigns ! (of-opd ! (unit-lit !)) (from ! (stop !)) (init ! 51 refl (tt, tt)) $
-        returns ! (look ! 51 refl) $ forget ! 9 refl $ forget ! 11 refl $ forget ! 13 refl $ forget ! 15 refl $ forget ! 17 refl $ forget ! 19 refl $ forget ! 21 refl $ forget ! 23 refl $ forget ! 25 refl $ forget ! 27 refl $ forget ! 29 refl $
-        forget ! 31 refl $ forget ! 33 refl $ forget ! 35 refl $ forget ! 37 refl $ forget ! 39 refl $ forget ! 41 refl $ forget ! 43 refl $ forget ! 45 refl $ forget ! 47 refl $ forget ! 49 refl $ forget ! 51 refl $
-        move ! (51 ∷ 52 ∷ []) $ free1 ! $ move ! (49 ∷ 50 ∷ []) $ free1 ! $ move ! (47 ∷ 48 ∷ []) $ free1 ! $ move ! (45 ∷ 46 ∷ []) $ free1 ! $ move ! (43 ∷ 44 ∷ []) $ free1 ! $ move ! (41 ∷ 42 ∷ []) $ free1 ! $ move ! (39 ∷ 40 ∷ []) $ free1 ! $ move ! (37 ∷ 38 ∷ []) $ free1 ! $
-        move ! (35 ∷ 36 ∷ []) $ free1 ! $ move ! (33 ∷ 34 ∷ []) $ free1 ! $ move ! (31 ∷ 32 ∷ []) $ free1 ! $ move ! (29 ∷ 30 ∷ []) $ free1 ! $ move ! (27 ∷ 28 ∷ []) $ free1 ! $ move ! (25 ∷ 26 ∷ []) $ free1 ! $ move ! (23 ∷ 24 ∷ []) $ free1 ! $
-        move ! (21 ∷ 22 ∷ []) $ free1 ! $ move ! (19 ∷ 20 ∷ []) $ free1 ! $ move ! (17 ∷ 18 ∷ []) $ free1 ! $ move ! (15 ∷ 16 ∷ []) $ free1 ! $ move ! (13 ∷ 14 ∷ []) $ free1 ! $ move ! (11 ∷ 12 ∷ []) $ free1 ! $ move ! (9 ∷ 10 ∷ []) $ free1 ! $ free0 ! $
+        move ! (2 ∷ []) $ split ! $ move ! (1 ∷ []) $ peeks ! Nothing (Is Nothing) (shows 𝓤 H A Nothing) u (w₄ ∷ []) (λ is₄. land ! (from ! (stop !)) (init ! 17 refl (nothing-lawful 𝓤 H A W .typed u _ is₄ .0)) $ drop ! $
+        -- [tokens 1, 6, 4; the last numbers; the last words; tokens 2, 3, 5; the last output; the last records; body; token 4; time; _21 at 9; …; _0 at 50]
+        assigns ! (of-opd ! (unit-lit !)) (from ! (stop !)) (init ! 50 refl (tt, tt)) $
+        returns ! (look ! 50 refl) $ forget ! 8 refl $ forget ! 10 refl $ forget ! 12 refl $ forget ! 14 refl $ forget ! 16 refl $ forget ! 18 refl $ forget ! 20 refl $ forget ! 22 refl $ forget ! 24 refl $ forget ! 26 refl $ forget ! 28 refl $
+        forget ! 30 refl $ forget ! 32 refl $ forget ! 34 refl $ forget ! 36 refl $ forget ! 38 refl $ forget ! 40 refl $ forget ! 42 refl $ forget ! 44 refl $ forget ! 46 refl $ forget ! 48 refl $ forget ! 50 refl $
+        move ! (50 ∷ 51 ∷ []) $ free1 ! $ move ! (48 ∷ 49 ∷ []) $ free1 ! $ move ! (46 ∷ 47 ∷ []) $ free1 ! $ move ! (44 ∷ 45 ∷ []) $ free1 ! $ move ! (42 ∷ 43 ∷ []) $ free1 ! $ move ! (40 ∷ 41 ∷ []) $ free1 ! $ move ! (38 ∷ 39 ∷ []) $ free1 ! $ move ! (36 ∷ 37 ∷ []) $ free1 ! $
+        move ! (34 ∷ 35 ∷ []) $ free1 ! $ move ! (32 ∷ 33 ∷ []) $ free1 ! $ move ! (30 ∷ 31 ∷ []) $ free1 ! $ move ! (28 ∷ 29 ∷ []) $ free1 ! $ move ! (26 ∷ 27 ∷ []) $ free1 ! $ move ! (24 ∷ 25 ∷ []) $ free1 ! $ move ! (22 ∷ 23 ∷ []) $ free1 ! $
+        move ! (20 ∷ 21 ∷ []) $ free1 ! $ move ! (18 ∷ 19 ∷ []) $ free1 ! $ move ! (16 ∷ 17 ∷ []) $ free1 ! $ move ! (14 ∷ 15 ∷ []) $ free1 ! $ move ! (12 ∷ 13 ∷ []) $ free1 ! $ move ! (10 ∷ 11 ∷ []) $ free1 ! $ move ! (8 ∷ 9 ∷ []) $ free1 ! $ free0 ! $
         by ! (exits gs (ls .0) (zs .1 .0) (zs .1 .1 .1 .1 .0) (ls .1 .0) len₁ len₂ len₅ len₆ (called ws ys bs ts seed us ns k caller r (ls .0) (zs .1 .0) (zs .1 .1 .1 .1 .0) (ls .1 .0) e e₂ e₃ e₄))))))))))))))))))))))))))))))))))))))))))))))))
 
 module _ {M : Type 1} (𝓤 : URA M) (H : Heap 𝓤) (A : Atoms 𝓤) (W : Given 𝓤 H A) (mem : Memory → SProp 𝓤) (run : Routine → Fun 𝓤) where
