@@ -1,15 +1,14 @@
 -- The live records in one pass: the first by itself, and each other by itself and after the one before it.
-use mathlib.Core.Path.{_≡_, refl, sym, ap, ap₂, _∙_}
+use mathlib.Core.Path.{_≡_, refl, sym, ap, _∙_}
 use mathlib.Core.List.{List, [], _∷_}
 use mathlib.Core.Bool.{Bool, true, false, not, _&&_, false≢true, and-true, and-assoc, or-true}
 use Prim.Native.Nat.{ℕ, _+_, _-_, _≤_, _<_}
-use native.Mathlib.Omega.{arith}
 use lib.ListN.{length, getD, take}
 use lib.Dec.{eqb, leb, ltb}
 use borrow.Author.Tests.{not-true, not-false, eq-eqb, eqb-true}
 use Rattle.lists.specs.Lists.{tab, all, between}
 use Rattle.lists.proofs.Tables.{tab-turn, tab-end, tab-all}
-use Rattle.lists.proofs.Tests.{and-left, and-right}
+use Rattle.lists.proofs.Tests.{and-left}
 use Rattle.book.specs.declared.Pool.{Pool}
 use Rattle.book.specs.declared.Values.{Values}
 use Rattle.book.specs.Opening.{elevenDigitsMax}

@@ -1,10 +1,10 @@
 -- The bucket from its words, and the bounds that its sum keeps to.
-use mathlib.Core.Path.{_≡_, refl, ap}
+use mathlib.Core.Path.{_≡_}
 use mathlib.Core.List.{List, [], _∷_}
-use Prim.Native.Nat.{ℕ, zero, suc, _+_, _*_, _/_, _%_, _≤_, _<_}
+use Prim.Native.Nat.{ℕ, zero, suc, _+_, _*_, _%_, _≤_, _<_}
 use native.Mathlib.Nat.{mul-le-mul}
 use native.Mathlib.Omega.{arith}
-use lib.ListN.{length, getD}
+use lib.ListN.{length}
 use Rattle.rows.specs.Rows.{keyWidth, bytesFrom}
 use Rattle.rows_keys.specs.Keys.{numberOf, spreadMost, Spreads, half, sharesOf, bucketOf, bucketCount}
 
