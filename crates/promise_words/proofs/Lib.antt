@@ -1,0 +1,6 @@
+pub mod Forming
+pub mod Spare
+pub mod Stepping
+pub mod Promised
+pub mod Undamaged
+pub mod Figures
