@@ -98,7 +98,7 @@ line-numbers (Last last) expected h =
     (lt-ltb (last .0) 4294967296 (omega arith), lt-ltb (expected .0) 4294967296 (omega arith))
 
 module _ (ws : List ℕ) (e : isLent ws ≡ true) where
-  rest-long : length (restOf ws) ≡ restWords
+  pub rest-long : length (restOf ws) ≡ restWords
   unfolding restOf
   rest-long = length-part ws 2688 52 (omega (arith, lent-length ws e))
 

@@ -4,3 +4,4 @@ pub mod Stepping
 pub mod Promised
 pub mod Undamaged
 pub mod Figures
+pub mod Written
