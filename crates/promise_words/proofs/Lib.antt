@@ -5,3 +5,4 @@ pub mod Promised
 pub mod Undamaged
 pub mod Figures
 pub mod Written
+pub mod Refused
