@@ -6,3 +6,4 @@ pub mod Undamaged
 pub mod Figures
 pub mod Written
 pub mod Refused
+pub mod Tallied

@@ -48,7 +48,7 @@ module _ (c : Call) (loud : isSilent (answerOf c) ≡ false) where
       go false false false true v h = (refl, refl)
 
 -- a paste at the front
-front : (out xs : List ℕ) (n : ℕ) → length xs ≡ n → n ≤ length out → pasted out 0 xs ≡ xs ++ drop n out
+pub front : (out xs : List ℕ) (n : ℕ) → length xs ≡ n → n ≤ length out → pasted out 0 xs ≡ xs ++ drop n out
 front out xs n e h =
     let w : within out 0 (length xs) ≡ true = in-within out 0 (length xs) (omega arith) (omega arith) in
     let z : 0 + length xs ≡ n = omega arith in
