@@ -29,7 +29,7 @@ use Rattle.image.specs.Images.{restOf, isImage, valuesFrom, bookIn}
 use Rattle.image.proofs.Told.{image-lent}
 use Rattle.calls_words.specs.Calls.{isTime, callerOf, callable, timeRefused, written, saidWith, Calls}
 use Rattle.promise_words.specs.Runs.{Stored}
-use Rattle.promise_words.specs.Sent.{txSent, aaSent, sent, sentAt}
+use Rattle.promise_words.specs.Sent.{txSent, aaSent, framesOn, sent, sentAt}
 use Rattle.promise_words.proofs.Forming.{rest-long}
 
 -- an answer that goes out comes after 44 and 10
@@ -80,14 +80,11 @@ module _ (s : Stored) (body time : List ℕ) (seed : ℕ) (out : List ℕ) (imag
         (length-part body 98 16 (omega (arith, l))) (eqb-true (length time) 6 timed) (length-part body 2 6 (omega (arith, l)))
 
   -- on a gap or without one
-  abbrev frames : Bool → List ℕ
-  frames gap = cond gap (txSent c ++ aaSent c) (aaSent c)
-
   abbrev bytes : Bool → ℕ
   bytes gap = cond gap roomLeast aaLength
 
   loud-made : isSilent (answerOf c) ≡ false → (gap : Bool)
-      → (pasted (cond gap (pasted out 0 (txSent c)) out) (cond gap txLength 0) (aaSent c) ≡ frames gap ++ drop (bytes gap) out) × (length (frames gap) ≡ bytes gap)
+      → (pasted (cond gap (pasted out 0 (txSent c)) out) (cond gap txLength 0) (aaSent c) ≡ framesOn c gap ++ drop (bytes gap) out) × (length (framesOn c gap) ≡ bytes gap)
   loud-made e true =
       let both : length (txSent c ++ aaSent c) ≡ roomLeast = length-append (txSent c) (aaSent c) ∙ omega (arith, tx-long, aa-long e) in (
         paste-more out 0 (txSent c) (aaSent c) txLength (omega (arith, tx-long)) (omega (arith, aa-long e, room e)) ∙ front out (txSent c ++ aaSent c) roomLeast both (room e),
@@ -104,8 +101,8 @@ module _ (s : Stored) (body time : List ℕ) (seed : ℕ) (out : List ℕ) (imag
       gap = gapAt (c .book) body
 
       go : (quiet : Bool) → isSilent (answerOf c) ≡ quiet
-          → (cond quiet out (pasted (cond gap (pasted out 0 (txSent c)) out) (cond gap txLength 0) (aaSent c)) ≡ cond quiet [] (frames gap) ++ drop (cond quiet 0 (bytes gap)) out)
-          × (length (cond quiet [] (frames gap)) ≡ cond quiet 0 (bytes gap))
+          → (cond quiet out (pasted (cond gap (pasted out 0 (txSent c)) out) (cond gap txLength 0) (aaSent c)) ≡ cond quiet [] (framesOn c gap) ++ drop (cond quiet 0 (bytes gap)) out)
+          × (length (cond quiet [] (framesOn c gap)) ≡ cond quiet 0 (bytes gap))
       go true e = (refl, refl)
       go false e = loud-made e gap
 

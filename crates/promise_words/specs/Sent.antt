@@ -1,7 +1,7 @@
 -- What a frame call on words sends (01, "What goes out"): its frames one after another, with nothing else of the output.
 use Prim.Native.Nat.{ℕ}
 use mathlib.Core.List.{List, [], _++_}
-use mathlib.Core.Bool.{cond}
+use mathlib.Core.Bool.{Bool, cond}
 use Rattle.sequence.specs.Sequence.{nextOutbound}
 use Rattle.acknowledgment.specs.Frames.{aaBytes, txBytes}
 use Rattle.book.specs.Reasons.{isSilent}
@@ -17,9 +17,13 @@ txSent c = txBytes (nextOutbound (c .book .values .connection .outbound)) (c .bo
 abbrev pub aaSent : Call → List ℕ
 aaSent c = aaBytes (nextOutbound (beforeAa (c .book) (c .body))) (c .book .values .lent .subscriber) (c .book .values .connection .id) (acknowledged (c .body) (answerOf c) (c .asked .caller))
 
--- none after a silent refusal, a TX and an AA on a gap, else an AA
+-- a TX and an AA on a gap, else an AA
+abbrev pub framesOn : Call → Bool → List ℕ
+framesOn c gap = cond gap (txSent c ++ aaSent c) (aaSent c)
+
+-- none after a silent refusal
 unfoldable pub sent : Call → List ℕ
-sent c = cond (isSilent (answerOf c)) [] (cond (gapAt (c .book) (c .body)) (txSent c ++ aaSent c) (aaSent c))
+sent c = cond (isSilent (answerOf c)) [] (framesOn c (gapAt (c .book) (c .body)))
 
 -- none where the call cannot be made
 unfoldable pub sentAt : Stored → List ℕ → List ℕ → ℕ → List ℕ → List ℕ
