@@ -4,10 +4,9 @@
 use Prim.Native.Nat.{ℕ, _≤_, _<_}
 use mathlib.Core.Path.{_≡_, refl, ap, _∙_}
 use mathlib.Core.List.{List, [], _∷_, _++_, map}
-use mathlib.Core.Bool.{Bool, true, false}
+use mathlib.Core.Bool.{Bool, true, false, cond}
 use lib.ListN.{length, getD, drop}
 use Rattle.lists.specs.Lists.{pasted}
-use Rattle.lists.proofs.Tests.{both}
 use Rattle.tally.specs.Tally.{fullCell, cell}
 use Rattle.book.specs.declared.Pool.{Pool}
 use Rattle.book.specs.declared.Answer.{Answer}
@@ -20,12 +19,13 @@ use Rattle.promise.specs.Counted.{Answered, tallied, countAfter}
 use Rattle.promise.proofs.Counting.{tally-rows, tallied-counts}
 use Rattle.exports_numbers.specs.Said.{saidOf, isTold}
 use Rattle.image.specs.Images.{isImage, bookIn}
-use Rattle.calls_words.specs.Calls.{isTime, callerOf, callable, timeRefused, saidWith, written, Calls}
+use Rattle.calls_words.specs.Calls.{isTime, callerOf, timeRefused, saidWith, Calls}
 use Rattle.calls_words.specs.Tally.{rowsAfter}
 use Rattle.calls_words.proofs.Counting.{tells, counted, counted-rejected}
 use Rattle.promise_words.specs.Runs.{Stored, answerAt, WordsRun, done, next}
+use Rattle.promise_words.specs.Sent.{sentAt}
 use Rattle.promise_words.specs.Counted.{answeredIn, Roomy, rowsAlong}
-use Rattle.promise_words.proofs.Written.{front}
+use Rattle.promise_words.proofs.Written.{front, words-said}
 
 -- the two reasons of calls that cannot be made are silent, and their numbers are told by none
 untimed-tells : tells timeRefused ≡ true
@@ -45,21 +45,26 @@ said-first said (Dked r) n h = front said (saidWith (Dked r) n) 3 refl h
 -- one call
 module _ (s : Stored) (body time : List ℕ) (seed : ℕ) (out said ws : List ℕ) (pools : List Pool) (out′ said′ : List ℕ) (k : Calls (s .words) (s .pools) body time seed out said ws pools out′ said′)
     (room : 3 ≤ length said) (rows : List (List ℕ)) (four : length rows ≡ 4) where
-  call-counted : rowsAfter body said′ rows ≡ tallyAfter body (answerAt s body time seed out) rows
-  unfolding answerAt callable
-  call-counted = go (isTime time) (isImage (s .words)) refl refl
+  answer-counted : (rest : List ℕ) → rowsAfter body (saidOf (answerAt s body time seed out) ++ rest) rows ≡ tallyAfter body (answerAt s body time seed out) rows
+  unfolding answerAt
+  answer-counted rest = go (isTime time) (isImage (s .words))
     where
       c : Call
       c = callWith (bookIn (s .words)) (s .pools) body (callerOf time seed) out
 
-      says : (a : Answer) (n : ℕ) → said′ ≡ pasted said 0 (saidWith a n) → rowsAfter body said′ rows ≡ rowsAfter body (saidOf a ++ ((n ∷ []) ++ drop 3 said)) rows
-      says a n e = ap (λ (l : List ℕ). rowsAfter body l rows) (e ∙ said-first said a n room)
+      go : (t i : Bool)
+          → rowsAfter body (saidOf (cond t (cond i (answerOf c) (Rejected bookUnsound)) (Rejected timeRefused)) ++ rest) rows
+          ≡ tallyAfter body (cond t (cond i (answerOf c) (Rejected bookUnsound)) (Rejected timeRefused)) rows
+      go true true = counted body rows c rest four
+      go true false = counted-rejected body rows bookUnsound rest damaged-tells four
+      go false i = counted-rejected body rows timeRefused rest untimed-tells four
 
-      go : (t i : Bool) → isTime time ≡ t → isImage (s .words) ≡ i → rowsAfter body said′ rows ≡ tallyAfter body (answerAt s body time seed out) rows
-      go false i et ei = says (Rejected timeRefused) 0 (k .untimed et .answer) ∙ counted-rejected body rows timeRefused ((0 ∷ []) ++ drop 3 said) untimed-tells four ∙ rw et
-      go true false et ei = says (Rejected bookUnsound) 0 (k .damaged et ei .answer) ∙ counted-rejected body rows bookUnsound ((0 ∷ []) ++ drop 3 said) damaged-tells four ∙ rw (et, ei)
-      go true true et ei =
-          says (answerOf c) (written c) (k .steps (both (isImage (s .words)) (isTime time) ei et) .answer) ∙ counted body rows c ((written c ∷ []) ++ drop 3 said) four ∙ rw (et, ei)
+  call-counted : rowsAfter body said′ rows ≡ tallyAfter body (answerAt s body time seed out) rows
+  call-counted =
+      let n : ℕ = length (sentAt s body time seed out) in
+      ap (λ (l : List ℕ). rowsAfter body l rows)
+      (words-said s body time seed out said ws pools out′ said′ k ∙ said-first said (answerAt s body time seed out) n room)
+      ∙ answer-counted ((n ∷ []) ++ drop 3 said)
 
 -- the rows along a run are the tally of its answers
 pub words-tally : {s s″ : Stored} {fs : List Fed} (run : WordsRun s fs s″) → Roomy run → (rows : List (List ℕ)) → length rows ≡ 4 → rowsAlong run rows ≡ tallied (answeredIn run) rows

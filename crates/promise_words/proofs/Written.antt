@@ -1,11 +1,12 @@
--- What a frame call writes into the output: its frames at the front, as many bytes as the third number says, and not a byte after them. That holds of every
--- call on any words, table, body, time bytes, seed and output; where the call is silent or cannot be made, the number is 0 and the whole output stays.
+-- What a frame call writes: into the output its frames, at the front, and not a byte after them; into what is said the two numbers of its answer, and then how
+-- many bytes the frames have. That holds of every call on any words, table, body, time bytes, seed and output; where the call is silent or cannot be made
+-- there are no frames, and the whole output stays.
 use Prim.Native.Nat.{ℕ, _+_, _≤_}
-use mathlib.Core.Path.{_≡_, refl, sym, ap, _∙_}
+use mathlib.Core.Path.{_≡_, refl, _∙_}
 use mathlib.Core.List.{List, [], _++_}
 use mathlib.Core.Bool.{Bool, true, false, cond, not, true≢false, _&&_}
 use native.Mathlib.Omega.{arith}
-use lib.ListN.{length, getD, drop, length-append}
+use lib.ListN.{length, drop, length-append}
 use borrow.Author.Tests.{ltb-false, eqb-true}
 use Rattle.lists.specs.Lists.{within, pasted}
 use Rattle.lists.proofs.Parts.{length-part, in-within}
@@ -20,7 +21,7 @@ use Rattle.book.specs.declared.Reason.the-variants.{Operator, Line}
 use Rattle.book.specs.declared.Verdict.{Verdict}
 use Rattle.book.specs.declared.Verdict.the-variants.{Fails}
 use Rattle.book.specs.declared.Answer.{Answer}
-use Rattle.book.specs.declared.Answer.the-variants.{Accepted, Rejected, Dked}
+use Rattle.book.specs.declared.Answer.the-variants.{Rejected}
 use Rattle.book.specs.Reasons.{silent, isSilent, bookUnsound}
 use Rattle.book.specs.Soundness.{heldIn}
 use Rattle.book.specs.Checks.{Call, unsound, numbersSpent, roomLeast, outputShort, soundnessChecks, senderChecks, traderChecks, firstFailing, answerTo, answerOf}
@@ -28,7 +29,7 @@ use Rattle.book.specs.Step.{gapAt, outputFor, outputAfter, callWith}
 use Rattle.image.specs.Images.{restOf, isImage, valuesFrom, bookIn}
 use Rattle.image.proofs.Told.{image-lent}
 use Rattle.calls_words.specs.Calls.{isTime, callerOf, callable, timeRefused, written, saidWith, Calls}
-use Rattle.promise_words.specs.Runs.{Stored}
+use Rattle.promise_words.specs.Runs.{Stored, answerAt}
 use Rattle.promise_words.specs.Sent.{txSent, aaSent, framesOn, sent, sentAt}
 use Rattle.promise_words.proofs.Forming.{rest-long}
 
@@ -107,34 +108,30 @@ module _ (s : Stored) (body time : List ℕ) (seed : ℕ) (out : List ℕ) (imag
       go false e = loud-made e gap
 
 -- ---- any call
--- the third number said
-third : (said : List ℕ) (a : Answer) (n : ℕ) → 3 ≤ length said → getD (pasted said 0 (saidWith a n)) 2 0 ≡ n
-third said (Accepted id) n h = ap (λ (l : List ℕ). getD l 2 0) (front said (saidWith (Accepted id) n) 3 refl h)
-third said (Rejected r) n h = ap (λ (l : List ℕ). getD l 2 0) (front said (saidWith (Rejected r) n) 3 refl h)
-third said (Dked r) n h = ap (λ (l : List ℕ). getD l 2 0) (front said (saidWith (Dked r) n) 3 refl h)
+module _ (s : Stored) (body time : List ℕ) (seed : ℕ) (out said ws : List ℕ) (pools : List Pool) (out′ said′ : List ℕ) (k : Calls (s .words) (s .pools) body time seed out said ws pools out′ said′) where
+  -- its frames and then the rest of the output; what is said is its answer, and how many bytes the frames have
+  abbrev Writes : Answer → List ℕ → Type 0
+  Writes a own = (out′ ≡ own ++ drop (length own) out) × (said′ ≡ pasted said 0 (saidWith a (length own)))
 
-module _ (s : Stored) (body time : List ℕ) (seed : ℕ) (out said ws : List ℕ) (pools : List Pool) (out′ said′ : List ℕ) (k : Calls (s .words) (s .pools) body time seed out said ws pools out′ said′) (room : 3 ≤ length said) where
-  abbrev Fronted : List ℕ → Type 0
-  Fronted own = (out′ ≡ own ++ drop (getD said′ 2 0) out) × (length own ≡ getD said′ 2 0)
-
-  stays : (a : Answer) → out′ ≡ out → said′ ≡ pasted said 0 (saidWith a 0) → Fronted []
-  stays a eo es =
-      let z : getD said′ 2 0 ≡ 0 = ap (λ (l : List ℕ). getD l 2 0) es ∙ third said a 0 room in
-      (rw z eo, sym z)
-
-  pub written-only : Fronted (sentAt s body time seed out)
-  unfolding sentAt callable
-  written-only = go (isImage (s .words)) (isTime time) refl refl
+  call-writes : Writes (answerAt s body time seed out) (sentAt s body time seed out)
+  unfolding answerAt sentAt callable
+  call-writes = go (isTime time) (isImage (s .words)) refl refl
     where
       calls : Call
       calls = callWith (bookIn (s .words)) (s .pools) body (callerOf time seed) out
 
-      go : (i t : Bool) → isImage (s .words) ≡ i → isTime time ≡ t → Fronted (cond (i && t) (sent calls) [])
-      go true true ei et =
+      go : (t i : Bool) → isTime time ≡ t → isImage (s .words) ≡ i
+          → Writes (cond t (cond i (answerOf calls) (Rejected bookUnsound)) (Rejected timeRefused)) (cond (i && t) (sent calls) [])
+      go true true et ei =
           let st = k .steps (both (isImage (s .words)) (isTime time) ei et) in
           let m = made s body time seed out ei et in
-          let z : getD said′ 2 0 ≡ written calls = ap (λ (l : List ℕ). getD l 2 0) (st .answer) ∙ third said (answerOf calls) (written calls) room in
-          (rw z (st .output ∙ m .0), rw z (m .1))
-      go true false ei et = let r = k .untimed et in stays (Rejected timeRefused) (r .output) (r .answer)
-      go false true ei et = let r = k .damaged et ei in stays (Rejected bookUnsound) (r .output) (r .answer)
-      go false false ei et = let r = k .untimed et in stays (Rejected timeRefused) (r .output) (r .answer)
+          (rw (m .1) (st .output ∙ m .0), rw (m .1) (st .answer))
+      go true false et ei = let r = k .damaged et ei in (r .output, r .answer)
+      go false true et ei = let r = k .untimed et in (r .output, r .answer)
+      go false false et ei = let r = k .untimed et in (r .output, r .answer)
+
+  pub written-only : out′ ≡ sentAt s body time seed out ++ drop (length (sentAt s body time seed out)) out
+  written-only = call-writes .0
+
+  pub words-said : said′ ≡ pasted said 0 (saidWith (answerAt s body time seed out) (length (sentAt s body time seed out)))
+  words-said = call-writes .1
