@@ -18,7 +18,7 @@ ghost use Rattle.calls_words.specs.Calls.{timeWidth, callerOf, callable};
 ghost use Rattle.calls_words.specs.Figures.{figuresNumbers};
 ghost use Rattle.exports_book.specs.Reading.{Reads, ReadsValues};
 ghost use Rattle.exports_book.specs.Writing.{toldAs, outboundIn, bytesOut, Finishes, OpensTo, frameNumbers};
-ghost use Rattle.exports_book.specs.Tally.{rowsAfter};
+ghost use Rattle.calls_words.specs.Tally.{rowsAfter};
 
 // The number of an opening that is refused.
 const REFUSED: u64 = 41;
