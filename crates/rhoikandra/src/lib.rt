@@ -6,7 +6,7 @@ ghost use lib.ListN.{length};
 ghost use Rattle.lists.specs.Lists.{pasted};
 ghost use Rattle.framing.specs.Framing.{nextFrame};
 ghost use Rattle.exports_book.specs.Writing.{frameNumbers};
-ghost use Rattle.exports_book.specs.Tally.{rowsAfter};
+ghost use Rattle.calls_words.specs.Tally.{rowsAfter};
 ghost use Rattle.calls_words.specs.Calls.{Calls};
 ghost use Rattle.calls_words.specs.Opening.{Opening};
 ghost use Rattle.calls_words.specs.Figures.{figuresIn, figuresNumbers};
