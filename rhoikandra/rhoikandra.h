@@ -8,7 +8,8 @@
 /* A book is kept as words: 42 for each of 64 trades (ID 16, its length, seller 4, buyer 4, contra 4, CUSIP 9, settlement, price,
    par, open par), then the number of trades, 32 holidays, their number, subscriber 4, connection 4, the four limits, the last
    message ID, the last outbound number, whether a number was received, the last one, the expected one, and the live pools. A byte
-   takes a word. Opening sets open pars, line and live pools itself: zeros will do. */
+   takes a word. Opening sets open pars, line and live pools itself, and asks nothing
+   of them, nor of words past the trades and the holidays that are counted: these it sets to zeros. */
 #define RHOIKANDRA_BOOK_WORDS 2740
 #define RHOIKANDRA_TRADE_WORDS 42
 #define RHOIKANDRA_TRADE_LENGTH 16
@@ -53,9 +54,11 @@ typedef struct {
 /* Opens a book over a table of at most 4,096 records: 0, or 41 and everything stays. */
 uint64_t rhoikandra_open(uint64_t *book, size_t book_len, rhoikandra_pool *pools, size_t pools_len);
 
-/* Puts a frame's body to a book. said gets two numbers: 0 and the message ID, 1 and the number of a rejection, or 2 and that of a DK.
-   time has six bytes. A damaged book is refused with 42, and everything stays. seed is a random number, drawn once or for each call:
-   no answer depends on it, and while whoever sends frames does not know it, no choice of pools makes a call slow. */
+/* Puts a frame's body to a book. said gets three numbers: 0 and the message ID, 1 and the number of a rejection, or 2 and that of a
+   DK; then how many bytes at the front of out are the call's own and are to be sent: 0, 64 or 217. time has six bytes: any other
+   number is refused with 90. Words that are no book's and a damaged book are refused with 42. After both everything stays. A said of
+   fewer than three numbers stays, though the call is made. seed is a random number, drawn once or for each call: no answer depends on
+   it, and while whoever sends frames does not know it, no choice of pools makes a call slow. */
 void rhoikandra_step(uint64_t *book, size_t book_len, rhoikandra_pool *pools, size_t pools_len, const uint8_t *body, size_t body_len,
                      const uint8_t *time, size_t time_len, uint64_t seed, uint8_t *out, size_t out_len, uint64_t *said, size_t said_len);
 
@@ -68,7 +71,7 @@ void rhoikandra_figures(const uint64_t *book, size_t book_len, const rhoikandra_
 #define RHOIKANDRA_TALLY_ROWS 4
 typedef uint32_t rhoikandra_tally_row[3];
 
-/* Counts the answer to a frame's body, from the two numbers that rhoikandra_step wrote. A full cell stays full; other types and the
+/* Counts the answer to a frame's body, from the first two numbers that rhoikandra_step wrote. A full cell stays full; other types and the
    refusals 10, 11 and 41 to 44 are not counted. A tally that is not four rows, or numbers that no answer says: everything stays. */
 void rhoikandra_tally(rhoikandra_tally_row *tally, size_t tally_len, const uint8_t *body, size_t body_len, const uint64_t *said,
                       size_t said_len);

@@ -136,7 +136,7 @@ fn time_by(
     desk: &Desk,
     bodies: &[Vec<u8>],
     rounds: usize,
-    call: impl Fn(&mut rhoikandra::Book, &[u8], &[u8; 6], &mut [u8]) -> rhoikandra::Answer,
+    call: impl Fn(&mut rhoikandra::Book, &[u8], &[u8; 6], &mut [u8]) -> rhoikandra::Stepped,
 ) -> f64 {
     let before = held(&desk.book, &desk.table);
     let mut client = before.clone();
@@ -161,7 +161,7 @@ fn time_by(
             black_box(frame_call(&mut book, &mut table, &mut output, b"000000", black_box(body), Default::default()));
         reference.take(at, began.elapsed());
 
-        assert_eq!(told(answer), step.answer, "{name}");
+        assert_eq!(told(answer.answer), step.answer, "{name}");
         if !answers.contains(&step.answer) {
             answers.push(step.answer);
         }

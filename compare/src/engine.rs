@@ -41,17 +41,21 @@ pub fn opening(values: &OpeningValues) -> Opening {
     }
 }
 
-/// The places of a trade's CUSIP and open par among its words, the words of a trade, and the trades that there is room for.
-const CUSIP: usize = 29;
-const LEFT: usize = 41;
+/// The place of a trade's open par among its words, the words of a trade, and the trades that there is room for; where the
+/// words after the trades begin, and where the holidays and the line stand among them.
+const OPEN_PAR: usize = 41;
 const TRADE_WORDS: usize = 42;
 const TRADES_MAX: usize = 64;
+const REST: usize = 2688;
+const HOLIDAYS: usize = 1;
+const HOLIDAYS_MAX: usize = 32;
+const RECEIVED: usize = 48;
 
 /// The words of a book: those of its values, with open pars, line and live pools.
 pub fn words(book: &Book) -> Vec<u64> {
     let mut words = opening(&book.values).words();
     for (trade, &left) in book.open_par_cents.iter().enumerate().take(TRADES_MAX) {
-        words[trade * TRADE_WORDS + LEFT] = left;
+        words[trade * TRADE_WORDS + OPEN_PAR] = left;
     }
     let line = words.len() - 4;
     words[line..].copy_from_slice(&[
@@ -63,22 +67,33 @@ pub fn words(book: &Book) -> Vec<u64> {
     words
 }
 
-/// The words of a book whose places past its trades hold what they hold in other words: nothing reads or writes them.
-pub fn words_over(book: &Book, others: &[u64]) -> Vec<u64> {
+/// The words after a call, from those before it: past the trades an accepted message leaves zeros and any other what stood
+/// there, and past the holidays zeros stand after every answer that is told.
+pub fn words_after(book: &Book, before: &[u64], answer: Answer, silent: bool) -> Vec<u64> {
     let mut words = words(book);
-    let past = book.values.trades.len() * TRADE_WORDS..TRADES_MAX * TRADE_WORDS;
-    words[past.clone()].copy_from_slice(&others[past]);
+    if silent {
+        return before.to_vec();
+    }
+    if answer != Answer::Accepted {
+        let past = book.values.trades.len() * TRADE_WORDS..TRADES_MAX * TRADE_WORDS;
+        words[past.clone()].copy_from_slice(&before[past]);
+    }
     words
 }
 
-/// Fills the places past a book's trades with its first trade under a CUSIP that no trade of a random day has.
-pub fn fill_past_trades(words: &mut [u64], trades: usize) {
-    for place in trades..TRADES_MAX {
-        words.copy_within(..TRADE_WORDS, place * TRADE_WORDS);
-        for (at, byte) in b"NONE00000".iter().enumerate() {
-            words[place * TRADE_WORDS + CUSIP + at] = u64::from(*byte);
-        }
+/// Puts any words past a book's trades and holidays, of which no call asks anything.
+pub fn fill_past(words: &mut [u64], values: &OpeningValues, mut word: impl FnMut() -> u64) {
+    words[values.trades.len() * TRADE_WORDS..TRADES_MAX * TRADE_WORDS].fill_with(&mut word);
+    let holidays = REST + HOLIDAYS;
+    words[holidays + values.holidays.len()..holidays + HOLIDAYS_MAX].fill_with(&mut word);
+}
+
+/// Puts any words where opening sets them itself: open pars, line and live pools.
+pub fn fill_opened(words: &mut [u64], mut word: impl FnMut() -> u64) {
+    for trade in 0..TRADES_MAX {
+        words[trade * TRADE_WORDS + OPEN_PAR] = word();
     }
+    words[REST + RECEIVED..].fill_with(&mut word);
 }
 
 /// The reference's record as the engine's.

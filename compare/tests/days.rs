@@ -5,7 +5,7 @@ use std::collections::BTreeMap;
 use std::path::Path;
 
 use compare::cases::Cases;
-use compare::engine::{fill_past_trades, held, same_table, told, words_over};
+use compare::engine::{fill_opened, fill_past, held, same_table, told, words, words_after};
 use reference::answer::{Answer, Number, OPENING, SILENT, UNSOUND_BOOK};
 use reference::book::{Book, PoolRecord};
 use reference::damage::{scribble, sound_book, Lent, BOOK_DAMAGES, OPENING_DAMAGES};
@@ -62,8 +62,12 @@ fn both(
     let (time, length, body) = call;
     let mut out = random.bytes(length);
     let mut output = out.clone();
-    let words = client.words.clone();
-    let said = client.step_by(random.number(), body, time, &mut out);
+    // What stands past the trades and the holidays is no call's to ask.
+    if random.percent(5) {
+        fill_past(&mut client.words, &book.values, || random.number());
+    }
+    let before_words = client.words.clone();
+    let rhoikandra::Stepped { answer: said, written } = client.step_by(random.number(), body, time, &mut out);
     let answer = told(said);
     let before = tally.rows;
     tally.count(body, said);
@@ -81,7 +85,14 @@ fn both(
         assert_eq!(said, rhoikandra::Answer::Accepted(book.values.last_message_id));
     }
     assert_eq!(out, output);
-    assert_eq!(client.words, words_over(book, &words));
+    let own = match SILENT.contains(&answer.code()) {
+        true => 0,
+        false if output[1..].starts_with(b"TX") => 217,
+        false => 64,
+    };
+    assert_eq!(written, own, "the bytes to send after {answer:?}");
+    let silent = SILENT.contains(&answer.code());
+    assert_eq!(client.words, words_after(book, &before_words, answer, silent));
     assert!(same_table(client, table), "the tables differ after {answer:?}");
     *met.codes.entry(answer.code()).or_default() += 1;
 }
@@ -90,18 +101,17 @@ fn both(
 fn whole(day: &Day, cases: &mut Cases, met: &mut Met) {
     let mut table = vec![PoolRecord::EMPTY; day.records];
     let mut book = reference::opening::open(&day.opening, &mut table).expect("an opening in range");
-    // Opening sets the live pools itself, whatever the words say of them, and zeroes the table, whatever it holds.
+    // Opening sets open pars, line and live pools itself, whatever the words say of them, and zeroes what stands past the counts, and the table.
     let used = cases.random.percent(30);
     let lent: Vec<PoolRecord> =
         table.iter().map(|&record| if used { any_record(&mut cases.random) } else { record }).collect();
     let mut client = held(&book, &lent);
-    *client.words.last_mut().unwrap() = cases.random.below(9);
     if cases.random.percent(30) {
-        fill_past_trades(&mut client.words, day.opening.trades.len());
+        fill_past(&mut client.words, &day.opening, || cases.random.number());
+        fill_opened(&mut client.words, || cases.random.number());
     }
-    let filled = client.words.clone();
     assert_eq!(client.open(), Ok(()), "the day of seed {}", day.seed);
-    assert_eq!(client.words, words_over(&book, &filled));
+    assert_eq!(client.words, words(&book));
     assert!(same_table(&client, &table), "the table is zeros after opening");
     let mut tally = any_tally(&mut cases.random);
     for call in &day.calls {
@@ -232,7 +242,7 @@ fn damaged_books() {
             let before = client.clone();
             let mut out = cases.random.bytes(217);
             let kept = out.clone();
-            let answer = client.step(&body, b"000000", &mut out);
+            let answer = client.step(&body, b"000000", &mut out).answer;
             assert_eq!(told(answer), Answer::Rejected(UNSOUND_BOOK), "{name}");
             assert_eq!(client.figures(0), None, "{name}");
             assert!(client == before && out == kept, "{name}: something moved");
@@ -304,7 +314,7 @@ fn one_place_after_the_live_pools() {
             }
             let before = client.clone();
             let mut out = cases.random.bytes(217);
-            let answer = told(client.step(&body, b"000000", &mut out));
+            let answer = told(client.step(&body, b"000000", &mut out).answer);
             assert_eq!(answer, Answer::Rejected(UNSOUND_BOOK), "record {record}, place {place}");
             assert!(client == before);
             cases.count();
@@ -335,7 +345,7 @@ fn images_that_are_no_book() {
         let before = client.clone();
         let mut out = cases.random.bytes(217);
         let kept = out.clone();
-        assert_eq!(told(client.step(&body, b"000000", &mut out)), Answer::Rejected(UNSOUND_BOOK));
+        assert_eq!(told(client.step(&body, b"000000", &mut out).answer), Answer::Rejected(UNSOUND_BOOK));
         assert!(client == before && out == kept);
         cases.count();
     }

@@ -5,6 +5,7 @@ use reference::answer::{Answer, UNSOUND_BOOK};
 use reference::desk::{pool, Desk};
 use reference::opening::TABLE_MAX;
 use rhoikandra::exported::{rhoikandra_figures, rhoikandra_step};
+use rhoikandra::numbers::TIME_REFUSED;
 use rhoikandra::{Book, Pool, OUTPUT_LENGTH};
 
 const TRADES_MAX: usize = 64;
@@ -53,14 +54,14 @@ fn time_bytes_that_are_not_six() {
         let (desk, body) = desk(trades);
         let before = held(&desk.book, &desk.table);
         for time in [&b""[..], b"09300", b"0930000"] {
-            let (mut book, mut out, mut said) = (before.clone(), [7; OUTPUT_LENGTH], [9; 2]);
+            let (mut book, mut out, mut said) = (before.clone(), [7; OUTPUT_LENGTH], [9; 3]);
             step(&mut book, &body, time, &mut out, &mut said);
-            assert_eq!(said, [1, u64::from(UNSOUND_BOOK)], "{} time bytes", time.len());
+            assert_eq!(said, [1, u64::from(TIME_REFUSED), 0], "{} time bytes", time.len());
             assert!(book == before && out == [7; OUTPUT_LENGTH], "something moved");
         }
-        let (mut book, mut out, mut said) = (before.clone(), [7; OUTPUT_LENGTH], [9; 2]);
+        let (mut book, mut out, mut said) = (before.clone(), [7; OUTPUT_LENGTH], [9; 3]);
         step(&mut book, &body, b"093000", &mut out, &mut said);
-        assert_eq!(said, [0, 1]);
+        assert_eq!(said, [0, 1, 64]);
     }
 }
 
@@ -70,8 +71,8 @@ fn an_answer_without_room() {
     let (desk, body) = desk(1);
     let mut expected = held(&desk.book, &desk.table);
     let mut written = [7; OUTPUT_LENGTH];
-    assert_eq!(told(expected.step(&body, b"093000", &mut written)), Answer::Accepted);
-    for room in 0..4 {
+    assert_eq!(told(expected.step(&body, b"093000", &mut written).answer), Answer::Accepted);
+    for room in 0..5 {
         let mut book = held(&desk.book, &desk.table);
         let (mut out, mut said) = ([7; OUTPUT_LENGTH], vec![9; room]);
         step(&mut book, &body, b"093000", &mut out, &mut said);
@@ -79,8 +80,9 @@ fn an_answer_without_room() {
         let told: &[u64] = match room {
             0 => &[],
             1 => &[9],
-            2 => &[0, 1],
-            _ => &[0, 1, 9],
+            2 => &[9, 9],
+            3 => &[0, 1, 64],
+            _ => &[0, 1, 64, 9],
         };
         assert_eq!(said, told);
     }
@@ -123,9 +125,9 @@ fn a_table_too_long() {
     book.pools.resize(TABLE_MAX + 1, Pool::default());
     let before = book.clone();
     let mut out = [7; OUTPUT_LENGTH];
-    assert_eq!(told(book.step(&body, b"093000", &mut out)), Answer::Rejected(UNSOUND_BOOK));
+    assert_eq!(told(book.step(&body, b"093000", &mut out).answer), Answer::Rejected(UNSOUND_BOOK));
     assert_eq!(book.figures(0), None);
     assert!(book == before && out == [7; OUTPUT_LENGTH]);
     book.pools.truncate(TABLE_MAX);
-    assert_eq!(told(book.step(&body, b"093000", &mut out)), Answer::Accepted);
+    assert_eq!(told(book.step(&body, b"093000", &mut out).answer), Answer::Accepted);
 }

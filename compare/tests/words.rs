@@ -109,10 +109,13 @@ fn the_wrapper_has_the_engines_sizes() {
         "the comparison",
         &constants("compare/src/engine.rs"),
         &[
-            ("CUSIP", &["CUSIP"]),
-            ("LEFT", &["OPEN_PAR"]),
+            ("OPEN_PAR", &["OPEN_PAR"]),
             ("TRADE_WORDS", &["TRADE_WORDS"]),
             ("TRADES_MAX", &["TRADES_MAX"]),
+            ("REST", &["REST"]),
+            ("HOLIDAYS", &["HOLIDAYS"]),
+            ("HOLIDAYS_MAX", &["HOLIDAYS_MAX"]),
+            ("RECEIVED", &["RECEIVED"]),
         ],
     );
 }

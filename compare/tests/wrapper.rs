@@ -19,7 +19,7 @@ fn three_messages_and_their_figures() {
             "CC accepted under 2; open par 100000000, standing millions 2",
             "DK accepted under 3; open par 200000000, standing millions 1",
             "DK rejected with 30: no live pool under the target; open par 200000000, standing millions 1",
-            "3 accepted, 1 rejected, 0 DKed",
+            "3 accepted, 1 rejected, 0 DKed; 256 bytes sent",
         ]
     );
 }
@@ -76,7 +76,7 @@ fn spare_bytes() {
     assert!(book.pools.iter().all(|pool| pool.spare == [0; 2]));
 
     let message = three_messages::body("ON", 1, 1, 0, &[("AA00001", 1_000_000, 100_000_000, "0001")]);
-    assert_eq!(book.step(&message, b"093000", &mut [0; OUTPUT_LENGTH]), Answer::Accepted(1));
+    assert_eq!(book.step(&message, b"093000", &mut [0; OUTPUT_LENGTH]).answer, Answer::Accepted(1));
     assert!(book.pools.iter().all(|pool| pool.spare == [0; 2]));
 
     let bytes = book.to_bytes();

@@ -22,6 +22,7 @@ static rhoikandra_pool pools[RECORDS];
 static rhoikandra_tally_row tally[RHOIKANDRA_TALLY_ROWS];
 static uint8_t tape[4096];
 static size_t taped;
+static size_t sent;
 
 /* A byte takes a word. */
 static void put(size_t at, const char *text) {
@@ -75,12 +76,18 @@ static uint64_t seed(void) {
     return drawn;
 }
 
+/* Sends what a call wrote on the line, and nothing else of the output: here the line is only counted. */
+static size_t send_line(const uint8_t *bytes, size_t length) {
+    return length == 0 || bytes[0] == START ? length : 0;
+}
+
 /* Puts the body of a frame to the book. */
-static void send(const uint8_t *body, size_t length) {
+static void step(const uint8_t *body, size_t length) {
     uint8_t out[RHOIKANDRA_OUTPUT_LENGTH];
-    uint64_t said[2], figures[3];
-    rhoikandra_step(book, RHOIKANDRA_BOOK_WORDS, pools, RECORDS, body, length, (const uint8_t *)"093000", 6, seed(), out, sizeof out, said, 2);
-    rhoikandra_tally(tally, RHOIKANDRA_TALLY_ROWS, body, length, said, 2);
+    uint64_t said[3], figures[3];
+    rhoikandra_step(book, RHOIKANDRA_BOOK_WORDS, pools, RECORDS, body, length, (const uint8_t *)"093000", 6, seed(), out, sizeof out, said, 3);
+    sent += send_line(out, said[2]);
+    rhoikandra_tally(tally, RHOIKANDRA_TALLY_ROWS, body, length, said, 3);
     rhoikandra_figures(book, RHOIKANDRA_BOOK_WORDS, pools, RECORDS, 0, seed(), figures, 3);
     printf("%.2s %s %llu; open par %llu, standing millions %llu\n", (const char *)body,
            said[0] == 0   ? "accepted under"
@@ -111,12 +118,12 @@ int main(void) {
 
     uint64_t found[4] = {0, 0, 0, 0};
     while (rhoikandra_frame(tape, taped, found[3], found, 4), found[0] == 1)
-        send(tape + found[1], found[2] - found[1]);
+        step(tape + found[1], found[2] - found[1]);
 
     unsigned sums[3] = {0, 0, 0};
     for (int row = 0; row < RHOIKANDRA_TALLY_ROWS; row++)
         for (int column = 0; column < 3; column++)
             sums[column] += tally[row][column];
-    printf("%u accepted, %u rejected, %u DKed\n", sums[0], sums[1], sums[2]);
+    printf("%u accepted, %u rejected, %u DKed; %zu bytes sent\n", sums[0], sums[1], sums[2], sent);
     return EXIT_SUCCESS;
 }

@@ -1,6 +1,6 @@
 //! Opens a book, sends an ON, a CC and a DK as frames of a tape, and prints the figures after each, and how the answers were at the end.
 
-use rhoikandra::{numbers, Answer, Book, Limits, Opening, Tally, Trade, OUTPUT_LENGTH};
+use rhoikandra::{Answer, Book, Limits, OUTPUT_LENGTH, Opening, Stepped, Tally, Trade, numbers};
 
 /// The bytes that start and end a frame.
 const START: u8 = 2;
@@ -71,10 +71,13 @@ pub fn lines() -> Vec<String> {
     ];
     let tape: Vec<u8> = messages.iter().flat_map(|message| [&[START][..], message, &[END]].concat()).collect();
     let mut tally = Tally::default();
+    // What goes out on the line: exactly the bytes that each call wrote.
+    let mut line: Vec<u8> = Vec::new();
     let mut lines = Vec::new();
     for message in rhoikandra::frames(&tape) {
         let mut output = [0; OUTPUT_LENGTH];
-        let answer = book.step(message, b"093000", &mut output);
+        let Stepped { answer, written } = book.step(message, b"093000", &mut output);
+        line.extend(&output[..written]);
         tally.count(message, answer);
         let figures = book.figures(0).expect("the book is sound");
         lines.push(format!(
@@ -86,7 +89,7 @@ pub fn lines() -> Vec<String> {
         ));
     }
     let [accepted, rejected, dked] = [0, 1, 2].map(|column| tally.rows.iter().map(|row| row[column]).sum::<u32>());
-    lines.push(format!("{accepted} accepted, {rejected} rejected, {dked} DKed"));
+    lines.push(format!("{accepted} accepted, {rejected} rejected, {dked} DKed; {} bytes sent", line.len()));
     lines
 }
 

@@ -32,8 +32,8 @@ pub enum Answer {
 
 impl Answer {
     /// From the two numbers that the engine writes.
-    fn from_said(said: [u64; 2]) -> Answer {
-        match said {
+    fn from_said(first: u64, second: u64) -> Answer {
+        match [first, second] {
             [0, id] => Answer::Accepted(id),
             [1, number] => Answer::Rejected(number as Number),
             [_, number] => Answer::Dked(number as Number),
@@ -48,6 +48,13 @@ impl Answer {
             Answer::Dked(number) => [2, u64::from(number)],
         }
     }
+}
+
+/// What a frame call gives: the answer, and how many bytes of the output are its own: 0, 64 or 217.
+#[derive(Clone, Copy, Debug, PartialEq, Eq)]
+pub struct Stepped {
+    pub answer: Answer,
+    pub written: usize,
 }
 
 /// The answers of a day, counted: a row for ON, CC, DK and CX, each with accepted, rejected and DKed. A full cell stays full.
@@ -178,15 +185,15 @@ impl Book {
         }
     }
 
-    /// Puts a frame's body to the book. TX and AA stand at the output's head; the rest of it stays.
-    pub fn step(&mut self, body: &[u8], time: &[u8; 6], output: &mut [u8]) -> Answer {
+    /// Puts a frame's body to the book. TX and AA stand at the output's head, and are to be sent; the rest of it stays.
+    pub fn step(&mut self, body: &[u8], time: &[u8; 6], output: &mut [u8]) -> Stepped {
         self.step_by(seed(), body, time, output)
     }
 
     /// The same by a seed of one's own, for a run that is to be repeated. No answer depends on it.
-    pub fn step_by(&mut self, seed: u64, body: &[u8], time: &[u8; 6], output: &mut [u8]) -> Answer {
+    pub fn step_by(&mut self, seed: u64, body: &[u8], time: &[u8; 6], output: &mut [u8]) -> Stepped {
         let Book { words, pools } = self;
-        let mut said = [0; 2];
+        let mut said = [0; 3];
         unsafe {
             exported::rhoikandra_step(
                 words.as_mut_ptr(),
@@ -204,7 +211,8 @@ impl Book {
                 said.len(),
             )
         };
-        Answer::from_said(said)
+        let [first, second, written] = said;
+        Stepped { answer: Answer::from_said(first, second), written: written as usize }
     }
 
     /// The figures of a trade, counted from 0 in opening order; none where there is no such trade or the book is damaged.

@@ -15,7 +15,10 @@ const fn of(number: Number, cause: &'static str, acts: &'static str, remedy: &'s
     Meaning { number, cause, acts, remedy }
 }
 
-/// All numbers, in the order of the checks.
+/// The number of a frame call whose time bytes are not six. The papers have no number for it, and [`crate::Book`] lends six.
+pub const TIME_REFUSED: Number = 90;
+
+/// All numbers of the paper, in the order of the checks.
 pub const ALL: [Meaning; 30] = [
     of(41, "an opening value out of range", "operator", "mend the opening's values and open again"),
     of(42, "book or table damaged since the last call", "operator", "restore the last good copy"),

@@ -1,3 +1,3 @@
 pub mod Reading
-mod Writing
+pub mod Writing
 pub mod Counting

@@ -55,11 +55,11 @@ module _ (c : Call) where
       room e = omega (arith, ltb-false 999997 (last .0) (or-right (leb elevenDigitsMax (c .book .values .lastMessageId)) (outboundSpent last) (told-numbers e)))
 
       go : (s : Bool) → isSilent (answerOf c) ≡ s
-          → cond s 0 (cond (eqb (last .0 + 1) (cond s last (nextOutbound (beforeAa (c .book) (c .body))) .0)) 64 217) ≡ cond s 0 (cond (gapAt (c .book) (c .body)) 217 64)
+          → _≡_ {A = ℕ} (cond s 0 (cond (eqb (last .0 + 1) (cond s last (nextOutbound (beforeAa (c .book) (c .body))) .0)) 64 217)) (cond s 0 (cond (gapAt (c .book) (c .body)) 217 64))
       go true e = refl
       go false e = by (gapAt (c .book) (c .body)) (room e)
         where
-          by : (g : Bool) → last .0 < 999998 → cond (eqb (last .0 + 1) (nextOutbound (cond g (nextOutbound last) last) .0)) 64 217 ≡ cond g 217 64
+          by : (g : Bool) → last .0 < 999998 → _≡_ {A = ℕ} (cond (eqb (last .0 + 1) (nextOutbound (cond g (nextOutbound last) last) .0)) 64 217) (cond g 217 64)
           by true h =
               let n = next-one last (omega arith) in
               let m : nextOutbound (nextOutbound last) .0 ≡ last .0 + 2 = next-one (nextOutbound last) (omega arith) ∙ omega arith in
