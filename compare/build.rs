@@ -4,5 +4,11 @@
 mod link;
 
 fn main() {
-    link::archives(&["compare_line", "compare_terms", "compare_pools", "compare_output", "compare_tally"]);
+    link::archives(&[
+        "compare_line",
+        "compare_terms",
+        "compare_pools",
+        "compare_output",
+        "compare_tally",
+    ]);
 }

@@ -272,7 +272,14 @@ pub fn tally_raise(rows: &mut [[u32; 3]], kind: u64, outcome: u64) {
 /// The tally after a frame call, by the numbers that its answer says.
 pub fn tally(rows: &mut [[u32; 3]], body: &[u8], said: &[u64]) {
     unsafe {
-        rhoikandra_tally(rows.as_mut_ptr(), rows.len(), body.as_ptr(), body.len(), said.as_ptr(), said.len())
+        rhoikandra_tally(
+            rows.as_mut_ptr(),
+            rows.len(),
+            body.as_ptr(),
+            body.len(),
+            said.as_ptr(),
+            said.len(),
+        )
     }
 }
 

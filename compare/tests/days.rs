@@ -35,8 +35,10 @@ impl Met {
 const FRAMES: u64 = 200_000;
 const LONGER: &str = "COMPARE_FRAMES";
 /// Every number that a frame can get from a sound book, and 0 for accepted.
-const CODES: [Number; 29] =
-    [0, 10, 11, 12, 13, 14, 15, 16, 17, 18, 19, 20, 21, 22, 23, 24, 25, 30, 31, 32, 33, 34, 35, 36, 37, 38, 40, 43, 44];
+const CODES: [Number; 29] = [
+    0, 10, 11, 12, 13, 14, 15, 16, 17, 18, 19, 20, 21, 22, 23, 24, 25, 30, 31, 32, 33, 34, 35, 36,
+    37, 38, 40, 43, 44,
+];
 
 /// A tally to begin with: mostly empty, else with cells full or nearly so.
 fn any_tally(random: &mut Random) -> Tally {
@@ -67,7 +69,8 @@ fn both(
         fill_past(&mut client.words, &book.values, || random.number());
     }
     let before_words = client.words.clone();
-    let rhoikandra::Stepped { answer: said, written } = client.step_by(random.number(), body, time, &mut out);
+    let rhoikandra::Stepped { answer: said, written } =
+        client.step_by(random.number(), body, time, &mut out);
     let answer = told(said);
     let before = tally.rows;
     tally.count(body, said);
@@ -78,7 +81,10 @@ fn both(
     if SILENT.contains(&answer.code()) || !of_four {
         assert_eq!(tally.rows, before, "{answer:?} is not in the tally");
     } else if tally.rows == before {
-        assert!(before.iter().flatten().any(|cell| *cell == u32::MAX), "{answer:?} is in the tally");
+        assert!(
+            before.iter().flatten().any(|cell| *cell == u32::MAX),
+            "{answer:?} is in the tally"
+        );
         met.full += 1;
     }
     if answer == Answer::Accepted {
@@ -103,8 +109,10 @@ fn whole(day: &Day, cases: &mut Cases, met: &mut Met) {
     let mut book = reference::opening::open(&day.opening, &mut table).expect("an opening in range");
     // Opening sets open pars, line and live pools itself, whatever the words say of them, and zeroes what stands past the counts, and the table.
     let used = cases.random.percent(30);
-    let lent: Vec<PoolRecord> =
-        table.iter().map(|&record| if used { any_record(&mut cases.random) } else { record }).collect();
+    let lent: Vec<PoolRecord> = table
+        .iter()
+        .map(|&record| if used { any_record(&mut cases.random) } else { record })
+        .collect();
     let mut client = held(&book, &lent);
     if cases.random.percent(30) {
         fill_past(&mut client.words, &day.opening, || cases.random.number());
@@ -117,7 +125,7 @@ fn whole(day: &Day, cases: &mut Cases, met: &mut Met) {
     for call in &day.calls {
         // A book that was written down and read again is the same book.
         if cases.random.percent(2) {
-            client = rhoikandra::Book::from_bytes(&client.to_bytes()).expect("a book's bytes");
+            client = rhoikandra::Book::load(&client.save()).expect("a saved book");
         }
         let lent = (&call.time, call.output_length, &call.body[..]);
         both(&mut client, &mut book, &mut table, &mut tally, &mut cases.random, lent, met);
@@ -128,7 +136,10 @@ fn whole(day: &Day, cases: &mut Cases, met: &mut Met) {
         assert_eq!(figures.is_some(), trade < day.opening.trades.len());
         if let Some(figures) = figures {
             assert_eq!(figures.open_par, book.open_par_cents[trade]);
-            assert_eq!(u128::from(figures.standing_millions), book.standing_millions(&table, trade));
+            assert_eq!(
+                u128::from(figures.standing_millions),
+                book.standing_millions(&table, trade)
+            );
         }
     }
 }
@@ -184,11 +195,16 @@ fn on_either_side_of_few_rows() {
                     next += count;
                     (next - count..next).map(|number| pool(number, 100)).collect::<Vec<_>>()
                 };
-                let ends = |pools: Vec<DraftPool>| pools.into_iter().map(|pool| (pool, b"0999")).collect::<Vec<_>>();
+                let ends = |pools: Vec<DraftPool>| {
+                    pools.into_iter().map(|pool| (pool, b"0999")).collect::<Vec<_>>()
+                };
                 for left in [250, 250, (sum - brings).saturating_sub(500)] {
                     let count = left.min(sum - brings - desk.book.live_count as u64);
                     if count > 0 {
-                        assert_eq!(desk.send(&desk.on(0, 0, &ends(pools(count)))), Answer::Accepted);
+                        assert_eq!(
+                            desk.send(&desk.on(0, 0, &ends(pools(count)))),
+                            Answer::Accepted
+                        );
                     }
                 }
                 assert_eq!(desk.book.live_count as u64, sum - brings);
@@ -203,7 +219,15 @@ fn on_either_side_of_few_rows() {
                     let mut client = held(&book, &table);
                     let mut tally = any_tally(&mut cases.random);
                     let call = (b"093000", 217, &body[..]);
-                    both(&mut client, &mut book, &mut table, &mut tally, &mut cases.random, call, &mut met);
+                    both(
+                        &mut client,
+                        &mut book,
+                        &mut table,
+                        &mut tally,
+                        &mut cases.random,
+                        call,
+                        &mut met,
+                    );
                     cases.count();
                 }
             }
@@ -339,13 +363,17 @@ fn images_that_are_no_book() {
             4 => client.words[received + 1] = 1 << cases.random.between(32, 63),
             _ => {
                 let byte = cases.random.below(16) as usize;
-                client.words[byte] = 256 + cases.random.pick(&[0, 0, 1]) * (cases.random.number() / 2);
+                client.words[byte] =
+                    256 + cases.random.pick(&[0, 0, 1]) * (cases.random.number() / 2);
             }
         }
         let before = client.clone();
         let mut out = cases.random.bytes(217);
         let kept = out.clone();
-        assert_eq!(told(client.step(&body, b"000000", &mut out).answer), Answer::Rejected(UNSOUND_BOOK));
+        assert_eq!(
+            told(client.step(&body, b"000000", &mut out).answer),
+            Answer::Rejected(UNSOUND_BOOK)
+        );
         assert!(client == before && out == kept);
         cases.count();
     }
@@ -357,7 +385,11 @@ fn any_record(random: &mut Random) -> PoolRecord {
         message_id: random.number(),
         ordinal: random.below(5),
         trade: random.below(3) as usize,
-        matched: MatchedFields { lot_id: random.text(), pool_number: random.text(), original_face: random.text() },
+        matched: MatchedFields {
+            lot_id: random.text(),
+            pool_number: random.text(),
+            original_face: random.text(),
+        },
         current_face_cents: random.number(),
         kind: random.below(5) as u32,
         lot_millions: random.below(200),
@@ -372,11 +404,16 @@ fn damaged_openings() {
             let (book, _) = sound_book();
             let mut lent = Lent { values: book.values, records: cases.random.below(200) as usize };
             damage(&mut lent);
-            let mut table: Vec<PoolRecord> = (0..lent.records).map(|_| any_record(&mut cases.random)).collect();
+            let mut table: Vec<PoolRecord> =
+                (0..lent.records).map(|_| any_record(&mut cases.random)).collect();
             let shown = Book { values: lent.values.clone(), open_par_cents: Vec::new(), ..book };
             let mut client = held(&shown, &table);
             let before = client.clone();
-            assert_eq!(reference::opening::open(&lent.values, &mut table).err(), Some(OPENING), "{name}");
+            assert_eq!(
+                reference::opening::open(&lent.values, &mut table).err(),
+                Some(OPENING),
+                "{name}"
+            );
             assert_eq!(client.open(), Err(OPENING), "{name}");
             assert!(client == before, "{name}: something moved");
             assert!(same_table(&client, &table), "{name}: the reference moved something");

@@ -45,8 +45,10 @@ fn rows_that_are_not_four_stay() {
 #[test]
 fn numbers_that_no_answer_says() {
     let mut cases = Cases::of("numbers that no answer says");
-    let named = |number| u16::try_from(number).is_ok_and(|number| numbers::meaning(number).is_some());
-    let silent = |number| number == u64::from(OPENING) || SILENT.iter().any(|&one| u64::from(one) == number);
+    let named =
+        |number| u16::try_from(number).is_ok_and(|number| numbers::meaning(number).is_some());
+    let silent =
+        |number| number == u64::from(OPENING) || SILENT.iter().any(|&one| u64::from(one) == number);
     for first in (0..5).chain([255, 256, 1 << 32, u64::MAX - 1, u64::MAX]) {
         for second in (0..300).chain([65_536 + 12, (1 << 32) + 12, u64::MAX]) {
             let mut rows = [[7; 3]; 4];

@@ -75,27 +75,21 @@ fn spare_bytes() {
     assert_eq!(book.pools, [Pool::default(); 64]);
     assert!(book.pools.iter().all(|pool| pool.spare == [0; 2]));
 
-    let message = three_messages::body("ON", 1, 1, 0, &[("AA00001", 1_000_000, 100_000_000, "0001")]);
+    let message =
+        three_messages::body("ON", 1, 1, 0, &[("AA00001", 1_000_000, 100_000_000, "0001")]);
     assert_eq!(book.step(&message, b"093000", &mut [0; OUTPUT_LENGTH]).answer, Answer::Accepted(1));
     assert!(book.pools.iter().all(|pool| pool.spare == [0; 2]));
 
-    let bytes = book.to_bytes();
+    let bytes = book.save();
     book.pools.iter_mut().for_each(|pool| pool.spare = [0xFF; 2]);
-    assert_eq!(book.to_bytes(), bytes);
-    assert_eq!(Book::from_bytes(&bytes), Some(book));
+    assert_eq!(book.save(), bytes);
+    assert_eq!(Book::load(&bytes), Ok(book));
 
     opening.trades[0].seller = opening.trades[0].buyer;
     let mut refused = Book::of(&opening, 64);
     refused.pools.fill(spent);
     assert_eq!(refused.open(), Err(41));
     assert!(refused.pools.iter().all(|pool| *pool == spent && pool.spare == spent.spare));
-}
-
-#[test]
-fn bytes_that_are_no_book() {
-    assert_eq!(Book::from_bytes(&[]), None);
-    assert_eq!(Book::from_bytes(&[0; 8 * rhoikandra::BOOK_WORDS + 1]), None);
-    assert!(Book::from_bytes(&[0; 8 * rhoikandra::BOOK_WORDS + 2 * 70]).is_some());
 }
 
 #[test]

@@ -1,11 +1,13 @@
 //! The allocation book for Rust programs. Every call goes to the proved engine; this crate only lends it the memory.
 //!
-//! A [`Book`] is all that the engine keeps: words and the records of its table. It may be cloned, written to disk and
-//! handed back later. One that was damaged meanwhile is refused with 42 by the next call, and nothing moves.
+//! A [`Book`] is all that the engine keeps: words and the records of its table. It may be cloned, saved to a disk and
+//! loaded later ([`saved`] says what is wrong with bytes that changed meanwhile). One that was damaged in memory is refused
+//! with 42 by the next call where it can no longer have come about by calls, and nothing moves.
 
 pub mod exported;
 pub mod numbers;
 mod opening;
+pub mod saved;
 
 pub use opening::{Limits, Opening, Trade};
 
@@ -191,7 +193,13 @@ impl Book {
     }
 
     /// The same by a seed of one's own, for a run that is to be repeated. No answer depends on it.
-    pub fn step_by(&mut self, seed: u64, body: &[u8], time: &[u8; 6], output: &mut [u8]) -> Stepped {
+    pub fn step_by(
+        &mut self,
+        seed: u64,
+        body: &[u8],
+        time: &[u8; 6],
+        output: &mut [u8],
+    ) -> Stepped {
         let Book { words, pools } = self;
         let mut said = [0; 3];
         unsafe {
@@ -239,59 +247,13 @@ impl Book {
         let [known, open_par, standing_millions] = told;
         (known == 1).then_some(Figures { open_par, standing_millions })
     }
-
-    /// The book as bytes, for a disk.
-    pub fn to_bytes(&self) -> Vec<u8> {
-        let mut bytes: Vec<u8> = self.words.iter().flat_map(|word| word.to_le_bytes()).collect();
-        for pool in &self.pools {
-            bytes.extend(pool.to_bytes());
-        }
-        bytes
-    }
-
-    /// A book from such bytes; none where their length is no book's. What they say is judged by the next call.
-    pub fn from_bytes(bytes: &[u8]) -> Option<Book> {
-        let (words, pools) = bytes.split_at_checked(BOOK_WORDS * 8)?;
-        let words = words.chunks_exact(8).map(word).collect();
-        let records = pools.chunks_exact(POOL_BYTES);
-        records.remainder().is_empty().then(|| Book { words, pools: records.map(Pool::from_bytes).collect() })
-    }
-}
-
-/// The bytes of a record on a disk: six numbers, then the matched fields.
-const POOL_BYTES: usize = 6 * 8 + 22;
-
-fn word(bytes: &[u8]) -> u64 {
-    u64::from_le_bytes(bytes.try_into().expect("eight bytes"))
 }
 
 impl Pool {
     /// What a record says: its numbers and its matched fields.
     fn parts(&self) -> ([u64; 6], [u8; 6], [u8; 7], [u8; 9]) {
-        let numbers = [self.message, self.ordinal, self.trade, self.current, self.kind, self.millions];
+        let numbers =
+            [self.message, self.ordinal, self.trade, self.current, self.kind, self.millions];
         (numbers, self.lot, self.pool, self.original)
-    }
-
-    fn to_bytes(self) -> Vec<u8> {
-        let (numbers, lot, pool, original) = self.parts();
-        let numbers = numbers.into_iter().flat_map(u64::to_le_bytes);
-        numbers.chain(lot).chain(pool).chain(original).collect()
-    }
-
-    fn from_bytes(bytes: &[u8]) -> Pool {
-        let (numbers, fields) = bytes.split_at(6 * 8);
-        let number = |at: usize| word(&numbers[at * 8..][..8]);
-        Pool {
-            message: number(0),
-            ordinal: number(1),
-            trade: number(2),
-            lot: fields[..6].try_into().unwrap(),
-            pool: fields[6..13].try_into().unwrap(),
-            original: fields[13..].try_into().unwrap(),
-            spare: [0; 2],
-            current: number(3),
-            kind: number(4),
-            millions: number(5),
-        }
     }
 }
