@@ -36,8 +36,7 @@
 
 /* A record of the table: the message ID that brought the pool, its lot's ordinal there, its trade, the matched fields as bytes, its
    current face in cents, its lot's kind (1 good, 2 odd, 3 bad) and millions. A record that is not used is zeros. spare is no part of
-   a record: no call reads it, and a call may leave any bytes there, of the caller's stack too. Who saves the memory as it lies
-   clears it first with rhoikandra_clear_spare, or saves field by field. */
+   a record: no call reads it; an accepted opening clears it, and no frame call moves it, so that memory can be saved as it lies. */
 typedef struct {
     uint64_t message;
     uint64_t ordinal;
@@ -51,14 +50,17 @@ typedef struct {
     uint64_t millions;
 } rhoikandra_pool;
 
-/* Clears what is no part of the records, so that no stale byte is saved with them. */
-static inline void rhoikandra_clear_spare(rhoikandra_pool *pools, size_t pools_len) {
-    for (size_t i = 0; i < pools_len; i++)
-        pools[i].spare[0] = pools[i].spare[1] = 0;
-}
-
 /* Opens a book over a table of at most 4,096 records: 0, or 41 and everything stays. */
 uint64_t rhoikandra_open(uint64_t *book, size_t book_len, rhoikandra_pool *pools, size_t pools_len);
+
+/* What the engine leaves in spare is no part of its promise, so every opening goes by this one, which clears it. */
+static inline uint64_t rhoikandra_open_cleared(uint64_t *book, size_t book_len, rhoikandra_pool *pools, size_t pools_len) {
+    uint64_t number = rhoikandra_open(book, book_len, pools, pools_len);
+    for (size_t i = 0; number == 0 && i < pools_len; i++)
+        pools[i].spare[0] = pools[i].spare[1] = 0;
+    return number;
+}
+#define rhoikandra_open rhoikandra_open_cleared
 
 /* Puts a frame's body to a book. said gets three numbers: 0 and the message ID, 1 and the number of a rejection, or 2 and that of a
    DK; then how many bytes at the front of out are the call's own and are to be sent: 0, 64 or 217. time has six bytes: any other

@@ -109,7 +109,6 @@ int main(void) {
     memcpy(book + RHOIKANDRA_LIMITS, limits, sizeof limits);
     if (rhoikandra_open(book, RHOIKANDRA_BOOK_WORDS, pools, RECORDS) != 0)
         return EXIT_FAILURE;
-    rhoikandra_clear_spare(pools, RECORDS);
 
     /* Two good lots of one million each; then one of them is replaced; then the replacement is questioned, twice. */
     put_frame("ON", 1, 2, 0, (const struct pool[]){{"AA00001", "0001"}, {"AA00002", "0001"}}, 2);
