@@ -95,6 +95,15 @@ fn spare_bytes() {
     assert_eq!(book.step(&message, b"093000", &mut [0; OUTPUT_LENGTH]).answer, Answer::Accepted(1));
     assert!(book.pools.iter().all(|pool| pool.spare == [0; 2]));
 
+    // A CC and a DK close the table up.
+    let lot = |pool, terminator| (pool, 1_000_000, 100_000_000, terminator);
+    let cc = three_messages::body("CC", 2, 0, 1, &[lot("AA00001", "6001"), lot("AA00002", "7001")]);
+    let dk = three_messages::body("DK", 3, 0, 2, &[lot("AA00002", "0001")]);
+    for (message, id) in [(cc, 2), (dk, 3)] {
+        assert_eq!(book.step(&message, b"093000", &mut [0; OUTPUT_LENGTH]).answer, Answer::Accepted(id));
+        assert!(book.pools.iter().all(|pool| pool.spare == [0; 2]), "message {id}");
+    }
+
     let bytes = book.save();
     book.pools.iter_mut().for_each(|pool| pool.spare = [0xFF; 2]);
     assert_eq!(book.save(), bytes);
