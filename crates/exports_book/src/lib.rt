@@ -93,10 +93,10 @@ fn outbound_in(image: &[u64]) -> u64
 }
 
 // How many bytes went out between two outbound numbers: an AA alone where they are neighbors, else a TX before it.
-fn bytes_out(silent: bool, before: u64, after: u64) -> u64
-    ensures { λ r. ⌜ r ≡ bytesOut silent before after ⌝ }
+fn bytes_out(quiet: bool, before: u64, after: u64) -> u64
+    ensures { λ r. ⌜ r ≡ bytesOut quiet before after ⌝ }
 {
-    if silent {
+    if quiet {
         return 0;
     }
     if after == 0 {
