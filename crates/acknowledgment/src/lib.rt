@@ -1,4 +1,6 @@
 // Writes what goes out: an AA that answers a message, and a TX that tells of a gap in the sequence.
+#![tactic(auto)]
+
 ghost use Rattle.std.specs.Prelude.{◌≡◌};
 ghost use Rattle.lists.specs.Lists.{pasted};
 ghost use Rattle.sequence.specs.Sequence.{next_outbound};
@@ -10,7 +12,7 @@ use sequence::{Inbound, Outbound};
 pub const TIME_WIDTH: usize = 6;
 
 // What an AA says of a message: its internal ID, its message ID, its code (0 is accepted), the time bytes lent, and its own sequence number as it came.
-#[derive(Drop)]
+#[derive(Clone, Copy)]
 pub struct Acknowledged {
     pub internal: [u8; 16],
     pub message: u64,

@@ -1,4 +1,6 @@
 // An answer in numbers: the paper's number of a reason, the code and the ID of an AA, and which answers go out at all.
+#![tactic(auto)]
+
 ghost use Rattle.std.specs.Prelude.{◌≡◌};
 ghost use Rattle.book.specs.Reasons.{number_of, is_silent_for, is_traders, refusal, code_of, id_of, is_accepted, is_silent};
 ghost use Rattle.book.specs.Step.{outcome_of};

@@ -1,4 +1,6 @@
 // The allocation book: what opening lends, what it keeps, the record of a live pool, and the answers that a frame gets.
+#![tactic(auto)]
+
 use sequence::{Line, Outbound};
 
 // The most trades and holidays that opening lends, and records that a table has.
@@ -21,7 +23,7 @@ pub const ID_MAX: usize = trade_id::ID_LENGTH_MAX;
 pub const ROOM_LEAST: usize = acknowledgment::TX_LENGTH + acknowledgment::AA_LENGTH;
 
 // A trade. Only the first length bytes of id are its ID; price has nine decimals, par and open par are cents.
-#[derive(Drop)]
+#[derive(Clone, Copy)]
 pub struct Trade {
     pub id: [u8; ID_MAX],
     pub length: usize,
@@ -36,7 +38,7 @@ pub struct Trade {
 }
 
 // GDMM ceiling, variance in cents a million, pools a million, least face in dollars.
-#[derive(Drop)]
+#[derive(Clone, Copy)]
 pub struct Limits {
     pub ceiling: u64,
     pub variance: u64,
@@ -45,7 +47,7 @@ pub struct Limits {
 }
 
 // What opening lends and no call moves: of trades and holidays the first so many count.
-#[derive(Drop)]
+#[derive(Clone, Copy)]
 pub struct Lent {
     pub tradeCount: usize,
     pub holidays: [u32; HOLIDAYS_MAX],
@@ -55,7 +57,7 @@ pub struct Lent {
 }
 
 // What belongs to a connection: its ID, the inbound line, and the last outbound number used.
-#[derive(Drop)]
+#[derive(Clone, Copy)]
 pub struct Connection {
     pub id: [u8; 4],
     pub line: Line,
@@ -63,7 +65,7 @@ pub struct Connection {
 }
 
 // What opening lends, and what of it calls move: the trades, the last message ID and the connection. The line is opening's own to set.
-#[derive(Drop)]
+#[derive(Clone, Copy)]
 pub struct Values {
     pub trades: [Trade; TRADES_MAX],
     pub lent: Lent,
@@ -72,14 +74,14 @@ pub struct Values {
 }
 
 // The book: opening's values, which move with each call, and the number of live pools in the table.
-#[derive(Drop)]
+#[derive(Clone, Copy)]
 pub struct Book {
     pub values: Values,
     pub live: usize,
 }
 
 // What a call is given besides book, table, body and output: the time bytes of its AA, and a seed that no definition reads: a search for equal fields spreads them by it.
-#[derive(Drop)]
+#[derive(Clone, Copy)]
 pub struct Caller {
     pub time: [u8; acknowledgment::TIME_WIDTH],
     pub seed: u64,
@@ -88,7 +90,7 @@ pub struct Caller {
 // A live pool: under which message ID it came, its lot's ordinal there, its trade, the three matched fields as bytes,
 // its current face in cents, its lot's kind (1 good, 2 odd, 3 bad) and millions.
 #[repr(C)]
-#[derive(Drop)]
+#[derive(Clone, Copy)]
 pub struct Pool {
     pub message: u64,
     pub ordinal: u64,
@@ -107,7 +109,7 @@ pub const SILENT: bool = true;
 pub const TOLD: bool = false;
 
 // Why a frame or an opening is refused: who causes it, with the paper's number and whether it is silent.
-#[derive(Drop)]
+#[derive(Clone, Copy)]
 pub enum Reason {
     Operator(u64, bool),
     Line(u64, bool),
@@ -116,14 +118,14 @@ pub enum Reason {
 }
 
 // What a list of checks says: all pass, or the first that fails.
-#[derive(Drop)]
+#[derive(Clone, Copy)]
 pub enum Verdict {
     Passes,
     Fails(Reason),
 }
 
 // What a frame gets.
-#[derive(Drop)]
+#[derive(Clone, Copy)]
 pub enum Answer {
     Accepted(u64),
     Rejected(Reason),

@@ -1,4 +1,6 @@
 // Decides which numbers are dates, written mmddyyyy, and which dates are business dates.
+#![tactic(auto)]
+
 ghost use Rattle.std.specs.Prelude.{◌≡◌, true, false, ◌-◌, ◌≤◌, eqb};
 ghost use Rattle.lists.specs.Lists.{any};
 ghost use Rattle.calendar.specs.Calendar.{leap, days_of_month, days_of_months, is_date, weekday_of, business_date};

@@ -1,4 +1,6 @@
 // Whether the pools that a CC or DK lists are whole live lots of its target (check 37), and which live records it takes off.
+#![tactic(auto)]
+
 ghost use Rattle.std.specs.Prelude.{◌≡◌, true, ℕ, ◌+◌, ◌≤◌, ◌<◌, length, get_or, take};
 ghost use Rattle.layout.specs.Details.{details, pool_count, pools_max, detail_at, place_of};
 ghost use Rattle.terminator.specs.Terminators.{kind_of, is_canceled};
@@ -14,14 +16,14 @@ use layout::Detail;
 use terminator::Terminator;
 
 // Whether the listed pools pass 37, and a mark for each row: 0 where its record stays.
-#[derive(Drop)]
+#[derive(Clone, Copy)]
 pub struct Listed {
     pub fine: bool,
     pub marks: [u8; book::RECORDS_MAX],
 }
 
 // A pass over a CC's pools: whether its 6 lots are like the live lots so far, whether a lot is begun, and its record's ordinal.
-#[derive(Drop)]
+#[derive(Clone, Copy)]
 struct Alike {
     fine: bool,
     begun: bool,

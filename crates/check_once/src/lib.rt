@@ -1,4 +1,6 @@
 // Whether matched fields stand once: the live records' under each message ID (a part of 42), and those of a message's new pools (36).
+#![tactic(auto)]
+
 ghost use Rattle.std.specs.Prelude.{◌≡◌, map, true, not, cond, ◌-◌, ◌≤◌, ◌<◌, length, take, eqb};
 ghost use Rattle.lists.specs.Lists.{same, any, tab};
 ghost use Rattle.layout.specs.Details.{details, pools_max};

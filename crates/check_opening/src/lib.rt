@@ -1,4 +1,6 @@
 // Decides number 41 on what opening lends, and makes the book of an accepted opening.
+#![tactic(auto)]
+
 ghost use Rattle.std.specs.Prelude.{◌≡◌, map, ◌&&◌, ◌||◌, ◌≤◌, length, take, drop, eqb};
 ghost use Rattle.lists.specs.Lists.{between, any, all, same};
 ghost use Rattle.calendar.specs.Calendar.{is_date};

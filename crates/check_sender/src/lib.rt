@@ -1,4 +1,6 @@
 // The checks of the line and the sender's system, 43 and 44 and then 10 to 25: the first that fails.
+#![tactic(auto)]
+
 ghost use Rattle.std.specs.Prelude.{◌≡◌, ℕ, List, cond, ◌&&◌};
 ghost use Rattle.book.specs.declared.Caller.{Caller};
 ghost use Rattle.book.specs.declared.Pool.{Pool};

@@ -1,4 +1,6 @@
 // Decides number 42: whether a lent book and its table can have come about by the engine's own calls.
+#![tactic(auto)]
+
 ghost use Rattle.std.specs.Prelude.{◌≡◌, List, true, ◌&&◌, ℕ, ◌≤◌, ◌<◌, length, take, drop, get_or, eqb};
 ghost use Rattle.lists.specs.Lists.{all};
 ghost use Rattle.book.specs.Trades.{trades_of};

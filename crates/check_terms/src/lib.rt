@@ -1,4 +1,6 @@
 // Trades' terms: whether a message's agree with them, which trade an ID names and where an ON goes, and checks 31 and 32.
+#![tactic(auto)]
+
 ghost use Rattle.std.specs.Prelude.{◌≡◌, ◌&&◌, cond, ℕ, leb};
 ghost use Rattle.lists.specs.Lists.{any};
 ghost use Rattle.book.specs.Trades.{trades_of, side_of, number_is, price_is, agrees, first_trade, brought_weight, open_pars, is_named_by, trade_of_on};
@@ -17,7 +19,7 @@ use message_type::MessageType;
 use trade_id::TradeId;
 
 // What a message states of its terms: its type, and the two terms that are numbers.
-#[derive(Drop)]
+#[derive(Clone, Copy)]
 struct Stated {
     message: MessageType,
     settlement: Field,

@@ -1,4 +1,6 @@
 // Decides the trader's checks, 30 to 40, on a book that is sound and a message that the sender's checks let pass.
+#![tactic(auto)]
+
 ghost use Rattle.std.specs.Prelude.{◌≡◌, true, cond, ◌&&◌, ℕ, ◌+◌, ◌≤◌, ◌<◌, length, take, leb, ltb, List};
 ghost use Rattle.lists.specs.Lists.{any, keep};
 ghost use Rattle.terminator.specs.Terminators.{is_canceled};
@@ -20,7 +22,7 @@ use rows_find::Run;
 
 // What the trader's checks decide, and what an accepted message moves: its trade, the weight that it takes off, the weight that it brings,
 // and a mark on each record that it takes off.
-#[derive(Drop)]
+#[derive(Clone, Copy)]
 pub struct Decision {
     pub verdict: Verdict,
     pub trade: usize,

@@ -1,4 +1,6 @@
 // Lends sequence numbers to Rust and C: each exported function writes its numbers at the head of a lent slice.
+#![tactic(auto)]
+
 ghost use Rattle.std.specs.Prelude.{◌≡◌};
 ghost use Rattle.lists.specs.Lists.{pasted};
 ghost use Rattle.sequence.specs.Sequence.{inbound, outbound};

@@ -1,4 +1,6 @@
 // Lends what goes out to Rust and C: each exported function writes into a lent slice.
+#![tactic(auto)]
+
 ghost use Rattle.std.specs.Prelude.{◌≡◌, ◌+◌, ◌≤◌, length};
 ghost use Rattle.lists.specs.Lists.{part};
 ghost use Rattle.compare_output.specs.Said.{aa_said, tx_said, with_aa, with_tx, stamped};

@@ -1,4 +1,6 @@
 // Lends the pools of a message to Rust and C, its terminators, lots, groups and faces: each exported function writes its numbers at the head of a lent slice.
+#![tactic(auto)]
+
 ghost use Rattle.std.specs.Prelude.{◌≡◌};
 ghost use Rattle.lists.specs.Lists.{pasted};
 ghost use Rattle.layout.specs.Details.{details};

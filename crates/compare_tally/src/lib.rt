@@ -1,4 +1,6 @@
 // Lends the tally to Rust and C: four rows of three cells, in a lent slice.
+#![tactic(auto)]
+
 ghost use Rattle.std.specs.Prelude.{◌≡◌};
 ghost use Rattle.compare_tally.specs.Rows.{type_of, outcome_of, rows_raised};
 

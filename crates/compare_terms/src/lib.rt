@@ -1,4 +1,6 @@
 // Lends the header's columns, fields of digits, dates, trade IDs and prices to Rust and C: each exported function but the last writes its numbers at the head of a lent slice.
+#![tactic(auto)]
+
 ghost use Rattle.std.specs.Prelude.{◌≡◌};
 ghost use Rattle.lists.specs.Lists.{pasted};
 ghost use Rattle.fields.specs.Fields.{read_number};

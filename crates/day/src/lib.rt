@@ -1,4 +1,6 @@
 // A day: every whole frame of a tape is put to a book over a lent table, one after another, and the accepted ones are counted.
+#![tactic(auto)]
+
 ghost use Rattle.std.specs.Prelude.{◌≡◌, ◌<◌, ◌≤◌, ◌^◌, length};
 ghost use Rattle.day.specs.Tape.{midnight};
 ghost use Rattle.book.specs.Reasons.{is_accepted};
@@ -10,7 +12,7 @@ use calls::Stepped;
 use framing::Frame;
 
 // The book after the day, the frames accepted, and all other whole frames.
-#[derive(Drop)]
+#[derive(Clone, Copy)]
 pub struct Day {
     pub book: Book,
     pub accepted: u64,
@@ -18,14 +20,14 @@ pub struct Day {
 }
 
 // A day so far, and the place in the tape that it has come to.
-#[derive(Drop)]
+#[derive(Clone, Copy)]
 struct Going {
     day: Day,
     at: usize,
 }
 
 // Where a frame's body starts and ends, and the place after the frame.
-#[derive(Drop)]
+#[derive(Clone, Copy)]
 struct Place {
     start: usize,
     end: usize,

@@ -1,5 +1,7 @@
 // Prints the day of a tape: the frames accepted and all other whole frames, then the trade's open par and its standing good millions (01, Program daytape).
 // Trusted is what the C library's read and write do. All bytes that come are read, up to 64 KiB; what a failing read leaves out is not on the tape.
+#![tactic(auto)]
+
 ghost use Rattle.std.specs.Prelude.{◌≡◌, true};
 ghost use Rattle.book.specs.Opening.{values_fine};
 ghost use Rattle.daytape.specs.Program.{the_trade, values_given, report_of, ReportsOver, Reports};
@@ -13,7 +15,7 @@ use sequence::Outbound;
 const RECORDS: usize = 512;
 
 // What the day gives: the two counts, and the trade's figures.
-#[derive(Drop)]
+#[derive(Clone, Copy)]
 struct Report {
     accepted: u64,
     others: u64,

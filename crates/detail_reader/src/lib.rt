@@ -1,11 +1,13 @@
 // The detail reader: it holds a body and the place of a detail in it, and goes through the body detail by detail.
+#![tactic(auto)]
+
 ghost use Rattle.std.specs.Prelude.{◌≡◌};
 ghost use Rattle.layout.specs.Columns.{header_width};
 ghost use Rattle.layout.specs.Details.{next_detail};
 
 use layout::Step;
 
-#[derive(Drop)]
+#[derive(Clone, Copy)]
 pub struct Details<'a> {
     pub body: &'a [u8],
     pub at: usize,

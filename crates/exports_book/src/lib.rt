@@ -1,4 +1,6 @@
 // What the calls for C and Rust do on either side of a call on the table: the book that words say, the answer and the book after a call written, a trade's figures, a frame and a tally in numbers.
+#![tactic(auto)]
+
 ghost use Rattle.std.specs.Prelude.{◌≡◌, true, false, length};
 ghost use Rattle.lists.specs.Lists.{pasted};
 ghost use Rattle.book.specs.Opening.{values_fine};

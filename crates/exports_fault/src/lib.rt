@@ -1,4 +1,6 @@
 // What the calls for C and Rust say of a rule that is broken: by the words that opening is lent, and of a book after its table was judged.
+#![tactic(auto)]
+
 ghost use Rattle.std.specs.Prelude.{◌≡◌, [], ◌∷◌};
 ghost use Rattle.lists.specs.Lists.{pasted};
 ghost use Rattle.image.specs.Images.{is_image};

@@ -1,4 +1,6 @@
 // Numbers for C and Rust: an answer in two numbers, what two numbers tell the tally, and numbers written into a lent slice.
+#![tactic(auto)]
+
 ghost use Rattle.std.specs.Prelude.{◌≡◌, eqb};
 ghost use Rattle.exports_numbers.specs.Said.{said_of, is_told, heard_as, heard_in};
 ghost use Rattle.lists.specs.Lists.{any, pasted};
@@ -8,7 +10,7 @@ use book::Answer;
 use tally::Outcome;
 
 // What two numbers tell the tally: whether an answer that an AA tells says them, and its column.
-#[derive(Drop)]
+#[derive(Clone, Copy)]
 pub struct Heard {
     pub told: bool,
     pub outcome: Outcome,

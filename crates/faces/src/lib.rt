@@ -1,4 +1,6 @@
 // Whether the faces of a message's new pools are within their limits (check 34), and the arithmetic of those of a lot (35).
+#![tactic(auto)]
+
 ghost use Rattle.std.specs.Prelude.{◌≡◌, ltb, ◌-◌, ◌*◌};
 ghost use Rattle.lists.specs.Lists.{fold};
 ghost use Rattle.layout.specs.Details.{details};
@@ -32,7 +34,7 @@ pub fn face_fails(d: Detail, least: u64) -> bool
 }
 
 // What check 34 carries from pool to pool: the least original face, and whether some new pool failed.
-#[derive(Drop)]
+#[derive(Clone, Copy)]
 struct FaceCheck {
     least: u64,
     fails: bool,

@@ -1,9 +1,11 @@
 // Which rule of opening or of soundness is broken first, and what it is about: the answer's type, and how tests make it up.
+#![tactic(auto)]
+
 ghost use Rattle.std.specs.Prelude.{◌≡◌};
 ghost use Rattle.fault.specs.Rules.{test, or_else, sound};
 
 // A rule that is broken, by its number, and the trade, holiday or record that it is about; zeros where none is broken.
-#[derive(Drop)]
+#[derive(Clone, Copy)]
 pub struct Fault {
     pub rule: u64,
     pub place: u64,

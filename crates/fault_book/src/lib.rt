@@ -1,4 +1,6 @@
 // Which rule of soundness, number 42, a book and its table break first: on rows of numbers and of bytes, one of each a record.
+#![tactic(auto)]
+
 ghost use Rattle.std.specs.Prelude.{◌≡◌, List, ℕ, ◌+◌, ◌≤◌, min, length, take, eqb};
 ghost use Rattle.book.specs.Trades.{trades_of};
 ghost use Rattle.book.specs.Opening.{trades_max, records_max};

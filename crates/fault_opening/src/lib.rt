@@ -1,4 +1,6 @@
 // Tells which rule of opening (01, number 41) is broken first, and which trade or holiday it is about.
+#![tactic(auto)]
+
 ghost use Rattle.std.specs.Prelude.{◌≡◌, map, ◌≤◌, take};
 ghost use Rattle.book.specs.Trades.{trade_name};
 ghost use Rattle.book.specs.Opening.{trades_max};

@@ -1,4 +1,6 @@
 // Which record of a table breaks a rule of soundness first: each live one by itself and after the one before it, matched fields that stand again, and records after the live ones that are not zeros.
+#![tactic(auto)]
+
 ghost use Rattle.std.specs.Prelude.{◌≡◌, List, ℕ, ◌+◌, ◌-◌, ◌≤◌, ◌<◌, length};
 ghost use Rattle.lists.specs.Lists.{any, tab};
 ghost use Rattle.book.specs.declared.Pool.{Pool};

@@ -1,9 +1,11 @@
 // Fixed columns of bytes: digits, blanks and codes read, and parts compared.
+#![tactic(auto)]
+
 ghost use Rattle.std.specs.Prelude.{◌≡◌};
 ghost use Rattle.fields.specs.Fields.{read_number, is_number, value_of, all_between, all_blank, all_visible, same_part};
 
 // What a field of digits holds.
-#[derive(Drop)]
+#[derive(Clone, Copy)]
 pub enum Field {
     Number(u64),
     NotDigits,

@@ -1,4 +1,6 @@
 // Decides where the next whole frame of a tape lies: hex 02, a body, hex 03.
+#![tactic(auto)]
+
 ghost use Rattle.framing.specs.Framing.{Finds};
 
 // Hex 02 starts a frame.
@@ -7,7 +9,7 @@ const START: u8 = 2;
 const END: u8 = 3;
 
 // A whole frame's body, from start up to end, and the place after its 03; or none.
-#[derive(Drop)]
+#[derive(Clone, Copy)]
 pub enum Frame {
     Body {
         start: usize,
@@ -18,7 +20,7 @@ pub enum Frame {
 }
 
 // The next frame, and the count of bytes dropped on the way to it.
-#[derive(Drop)]
+#[derive(Clone, Copy)]
 pub struct Found {
     pub frame: Frame,
     pub dropped: usize,

@@ -1,4 +1,6 @@
 // The groups of a CC: whether they are formed (20), and whether each has like sums (21).
+#![tactic(auto)]
+
 ghost use Rattle.std.specs.Prelude.{◌≡◌, ◌+◌, ◌*◌, ◌≤◌};
 ghost use Rattle.lists.specs.Lists.{fold};
 ghost use Rattle.layout.specs.Details.{details, pools_max};
@@ -10,7 +12,7 @@ use layout::Detail;
 use terminator::{Groups, Mark};
 
 // Checks 20 and 21 of the groups so far, and the group at hand: its lots, whether all are of one kind, and the millions that its canceled and its replacement lots have.
-#[derive(Drop)]
+#[derive(Clone, Copy)]
 struct Run {
     formed: bool,
     balanced: bool,

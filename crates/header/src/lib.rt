@@ -1,5 +1,7 @@
 // What the header of a body says, and each test of it alone: length (10), sequence (11), type (13), version (14), fillers (15), amounts (16), parties (17),
 // a CC's replacements and settlement (22, 23), a DK's reason and trade ID (24, 25), an ON's millions (33).
+#![tactic(auto)]
+
 ghost use Rattle.std.specs.Prelude.{◌≡◌, ◌≤◌, min, length, take, cond, eqb, leb};
 ghost use Rattle.lists.specs.Lists.{same, any};
 ghost use Rattle.layout.specs.Columns.{bytes_in};

@@ -1,4 +1,6 @@
 // A book as words, so that a caller can keep it: the places of the words, and a book written into a lent slice.
+#![tactic(auto)]
+
 ghost use Rattle.std.specs.Prelude.{◌≡◌, ◌≤◌, length};
 ghost use mathlib.Core.List.{[], ◌∷◌, ◌++◌, flat_map};
 ghost use Rattle.lists.specs.Lists.{pasted};

@@ -1,4 +1,6 @@
 // A book read back from its words. Words that are no book's are told.
+#![tactic(auto)]
+
 ghost use Rattle.std.specs.Prelude.{◌≡◌, true, ℕ, ◌+◌, ◌^◌, ◌≤◌, ◌++◌, length, drop, ltb};
 ghost use Rattle.lists.specs.Lists.{part, tab, all};
 ghost use Rattle.book.specs.Opening.{trades_max};
@@ -35,14 +37,14 @@ const BYTE_END: u64 = 256;
 const NUMBER_END: u64 = 4294967296;
 
 // What was read: whether the words are an image, and where they are, the book; else a book with no trades.
-#[derive(Drop)]
+#[derive(Clone, Copy)]
 pub struct Read {
     pub fine: bool,
     pub book: Book,
 }
 
 // What opening was lent: whether the words lend something, and where they do, the values; else those of a book with no trades.
-#[derive(Drop)]
+#[derive(Clone, Copy)]
 pub struct ReadLent {
     pub fine: bool,
     pub values: Values,

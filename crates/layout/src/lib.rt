@@ -1,4 +1,6 @@
 // The columns of a message body: each header field and each field of a pool detail, named once, and the readers that go by them.
+#![tactic(auto)]
+
 ghost use Rattle.std.specs.Prelude.{◌≡◌, ◌+◌, ◌≤◌, ◌<◌, length};
 ghost use Rattle.layout.specs.Columns.{number_in, header, detail_width};
 ghost use Rattle.layout.specs.Details.{pool_count, next_detail, detail_at, no_detail, place_of};
@@ -6,7 +8,7 @@ ghost use Rattle.layout.specs.Details.{pool_count, next_detail, detail_at, no_de
 use fields::Field;
 
 // A column by its first byte and its width.
-#[derive(Drop)]
+#[derive(Clone, Copy)]
 pub struct Column {
     pub at: usize,
     pub width: usize,
@@ -139,7 +141,7 @@ pub fn pool_count(body: &[u8]) -> usize
 }
 
 // A pool detail as the engine reads it, in bytes.
-#[derive(Drop)]
+#[derive(Clone, Copy)]
 pub struct Detail {
     pub lot: [u8; 6],
     pub pool: [u8; 7],
@@ -149,7 +151,7 @@ pub struct Detail {
 }
 
 // What the detail reader gives: a detail and the place after it, or the end.
-#[derive(Drop)]
+#[derive(Clone, Copy)]
 pub struct Step {
     pub end: bool,
     pub detail: Detail,

@@ -1,4 +1,6 @@
 // The lots that the terminators of a message make: whether they are formed (19), the replacement pools (22), the good millions (33), and the lot that begins at a pool.
+#![tactic(auto)]
+
 ghost use Rattle.std.specs.Prelude.{◌≡◌, ◌*◌, ◌≤◌, drop};
 ghost use Rattle.lists.specs.Lists.{fold};
 ghost use Rattle.layout.specs.Details.{details, pools_max};
@@ -12,7 +14,7 @@ use layout::Detail;
 use terminator::{LotRead, Mark};
 
 // A walk over the pools: whether the lots are formed so far, and the lot that is begun, its position one and whether it is bad.
-#[derive(Drop)]
+#[derive(Clone, Copy)]
 struct Walk {
     formed: bool,
     begun: bool,
@@ -21,7 +23,7 @@ struct Walk {
 }
 
 // How many of the pools passed are replacements.
-#[derive(Drop)]
+#[derive(Clone, Copy)]
 struct Counted {
     pools: usize,
 }
@@ -66,7 +68,7 @@ pub fn replacement_count(body: &[u8]) -> usize
 }
 
 // The millions of the pools passed.
-#[derive(Drop)]
+#[derive(Clone, Copy)]
 struct Summed {
     millions: u64,
 }
@@ -123,7 +125,7 @@ fn walk_on(w: Walk, m: Mark, cc: bool) -> Walk
 }
 
 // A walk and whether the pools are those of a CC.
-#[derive(Drop)]
+#[derive(Clone, Copy)]
 struct LotWalk {
     cc: bool,
     walk: Walk,

@@ -1,9 +1,11 @@
 // The types of a message, and the questions that the rules ask of them.
+#![tactic(auto)]
+
 ghost use Rattle.std.specs.Prelude.{◌≡◌};
 ghost use Rattle.message_type.specs.Questions.{is_on, is_cc, is_dk, is_cx, is_other, brings_lots, lists_lots, lists_all, buyer_submits, answers_as_dk};
 
 // The four types of the tally, and every other.
-#[derive(Drop)]
+#[derive(Clone, Copy)]
 pub enum MessageType {
     On,
     Cc,

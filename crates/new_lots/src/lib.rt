@@ -1,4 +1,6 @@
 // The new lots of a message, lot by lot: whether one fails 35, and what they weigh.
+#![tactic(auto)]
+
 ghost use Rattle.std.specs.Prelude.{◌≡◌, ◌+◌, ◌*◌, ◌≤◌};
 ghost use Rattle.lists.specs.Lists.{fold};
 ghost use Rattle.layout.specs.Details.{details, pools_max};
@@ -53,7 +55,7 @@ fn end_weight(t: Terminator, sum: u64) -> u64
 }
 
 // The sum and the number of the pools since the last end, and whether a new lot before it failed 35.
-#[derive(Drop)]
+#[derive(Clone, Copy)]
 struct Checked {
     cents: u64,
     pools: u64,
@@ -86,7 +88,7 @@ fn check_pool(s: Checked, d: Detail, variance: u64, pools_a_million: u64) -> Che
 }
 
 // What check 35 carries from pool to pool: the variance, the most pools a million, and what it keeps of the pools.
-#[derive(Drop)]
+#[derive(Clone, Copy)]
 struct LotCheck {
     variance: u64,
     most: u64,
@@ -147,7 +149,7 @@ pub fn lots_fail(body: &[u8], variance: u64, pools_a_million: u64) -> bool
 }
 
 // The sum of the pools since the last end, and the weight of the new lots before it.
-#[derive(Drop)]
+#[derive(Clone, Copy)]
 struct Weighed {
     cents: u64,
     weight: u64,

@@ -1,4 +1,6 @@
 // Columns written into a lent output: digits, blanks, bytes and parts of other slices. What does not fit is not written.
+#![tactic(auto)]
+
 ghost use Rattle.std.specs.Prelude.{◌≡◌};
 ghost use Rattle.lists.specs.Lists.{pasted};
 ghost use Rattle.output.specs.Output.{digits_of, blanks, with_part};

@@ -1,4 +1,6 @@
 // What goes out after a frame: on a gap a TX first, then the AA, and both counters as they stand after them.
+#![tactic(auto)]
+
 ghost use Rattle.std.specs.Prelude.{◌≡◌, false, cond, ℕ, ◌≤◌, List, length};
 ghost use Rattle.sequence.specs.Sequence.{arrival_of, next_outbound};
 ghost use Rattle.layout.specs.Columns.{header_width};

@@ -1,4 +1,6 @@
 // The calls for C and Rust, all in one archive: a book is kept as words, a table as a lent slice of pool records, and each call writes into lent slices.
+#![tactic(auto)]
+
 ghost use Rattle.std.specs.Prelude.{◌≡◌, ◌-◌, ◌≤◌, length};
 ghost use Rattle.lists.specs.Lists.{pasted};
 ghost use Rattle.framing.specs.Framing.{next_frame};

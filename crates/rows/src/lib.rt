@@ -1,4 +1,6 @@
 // The table of live pools in two lent slices: a row of numbers and a row of bytes for each record.
+#![tactic(auto)]
+
 ghost use Rattle.std.specs.Prelude.{◌≡◌, ◌++◌, ◌<◌, ◌≤◌, length, take, set};
 ghost use Rattle.layout.specs.Columns.{lot_id, pool_number, original_face};
 ghost use Rattle.rows.specs.Rows.{key_width, bytes_from, record_at, table_of};

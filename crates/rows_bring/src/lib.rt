@@ -1,4 +1,6 @@
 // The pools of a message staged before anything is stored, and those of its new lots stored as records of the table, lot by lot.
+#![tactic(auto)]
+
 ghost use Rattle.std.specs.Prelude.{◌≡◌, map, ◌+◌, ◌*◌, ◌≤◌, length};
 ghost use Rattle.lists.specs.Lists.{pasted};
 ghost use Rattle.layout.specs.Details.{details, pool_count, pools_max};
@@ -16,7 +18,7 @@ use layout::Detail;
 use terminator::{Kind, Terminator};
 
 // The pools of a message before anything is stored: current faces in cents and terminators, zeros after the last pool.
-#[derive(Drop)]
+#[derive(Clone, Copy)]
 pub struct Staged {
     pub faces: [u64; layout::POOLS_MAX],
     pub terminators: [u64; layout::POOLS_MAX],
@@ -98,7 +100,7 @@ fn lot_end(terminators: &[u64; layout::POOLS_MAX], first: usize, n: usize) -> us
 }
 
 // What the records of a lot have in common.
-#[derive(Drop)]
+#[derive(Clone, Copy)]
 struct Common {
     message: u64,
     ordinal: u64,

@@ -1,4 +1,6 @@
 // The frame call, opening and the figures on the first rows of a table: where its other records are zeros, the rows are all that a call needs.
+#![tactic(auto)]
+
 ghost use Rattle.std.specs.Prelude.{◌≡◌, ◌-◌, ◌≤◌, min, length};
 ghost use Rattle.book.specs.Opening.{records_max};
 ghost use Rattle.rows_enough.specs.FirstRows.{wanted, rows_of, from_of, to_of};
@@ -9,7 +11,7 @@ use calls::{Figures, Opened, Stepped};
 use message_type::MessageType;
 
 // What a frame call on rows gives back: the book and the answer, and the records that changed, from one up to another.
-#[derive(Drop)]
+#[derive(Clone, Copy)]
 pub struct Moved {
     pub stepped: Stepped,
     pub from: usize,
@@ -17,7 +19,7 @@ pub struct Moved {
 }
 
 // What opening gives back, and how many records of the table are to be zeros.
-#[derive(Drop)]
+#[derive(Clone, Copy)]
 pub struct Cleared {
     pub opened: Opened,
     pub count: usize,

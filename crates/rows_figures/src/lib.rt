@@ -1,4 +1,6 @@
 // What a book says of a trade: its open par and its standing millions.
+#![tactic(auto)]
+
 ghost use Rattle.std.specs.Prelude.{◌≡◌, List, ℕ, ◌≤◌, length, take, eqb};
 ghost use Rattle.book.specs.Opening.{records_max};
 ghost use Rattle.rows.specs.Rows.{record_of, table_of};

@@ -1,4 +1,6 @@
 // Where the target's records stand in the table, where each listed pool stands among them, and what marked records weigh.
+#![tactic(auto)]
+
 ghost use Rattle.std.specs.Prelude.{◌≡◌, List, ℕ, ◌+◌, ◌-◌, ◌≤◌, ◌<◌, length, take, get_or};
 ghost use Rattle.lists.specs.Lists.{tab};
 ghost use Rattle.fields.specs.declared.Field.TheVariants.{Number};
@@ -18,14 +20,14 @@ use message_type::MessageType;
 const GOOD: u64 = 1;
 
 // The rows from start up to stop.
-#[derive(Drop)]
+#[derive(Clone, Copy)]
 pub struct Run {
     pub start: usize,
     pub stop: usize,
 }
 
 // Whether every listed pool has a row, and the row of each by its index in the message.
-#[derive(Drop)]
+#[derive(Clone, Copy)]
 pub struct Places {
     pub found: bool,
     pub at: [usize; layout::POOLS_MAX],

@@ -1,4 +1,6 @@
 // The matched fields of a pool as one row of twenty-two bytes: made from a detail, compared, and spread over buckets.
+#![tactic(auto)]
+
 ghost use Rattle.std.specs.Prelude.{◌≡◌, ◌+◌, ◌*◌, ◌/◌, ◌%◌, ◌<◌, length};
 ghost use Rattle.lists.specs.Lists.{same};
 ghost use Rattle.rows.specs.Rows.{key_width, bytes_from};

@@ -1,4 +1,6 @@
 // Moves the table for an accepted message: takes off what it lists, and brings its new lots.
+#![tactic(auto)]
+
 ghost use Rattle.std.specs.Prelude.{◌≡◌, ◌++◌, ◌≤◌, length, take};
 ghost use Rattle.message_type.specs.Questions.{brings_lots, lists_lots};
 ghost use Rattle.rows.specs.Rows.{table_of};

@@ -1,4 +1,6 @@
 // The frame call: 42 first, then the checks of operator, line and sender, then the trader's; then what an accepted message moves, and what goes out.
+#![tactic(auto)]
+
 ghost use Rattle.std.specs.Prelude.{◌≡◌, true, false, ℕ, ◌+◌, ◌-◌, ◌≤◌, ◌<◌, length, take, set, get_or, ◌++◌};
 ghost use Rattle.rows_move.specs.Moves.{remaining, bringing, filled, Movable};
 ghost use Rattle.layout.specs.Columns.{header_width};

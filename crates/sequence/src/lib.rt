@@ -1,31 +1,33 @@
 // Decides what an arriving sequence number is to the line, and which outbound number comes next.
+#![tactic(auto)]
+
 ghost use Rattle.std.specs.Prelude.{◌≡◌};
 ghost use Rattle.sequence.specs.Sequence.{start_line, is_last, arrival_of, line_after, sound_line, next_outbound, outbound_spent};
 
 // A sequence number of the sender's side.
-#[derive(Drop)]
+#[derive(Clone, Copy)]
 pub struct Inbound(pub u32);
 
 // The last outbound number used.
-#[derive(Drop)]
+#[derive(Clone, Copy)]
 pub struct Outbound(pub u32);
 
 // The last number received, where there is one.
-#[derive(Drop)]
+#[derive(Clone, Copy)]
 pub enum Received {
     Nothing,
     Last(Inbound),
 }
 
 // The inbound side as the book keeps it.
-#[derive(Drop)]
+#[derive(Clone, Copy)]
 pub struct Line {
     pub received: Received,
     pub expected: Inbound,
 }
 
 // What a number is to the line.
-#[derive(Drop)]
+#[derive(Clone, Copy)]
 pub enum Arrival {
     Refused,
     Duplicate,

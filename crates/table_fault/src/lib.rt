@@ -1,4 +1,6 @@
 // Which rule of 42 a book breaks first on a lent table of pool records: all records are copied into rows, and judged there.
+#![tactic(auto)]
+
 ghost use Rattle.std.specs.Prelude.{◌≡◌};
 ghost use Rattle.fault.specs.Faults.{book_fault};
 

@@ -1,4 +1,6 @@
 // A trade's figures on a lent table of pool records: the records that the figures are read from are copied into rows, and read there.
+#![tactic(auto)]
+
 ghost use Rattle.calls.specs.Calls.{Says};
 
 use book::{Book, Pool};

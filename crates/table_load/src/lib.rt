@@ -1,4 +1,6 @@
 // The lent table of pool records: between the records themselves and the rows that the engine works on.
+#![tactic(auto)]
+
 ghost use Rattle.std.specs.Prelude.{◌≡◌, ◌&&◌, ℕ, ◌<◌, ◌≤◌, length, get_or, set, drop};
 ghost use Rattle.lists.specs.Lists.{all};
 ghost use Rattle.layout.specs.Columns.{lot_id, pool_number, original_face};

@@ -1,4 +1,6 @@
 // Opening on a lent table of pool records: decides number 41 on the values and on how many records there are, and puts zeros into the table where it passes.
+#![tactic(auto)]
+
 ghost use Rattle.calls.specs.Calls.{Opens};
 
 use book::{Pool, Values};

@@ -1,4 +1,6 @@
 // The rows of a call on a lent table of pool records: the records that it works on are copied into rows that are lent too.
+#![tactic(auto)]
+
 ghost use Rattle.std.specs.Prelude.{◌≤◌, length};
 ghost use Rattle.rows_enough.specs.FirstRows.{rows_of};
 ghost use Rattle.table_rows.specs.LoadsRows.{LoadsRows};

@@ -1,4 +1,6 @@
 // The public calls on a lent table of pool records: a call's rows are its own, so the caller lends the table alone.
+#![tactic(auto)]
+
 ghost use Rattle.std.specs.Prelude.{◌≡◌, ◌-◌, ◌≤◌, leb, length};
 ghost use Rattle.lists.specs.Lists.{part};
 ghost use Rattle.rows_enough.specs.FirstRows.{wanted, rows_of};

@@ -1,4 +1,6 @@
 // The lent table of pool records, written: records from the rows that the engine works on, and records of zeros.
+#![tactic(auto)]
+
 ghost use Rattle.std.specs.Prelude.{◌≡◌, ◌++◌, ◌-◌, ◌<◌, ◌≤◌, length, take, drop, replicate};
 ghost use Rattle.lists.specs.Lists.{tab};
 ghost use Rattle.book.specs.Records.{no_pool};

@@ -1,11 +1,13 @@
 // Decides which cell of the day's tally an answer raises: four message types by three outcomes.
+#![tactic(auto)]
+
 ghost use Rattle.std.specs.Prelude.{◌≡◌, length, ◌<◌};
 ghost use Rattle.tally.specs.Tally.{column_of, one_more, raised};
 
 use message_type::MessageType;
 
 // The three answers, without their numbers.
-#[derive(Drop)]
+#[derive(Clone, Copy)]
 pub enum Outcome {
     Accepted,
     Rejected,

@@ -1,4 +1,6 @@
 // What the terminator of one pool says, and the lot that ends with it: its kind, millions and weight.
+#![tactic(auto)]
+
 ghost use Rattle.std.specs.Prelude.{◌≡◌, ◌≤◌};
 ghost use Rattle.terminator.specs.Terminators.{millions_most, positions, terminator_of, is_end, is_wrong, is_bad, kind_of, millions_of, is_good, is_odd};
 ghost use Rattle.terminator.specs.Reading.{mark_of, lot_ended};
@@ -7,7 +9,7 @@ ghost use Rattle.terminator.specs.Lots.{current_cents, weight_of};
 use layout::Detail;
 
 // What positions two to four say.
-#[derive(Drop)]
+#[derive(Clone, Copy)]
 pub enum Terminator {
     Middle,
     BadMiddle,
@@ -18,7 +20,7 @@ pub enum Terminator {
 }
 
 // The three kinds of lots.
-#[derive(Drop)]
+#[derive(Clone, Copy)]
 pub enum Kind {
     Good,
     Odd,
@@ -26,7 +28,7 @@ pub enum Kind {
 }
 
 // What a pool's terminator says, taken apart.
-#[derive(Drop)]
+#[derive(Clone, Copy)]
 pub struct Mark {
     pub one: u8,
     pub wrong: bool,
@@ -38,14 +40,14 @@ pub struct Mark {
 }
 
 // Whether a CC's groups are formed (20) and balanced (21).
-#[derive(Drop)]
+#[derive(Clone, Copy)]
 pub struct Groups {
     pub formed: bool,
     pub balanced: bool,
 }
 
 // A lot of a message: position one, kind, millions, its first and last pool by index, and its weight in cents.
-#[derive(Drop)]
+#[derive(Clone, Copy)]
 pub struct LotHead {
     pub one: u8,
     pub kind: Kind,
@@ -55,7 +57,7 @@ pub struct LotHead {
     pub weight: u64,
 }
 
-#[derive(Drop)]
+#[derive(Clone, Copy)]
 pub enum LotRead {
     Found(LotHead),
     Nothing,

@@ -1,10 +1,12 @@
 // Which trade ID the special instructions of a message name, and whether two prices agree.
+#![tactic(auto)]
+
 ghost use Rattle.std.specs.Prelude.{◌≡◌, drop};
 ghost use Rattle.trade_id.specs.SpecialInstructions.{begins_with_mark, mark_in, id_at, trade_id_of};
 ghost use Rattle.trade_id.specs.Prices.{prices_agree};
 
 // What the special instructions hold: a whole ID, by the place of its first character and its length; one begun but not whole; none.
-#[derive(Drop)]
+#[derive(Clone, Copy)]
 pub enum TradeId {
     Whole { place: usize, length: usize },
     Broken,
@@ -12,7 +14,7 @@ pub enum TradeId {
 }
 
 // Where the mark "TRID=" first stands.
-#[derive(Drop)]
+#[derive(Clone, Copy)]
 enum Mark {
     At(usize),
     Nowhere,
