@@ -9,7 +9,7 @@ sources = crates.txt $(shell find crates -name '*.rt' -o -name '*.antt')
 headers = rhoikandra/rhoikandra.h rhoikandra/rhoikandra_saved.h
 crate = rhoikandra/Cargo.toml rhoikandra/build.rs rhoikandra/link.rs
 modules = $(wildcard rhoikandra/src/*.rs)
-examples = $(addprefix rhoikandra/examples/three_messages.,c cpp rs)
+examples = $(addprefix rhoikandra/examples/kept_day.,c cpp rs)
 tables = rhoikandra/numbers.tsv rhoikandra/rules.tsv
 version = $(shell sed -n 's/^version = "\(.*\)"/\1/p' rhoikandra/Cargo.toml)
 
@@ -24,8 +24,7 @@ all: $(archive)
 # Proves the library and compiles it: some minutes, and none where nothing changed.
 $(archive): $(sources)
 	@command -v $(RT) >/dev/null || { echo 'make: $(RT) is not found: the Rattle toolchain proves and compiles $@' >&2; exit 1; }
-	$(RT) staticlib rhoikandra
-	touch $@
+	tools/build rhoikandra
 
 install: $(archive)
 	$(INSTALL) -d '$(top)/lib/pkgconfig' '$(top)/include' '$(share)/rust/src' '$(share)/examples'

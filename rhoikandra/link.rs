@@ -2,7 +2,7 @@
 
 use std::path::{Path, PathBuf};
 
-/// Where the toolchain writes the archives in a clone, from its top.
+/// Where `tools/build` lays the archives in a clone, from its top.
 pub const WRITTEN: &str = "target/staticlib";
 
 /// The top of the clone that a crate stands in.
@@ -16,7 +16,7 @@ pub fn archives(folder: &Path, names: &[&str]) {
         let archive = folder.join(format!("lib{name}.a"));
         println!("cargo:rerun-if-changed={}", archive.display());
         if !archive.is_file() {
-            fail(&format!("{} is not there: `rt staticlib {name}` writes it", archive.display()));
+            fail(&format!("{} is not there: `tools/build {name}` writes it", archive.display()));
         }
         println!("cargo:rustc-link-lib=static={name}");
     }

@@ -56,7 +56,7 @@ extern "C" {
 #define RHOIKANDRA_OUTPUT_LENGTH 217
 
 /* The records of the longest table. */
-#define RHOIKANDRA_RECORDS_MAX 4096
+#define RHOIKANDRA_RECORDS_MAX (4 * 1024)
 
 /* A record of the table: the message ID that brought the pool, its lot's ordinal there, its trade, the matched fields as bytes, its
    current face in cents, its lot's kind (1 good, 2 odd, 3 bad) and millions. A record that is not used is zeros. spare is no part of

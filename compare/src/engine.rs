@@ -41,21 +41,15 @@ pub fn opening(values: &OpeningValues) -> Opening {
     }
 }
 
-/// The places of a trade's length, seller, settlement and open par among its words, the words of a trade, and the trades that
-/// there is room for; where the words after the trades begin, and what stands where among them.
-const LENGTH: usize = 16;
-const SELLER: usize = 17;
-const SETTLEMENT: usize = 38;
+/// The place of a trade's open par among its words, the words of a trade, and the trades that there is room for; where the
+/// words after the trades begin, and where the holidays and the line stand among them.
 const OPEN_PAR: usize = 41;
-const TRADE_WORDS: usize = 42;
+pub const TRADE_WORDS: usize = 42;
 const TRADES_MAX: usize = 64;
-const REST: usize = 2688;
-const HOLIDAYS: usize = 1;
+pub const REST: usize = 2688;
+pub const HOLIDAYS: usize = 1;
 const HOLIDAYS_MAX: usize = 32;
-const SUBSCRIBER: usize = 34;
-const CEILING: usize = 42;
-const OUTBOUND: usize = 47;
-const RECEIVED: usize = 48;
+pub const RECEIVED: usize = 48;
 
 /// The words of a book: those of its values, with open pars, line and live pools.
 pub fn words(book: &Book) -> Vec<u64> {
@@ -100,30 +94,6 @@ pub fn fill_opened(words: &mut [u64], mut word: impl FnMut() -> u64) {
         words[trade * TRADE_WORDS + OPEN_PAR] = word();
     }
     words[REST + RECEIVED..].fill_with(&mut word);
-}
-
-/// The places of words that can be too wide: those that hold a byte, those that hold a number of 32 bits, and those of the line,
-/// which opening does not read.
-pub struct Wide {
-    pub bytes: Vec<usize>,
-    pub numbers: Vec<usize>,
-    pub of_line: Vec<usize>,
-}
-
-/// Those of the trades and holidays that count, and of what stands beside them.
-pub fn wide(values: &OpeningValues) -> Wide {
-    let of_trade = |trade: usize| {
-        let texts = (0..LENGTH).chain(SELLER..SETTLEMENT);
-        texts.map(move |place| trade * TRADE_WORDS + place)
-    };
-    let of_trades = (0..values.trades.len()).flat_map(of_trade);
-    let accounts = REST + SUBSCRIBER..REST + CEILING;
-    let holidays = REST + HOLIDAYS..REST + HOLIDAYS + values.holidays.len();
-    Wide {
-        bytes: of_trades.chain(accounts).collect(),
-        numbers: holidays.chain([REST + OUTBOUND]).collect(),
-        of_line: (REST + RECEIVED..REST + RECEIVED + 3).collect(),
-    }
 }
 
 /// The reference's record as the engine's.

@@ -5,9 +5,8 @@ use std::collections::BTreeMap;
 use std::path::Path;
 
 use compare::cases::Cases;
-use compare::engine::{
-    fill_opened, fill_past, held, opening, raw, same_table, told, words, words_after,
-};
+use compare::engine::{fill_opened, fill_past, told, words, words_after};
+use compare::landed::{self as rhoikandra, held, same_table, Tally};
 use reference::answer::{Answer, Number, OPENING, SILENT, UNSOUND_BOOK};
 use reference::book::{Book, PoolRecord};
 use reference::damage::{scribble, sound_book, Lent, BOOK_DAMAGES, OPENING_DAMAGES};
@@ -19,7 +18,6 @@ use reference::history::History;
 use reference::opening::CENTS_MAX;
 use reference::pool_detail::MatchedFields;
 use reference::script;
-use rhoikandra::{Tally, OUTPUT_LENGTH};
 
 /// How often each code was met, 0 for accepted, and how often a full cell of the tally stayed full.
 #[derive(Debug, Default)]
@@ -68,14 +66,10 @@ fn both(
     let mut output = out.clone();
     // What stands past the trades and the holidays is no call's to ask.
     if random.percent(5) {
-        fill_past(&mut client.raw_mut().words, &book.values, || random.number());
+        fill_past(&mut client.words, &book.values, || random.number());
     }
-    let before_words = client.raw().words.clone();
-    let everyday = (length >= OUTPUT_LENGTH && random.percent(10)).then(|| {
-        let mut client = client.clone();
-        (client.step(body, time), client)
-    });
-    let rhoikandra::Said { answer: said, written } =
+    let before_words = client.words.clone();
+    let rhoikandra::Stepped { answer: said, written } =
         client.step_by(random.number(), body, time, &mut out);
     let answer = told(said);
     let before = tally.rows;
@@ -103,14 +97,9 @@ fn both(
         false => 64,
     };
     assert_eq!(written, own, "the bytes to send after {answer:?}");
-    if let Some((stepped, after)) = everyday {
-        assert_eq!((stepped.answer, stepped.to_send()), (said, &output[..own]));
-        assert!(after == *client, "the everyday call leaves another book after {answer:?}");
-    }
     let silent = SILENT.contains(&answer.code());
-    assert_eq!(client.raw().words, words_after(book, &before_words, answer, silent));
-    assert!(same_table(client.raw(), table), "the tables differ after {answer:?}");
-    assert_eq!(client.live_pools(), &client.raw().pools[..book.live_count.min(table.len())]);
+    assert_eq!(client.words, words_after(book, &before_words, answer, silent));
+    assert!(same_table(client, table), "the tables differ after {answer:?}");
     *met.codes.entry(answer.code()).or_default() += 1;
 }
 
@@ -120,20 +109,18 @@ fn whole(day: &Day, cases: &mut Cases, met: &mut Met) {
     let mut book = reference::opening::open(&day.opening, &mut table).expect("an opening in range");
     // Opening sets open pars, line and live pools itself, whatever the words say of them, and zeroes what stands past the counts, and the table.
     let used = cases.random.percent(30);
-    let before: Vec<PoolRecord> = table
+    let lent: Vec<PoolRecord> = table
         .iter()
         .map(|&record| if used { any_record(&mut cases.random) } else { record })
         .collect();
-    let mut raw = raw(&book, &before);
+    let mut client = held(&book, &lent);
     if cases.random.percent(30) {
-        fill_past(&mut raw.words, &day.opening, || cases.random.number());
-        fill_opened(&mut raw.words, || cases.random.number());
+        fill_past(&mut client.words, &day.opening, || cases.random.number());
+        fill_opened(&mut client.words, || cases.random.number());
     }
-    assert_eq!(raw.open(), Ok(()), "the day of seed {}", day.seed);
-    assert_eq!(raw.words, words(&book));
-    assert!(same_table(&raw, &table), "the table is zeros after opening");
-    let mut client = rhoikandra::Book::from_raw(raw);
-    assert_eq!(opening(&day.opening).open(day.records).as_ref(), Ok(&client));
+    assert_eq!(client.open(), Ok(()), "the day of seed {}", day.seed);
+    assert_eq!(client.words, words(&book));
+    assert!(same_table(&client, &table), "the table is zeros after opening");
     let mut tally = any_tally(&mut cases.random);
     for call in &day.calls {
         // A book that was written down and read again is the same book.
@@ -279,7 +266,7 @@ fn damaged_books() {
             let before = client.clone();
             let mut out = cases.random.bytes(217);
             let kept = out.clone();
-            let answer = client.step_into(&body, b"000000", &mut out).answer;
+            let answer = client.step(&body, b"000000", &mut out).answer;
             assert_eq!(told(answer), Answer::Rejected(UNSOUND_BOOK), "{name}");
             assert_eq!(client.figures(0), None, "{name}");
             assert!(client == before && out == kept, "{name}: something moved");
@@ -337,7 +324,7 @@ fn one_place_after_the_live_pools() {
         for place in 0..28 {
             let mut client = held(&book, &table);
             let (bit, byte) = (1 << cases.random.below(64), 1 << cases.random.below(8));
-            let pool = &mut client.raw_mut().pools[record];
+            let pool = &mut client.pools[record];
             match place {
                 0 => pool.message = bit,
                 1 => pool.ordinal = bit,
@@ -351,7 +338,7 @@ fn one_place_after_the_live_pools() {
             }
             let before = client.clone();
             let mut out = cases.random.bytes(217);
-            let answer = told(client.step_into(&body, b"000000", &mut out).answer);
+            let answer = told(client.step(&body, b"000000", &mut out).answer);
             assert_eq!(answer, Answer::Rejected(UNSOUND_BOOK), "record {record}, place {place}");
             assert!(client == before);
             cases.count();
@@ -366,29 +353,28 @@ fn images_that_are_no_book() {
     let (book, table) = sound_book();
     for _ in 0..3_000 {
         let mut client = held(&book, &table);
-        let words = &mut client.raw_mut().words;
         // Whether a number was received, and which.
-        let received = words.len() - 4;
+        let received = client.words.len() - 4;
         match cases.random.below(6) {
-            0 => words.truncate(cases.random.below(rhoikandra::BOOK_WORDS as u64) as usize),
-            1 => words.push(0),
-            2 => words[received..][..2].copy_from_slice(&[0, cases.random.between(1, 9)]),
-            3 => words[received..][..2].copy_from_slice(&[cases.random.between(2, 9), 0]),
-            4 => words[received + 1] = 1 << cases.random.between(32, 63),
+            0 => client.words.truncate(cases.random.below(rhoikandra::BOOK_WORDS as u64) as usize),
+            1 => client.words.push(0),
+            2 => client.words[received..][..2].copy_from_slice(&[0, cases.random.between(1, 9)]),
+            3 => client.words[received..][..2].copy_from_slice(&[cases.random.between(2, 9), 0]),
+            4 => client.words[received + 1] = 1 << cases.random.between(32, 63),
             _ => {
                 let byte = cases.random.below(16) as usize;
-                words[byte] = 256 + cases.random.pick(&[0, 0, 1]) * (cases.random.number() / 2);
+                client.words[byte] =
+                    256 + cases.random.pick(&[0, 0, 1]) * (cases.random.number() / 2);
             }
         }
         let before = client.clone();
         let mut out = cases.random.bytes(217);
         let kept = out.clone();
         assert_eq!(
-            told(client.step_into(&body, b"000000", &mut out).answer),
+            told(client.step(&body, b"000000", &mut out).answer),
             Answer::Rejected(UNSOUND_BOOK)
         );
         assert!(client == before && out == kept);
-        assert!(client.live_pools().len() <= client.records());
         cases.count();
     }
 }
@@ -421,17 +407,16 @@ fn damaged_openings() {
             let mut table: Vec<PoolRecord> =
                 (0..lent.records).map(|_| any_record(&mut cases.random)).collect();
             let shown = Book { values: lent.values.clone(), open_par_cents: Vec::new(), ..book };
-            let mut raw = raw(&shown, &table);
-            let before = raw.clone();
+            let mut client = held(&shown, &table);
+            let before = client.clone();
             assert_eq!(
                 reference::opening::open(&lent.values, &mut table).err(),
                 Some(OPENING),
                 "{name}"
             );
-            assert_eq!(raw.open(), Err(OPENING), "{name}");
-            assert!(raw == before, "{name}: something moved");
-            assert!(same_table(&raw, &table), "{name}: the reference moved something");
-            assert_eq!(opening(&lent.values).open(lent.records), Err(OPENING), "{name}");
+            assert_eq!(client.open(), Err(OPENING), "{name}");
+            assert!(client == before, "{name}: something moved");
+            assert!(same_table(&client, &table), "{name}: the reference moved something");
             cases.count();
         }
     }

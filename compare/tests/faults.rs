@@ -3,7 +3,8 @@
 use std::collections::BTreeMap;
 
 use compare::cases::Cases;
-use compare::engine::{fill_opened, fill_past, opening, raw, told, wide, Wide};
+use compare::engine::{fill_opened, fill_past, opening, raw, told};
+use compare::wide::{wide, Wide};
 use reference::answer::{Answer, OPENING, UNSOUND_BOOK};
 use reference::book::{Book, PoolRecord};
 use reference::damage::{scribble, sound_book, Lent, BOOK_DAMAGES, OPENING_DAMAGES};

@@ -51,9 +51,9 @@ const INSTALLED: [&str; 12] = [
     "include/rhoikandra_saved.h",
     "lib/librhoikandra.a",
     "lib/pkgconfig/rhoikandra.pc",
-    "share/rhoikandra/examples/three_messages.c",
-    "share/rhoikandra/examples/three_messages.cpp",
-    "share/rhoikandra/examples/three_messages.rs",
+    "share/rhoikandra/examples/kept_day.c",
+    "share/rhoikandra/examples/kept_day.cpp",
+    "share/rhoikandra/examples/kept_day.rs",
     "share/rhoikandra/numbers.tsv",
     "share/rhoikandra/rules.tsv",
     "share/rhoikandra/rust/Cargo.toml",
@@ -88,7 +88,7 @@ impl Place {
     }
 
     fn example(&self, ending: &str) -> PathBuf {
-        self.prefix.join("share/rhoikandra/examples/three_messages").with_extension(ending)
+        self.prefix.join("share/rhoikandra/examples/kept_day").with_extension(ending)
     }
 
     /// What the installed example prints, built as a program of this folder.

@@ -1,19 +1,18 @@
 //! What a client in C may lend and the safe wrapper cannot: time bytes that are not six, and slices too short for what is said.
 
-use compare::engine::{held, opening, raw, told};
-use reference::answer::{Answer, OPENING, UNSOUND_BOOK};
+use compare::engine::told;
+use compare::landed::{held, Book};
+use reference::answer::{Answer, UNSOUND_BOOK};
 use reference::desk::{pool, Desk};
 use reference::opening::TABLE_MAX;
-use rhoikandra::exported::{
-    rhoikandra_book_fault, rhoikandra_figures, rhoikandra_opening_fault, rhoikandra_step,
-};
+use rhoikandra::exported::{rhoikandra_figures, rhoikandra_step};
 use rhoikandra::numbers::TIME_REFUSED;
-use rhoikandra::{Book, Fault, Pool, Raw, OUTPUT_LENGTH};
+use rhoikandra::{Pool, OUTPUT_LENGTH};
 
 const TRADES_MAX: usize = 64;
 
 fn step(book: &mut Book, body: &[u8], time: &[u8], out: &mut [u8], said: &mut [u64]) {
-    let Raw { words, pools } = book.raw_mut();
+    let Book { words, pools } = book;
     unsafe {
         rhoikandra_step(
             words.as_mut_ptr(),
@@ -73,7 +72,7 @@ fn an_answer_without_room() {
     let (desk, body) = desk(1);
     let mut expected = held(&desk.book, &desk.table);
     let mut written = [7; OUTPUT_LENGTH];
-    assert_eq!(told(expected.step_into(&body, b"093000", &mut written).answer), Answer::Accepted);
+    assert_eq!(told(expected.step(&body, b"093000", &mut written).answer), Answer::Accepted);
     for room in 0..5 {
         let mut book = held(&desk.book, &desk.table);
         let (mut out, mut said) = ([7; OUTPUT_LENGTH], vec![9; room]);
@@ -93,15 +92,15 @@ fn an_answer_without_room() {
 #[test]
 fn figures_without_room() {
     let (desk, _) = desk(1);
-    let Raw { words, pools } = raw(&desk.book, &desk.table);
+    let book = held(&desk.book, &desk.table);
     for room in 0..5 {
         let mut out = vec![9; room];
         unsafe {
             rhoikandra_figures(
-                words.as_ptr(),
-                words.len(),
-                pools.as_ptr(),
-                pools.len(),
+                book.words.as_ptr(),
+                book.words.len(),
+                book.pools.as_ptr(),
+                book.pools.len(),
                 0,
                 0,
                 out.as_mut_ptr(),
@@ -119,76 +118,17 @@ fn figures_without_room() {
     }
 }
 
-/// Two numbers are written all or none, whether a rule is broken or not, and a longer slice keeps its tail.
-#[test]
-fn faults_without_room() {
-    let (desk, _) = desk(2);
-    let sound = raw(&desk.book, &desk.table);
-    let mut broken = sound.clone();
-    // The second trade's settlement, and a record after the live ones.
-    let settlement = 42 + 38;
-    broken.words[settlement] = 7_042_026;
-    let mut record = sound.clone();
-    record.pools[15].kind = 1;
-    let cases =
-        [(&sound, [0, 0], [0, 0]), (&broken, [127, 1], [127, 1]), (&record, [0, 0], [160, 15])];
-    for (Raw { words, pools }, of_opening, of_book) in cases {
-        for room in 0..5 {
-            let told = |named: [u64; 2]| match room {
-                0 => vec![],
-                1 => vec![9],
-                _ => [&named[..], &[9; 3][..room - 2]].concat(),
-            };
-            let mut out = vec![9; room];
-            unsafe {
-                rhoikandra_opening_fault(
-                    words.as_ptr(),
-                    words.len(),
-                    pools.len(),
-                    out.as_mut_ptr(),
-                    out.len(),
-                )
-            };
-            assert_eq!(out, told(of_opening));
-            let mut out = vec![9; room];
-            unsafe {
-                rhoikandra_book_fault(
-                    words.as_ptr(),
-                    words.len(),
-                    pools.as_ptr(),
-                    pools.len(),
-                    out.as_mut_ptr(),
-                    out.len(),
-                )
-            };
-            assert_eq!(out, told(of_book));
-        }
-    }
-}
-
-/// A table that is longer than a table may be is refused by every call, and not opened.
+/// A table that is longer than a table may be is refused by every call.
 #[test]
 fn a_table_too_long() {
     let (desk, body) = desk(1);
     let mut book = held(&desk.book, &desk.table);
-    book.raw_mut().pools.resize(TABLE_MAX + 1, Pool::default());
+    book.pools.resize(TABLE_MAX + 1, Pool::default());
     let before = book.clone();
     let mut out = [7; OUTPUT_LENGTH];
-    assert_eq!(
-        told(book.step_into(&body, b"093000", &mut out).answer),
-        Answer::Rejected(UNSOUND_BOOK)
-    );
+    assert_eq!(told(book.step(&body, b"093000", &mut out).answer), Answer::Rejected(UNSOUND_BOOK));
     assert_eq!(book.figures(0), None);
-    assert_eq!(book.fault(), Some(Fault { rule: 141, place: 0 }));
     assert!(book == before && out == [7; OUTPUT_LENGTH]);
-    book.raw_mut().pools.truncate(TABLE_MAX);
-    assert_eq!(book.fault(), None);
-    assert_eq!(told(book.step_into(&body, b"093000", &mut out).answer), Answer::Accepted);
-    let opening = opening(&desk.book.values);
-    for records in [TABLE_MAX + 1, usize::MAX] {
-        assert_eq!(opening.open(records), Err(OPENING));
-        assert_eq!(opening.fault(records), Some(Fault { rule: 141, place: 0 }));
-    }
-    let opened = opening.open(TABLE_MAX).unwrap();
-    assert_eq!((opened.records(), opened.live_pools()), (TABLE_MAX, &[][..]));
+    book.pools.truncate(TABLE_MAX);
+    assert_eq!(told(book.step(&body, b"093000", &mut out).answer), Answer::Accepted);
 }

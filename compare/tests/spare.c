@@ -1,7 +1,7 @@
 /* An accepted opening leaves nothing in the bytes of a table that are no part of its records, and a refused one leaves all as it was. */
 #include <string.h>
 
-#include <rhoikandra.h>
+#include "../../rhoikandra/rhoikandra.h"
 
 #define RECORDS 64
 

@@ -3,8 +3,8 @@
 use std::collections::BTreeMap;
 use std::path::Path;
 
-use rhoikandra::columns::{Column, DETAIL, HEADER};
-use rhoikandra::{Limits, Opening, Raw, Trade};
+use compare::landed::Words;
+use rhoikandra::{Limits, Opening, Trade};
 
 type Numbers = BTreeMap<String, usize>;
 
@@ -34,7 +34,7 @@ fn defines() -> Numbers {
 
 /// The engine's constants: the places of words, and the sizes of what a book holds.
 fn engine() -> Numbers {
-    let crates = ["book", "trade_id", "acknowledgment", "tally", "image", "layout"];
+    let crates = ["book", "trade_id", "acknowledgment", "tally", "image"];
     crates.iter().flat_map(|name| constants(&format!("crates/{name}/src/lib.rt"))).collect()
 }
 
@@ -64,7 +64,6 @@ fn the_header_has_the_engines_places() {
         &defines(),
         &[
             ("BOOK_WORDS", &["BOOK_WORDS"]),
-            ("RECORDS_MAX", &["RECORDS_MAX"]),
             ("TRADE_WORDS", &["TRADE_WORDS"]),
             ("TRADE_LENGTH", &["LENGTH"]),
             ("TRADE_SELLER", &["SELLER"]),
@@ -95,11 +94,7 @@ fn the_wrapper_has_the_engines_sizes() {
     hold(
         "the wrapper",
         &constants("rhoikandra/src/lib.rs"),
-        &[
-            ("BOOK_WORDS", &["BOOK_WORDS"]),
-            ("LIVE", &["REST", "LIVE"]),
-            ("OUTPUT_LENGTH", &["TX_LENGTH", "AA_LENGTH"]),
-        ],
+        &[("BOOK_WORDS", &["BOOK_WORDS"]), ("OUTPUT_LENGTH", &["TX_LENGTH", "AA_LENGTH"])],
     );
     hold(
         "the wrapper's opening",
@@ -109,66 +104,21 @@ fn the_wrapper_has_the_engines_sizes() {
             ("TRADE_WORDS", &["TRADE_WORDS"]),
             ("HOLIDAYS_MAX", &["HOLIDAYS_MAX"]),
             ("ID_MAX", &["ID_LENGTH_MAX"]),
-            ("RECORDS_MAX", &["RECORDS_MAX"]),
-        ],
-    );
-    hold(
-        "the wrapper's columns",
-        &constants("rhoikandra/src/columns.rs"),
-        &[
-            ("HEADER_WIDTH", &["HEADER_WIDTH"]),
-            ("DETAIL_WIDTH", &["DETAIL_WIDTH"]),
-            ("POOLS_MAX", &["POOLS_MAX"]),
         ],
     );
     hold(
         "the comparison",
         &constants("compare/src/engine.rs"),
         &[
-            ("LENGTH", &["LENGTH"]),
-            ("SELLER", &["SELLER"]),
-            ("SETTLEMENT", &["SETTLEMENT"]),
             ("OPEN_PAR", &["OPEN_PAR"]),
             ("TRADE_WORDS", &["TRADE_WORDS"]),
             ("TRADES_MAX", &["TRADES_MAX"]),
             ("REST", &["REST"]),
             ("HOLIDAYS", &["HOLIDAYS"]),
             ("HOLIDAYS_MAX", &["HOLIDAYS_MAX"]),
-            ("SUBSCRIBER", &["SUBSCRIBER"]),
-            ("CEILING", &["CEILING"]),
-            ("OUTBOUND", &["OUTBOUND"]),
             ("RECEIVED", &["RECEIVED"]),
         ],
     );
-}
-
-/// The engine's columns, in the order of its source: name, first byte, width.
-fn engine_columns() -> Vec<(String, usize, usize)> {
-    let column = |line: &str| {
-        let (name, column) =
-            line.strip_prefix("pub const ")?.split_once(": Column = Column { at: ")?;
-        let (at, width) = column.strip_suffix(" };")?.split_once(", width: ")?;
-        Some((name.to_string(), at.parse().unwrap(), width.parse().unwrap()))
-    };
-    text("crates/layout/src/lib.rt").lines().filter_map(column).collect()
-}
-
-/// Every column of the engine, and no other.
-#[test]
-fn the_wrapper_has_the_engines_columns() {
-    let parts = |column: &Column| (column.name.to_string(), column.at, column.width);
-    let columns: Vec<_> = HEADER.iter().chain(DETAIL).map(parts).collect();
-    assert_eq!(columns, engine_columns());
-    assert_eq!(text("crates/layout/src/lib.rt").matches(": Column = ").count(), columns.len());
-}
-
-/// The bytes that start and end a frame.
-#[test]
-fn the_wrapper_has_the_engines_marks() {
-    let engine = text("crates/framing/src/lib.rt");
-    for (name, mark) in [("START", rhoikandra::START), ("END", rhoikandra::END)] {
-        assert!(engine.lines().any(|line| line == format!("const {name}: u8 = {mark};")), "{name}");
-    }
 }
 
 /// The wrapper writes the words of an opening one after another: each part begins at its constant, and the next where it ends.
@@ -193,7 +143,7 @@ fn the_wrapper_writes_to_the_engines_places() {
         last: 37,
         outbound: 38,
     };
-    let (Raw { words, .. }, engine) = (Raw::of(&opening, 0), engine());
+    let (words, engine) = (opening.words(), engine());
     let holds = |base: usize, parts: &[(&str, usize, Vec<u64>)]| {
         let mut place = 0;
         for (name, width, begin) in parts {

@@ -3,9 +3,11 @@
 #[path = "../../rhoikandra/examples/three_messages.rs"]
 mod three_messages;
 
-use rhoikandra::columns::{GDMM, NUMBER_OF_POOLS, REASON, SEQUENCE, TARGET};
-use rhoikandra::message::Message;
-use rhoikandra::{numbers, Answer, Book, Pool, Raw};
+use std::path::Path;
+use std::process::{Command, Output};
+
+use compare::landed::Book;
+use rhoikandra::{numbers, Answer, Pool, OUTPUT_LENGTH};
 
 /// By the paper: 3 millions of par less two good lots of one million; a replacement of equal weight leaves both figures;
 /// a DK gives one million back; and what is off cannot be taken off again.
@@ -21,6 +23,39 @@ fn three_messages_and_their_figures() {
             "3 accepted, 1 rejected, 0 DKed; 256 bytes sent",
         ]
     );
+}
+
+/// A program in C, built without and with the compiler's care, and run.
+fn from_c(source: &str, name: &str, level: &str) -> Output {
+    let top = Path::new(env!("CARGO_MANIFEST_DIR")).join("..");
+    let program = Path::new(env!("CARGO_TARGET_TMPDIR")).join(format!("{name}{level}"));
+    let built = Command::new("cc")
+        .args(["-Wall", "-Wextra", "-Werror", level, "-o"])
+        .arg(&program)
+        .arg(top.join(source))
+        .arg(top.join("target/staticlib/librhoikandra.a"))
+        .status();
+    assert!(built.expect("cargo links by cc too").success());
+    Command::new(program).output().unwrap()
+}
+
+/// The same messages from C, by the header: the same figures.
+#[test]
+fn three_messages_from_c() {
+    // The example in Rust says what a refusal means, the one in C its number alone.
+    let told = three_messages::lines().join("\n").replace(": no live pool under the target", "");
+    for level in ["-O0", "-O2"] {
+        let printed = from_c("rhoikandra/examples/three_messages.c", "three_messages", level).stdout;
+        assert_eq!(String::from_utf8(printed).unwrap().trim_end(), told);
+    }
+}
+
+/// In C too an accepted opening leaves no stale byte in the memory of a table.
+#[test]
+fn spare_bytes_from_c() {
+    for level in ["-O0", "-O2"] {
+        assert!(from_c("compare/tests/spare.c", "spare", level).status.success(), "{level}");
+    }
 }
 
 /// Noise before, between and after frames is dropped, an unfinished frame too; an empty body is a frame.
@@ -50,33 +85,33 @@ fn spare_bytes() {
     assert_eq!(size_of::<Pool>(), 72);
 
     let mut opening = three_messages::opening();
-    let mut raw = Raw::of(&opening, 64);
-    raw.pools.fill(spent);
-    raw.open().unwrap();
-    assert_eq!(raw.pools, [Pool::default(); 64]);
-    assert!(raw.pools.iter().all(|pool| pool.spare == [0; 2]));
-    let mut book = Book::from_raw(raw);
+    let mut book = Book::of(&opening, 64);
+    book.pools.fill(spent);
+    book.open().unwrap();
+    assert_eq!(book.pools, [Pool::default(); 64]);
+    assert!(book.pools.iter().all(|pool| pool.spare == [0; 2]));
+
+    let message =
+        three_messages::body("ON", 1, 1, 0, &[("AA00001", 1_000_000, 100_000_000, "0001")]);
+    assert_eq!(book.step(&message, b"093000", &mut [0; OUTPUT_LENGTH]).answer, Answer::Accepted(1));
+    assert!(book.pools.iter().all(|pool| pool.spare == [0; 2]));
 
     // A CC and a DK close the table up.
-    let lot = three_messages::lot;
-    let on = Message::on(&opening, 0).number(GDMM, 1).pool(&lot(b"AA00001", b"0001"));
-    let cc = Message::cc(&opening, 0).number(TARGET, 1).number(NUMBER_OF_POOLS, 1);
-    let cc = cc.pool(&lot(b"AA00001", b"6001")).pool(&lot(b"AA00002", b"7001"));
-    let dk = Message::dk(&opening, 0).number(TARGET, 2).number(REASON, 1);
-    let dk = dk.pool(&lot(b"AA00002", b"0001"));
-    for (message, id) in [(on, 1), (cc, 2), (dk, 3)] {
-        let body = message.number(SEQUENCE, id).body();
-        assert_eq!(book.step(&body, b"093000").answer, Answer::Accepted(id));
-        assert!(book.raw().pools.iter().all(|pool| pool.spare == [0; 2]), "message {id}");
+    let lot = |pool, terminator| (pool, 1_000_000, 100_000_000, terminator);
+    let cc = three_messages::body("CC", 2, 0, 1, &[lot("AA00001", "6001"), lot("AA00002", "7001")]);
+    let dk = three_messages::body("DK", 3, 0, 2, &[lot("AA00002", "0001")]);
+    for (message, id) in [(cc, 2), (dk, 3)] {
+        assert_eq!(book.step(&message, b"093000", &mut [0; OUTPUT_LENGTH]).answer, Answer::Accepted(id));
+        assert!(book.pools.iter().all(|pool| pool.spare == [0; 2]), "message {id}");
     }
 
     let bytes = book.save();
-    book.raw_mut().pools.iter_mut().for_each(|pool| pool.spare = [0xFF; 2]);
+    book.pools.iter_mut().for_each(|pool| pool.spare = [0xFF; 2]);
     assert_eq!(book.save(), bytes);
     assert_eq!(Book::load(&bytes), Ok(book));
 
     opening.trades[0].seller = opening.trades[0].buyer;
-    let mut refused = Raw::of(&opening, 64);
+    let mut refused = Book::of(&opening, 64);
     refused.pools.fill(spent);
     assert_eq!(refused.open(), Err(41));
     assert!(refused.pools.iter().all(|pool| *pool == spent && pool.spare == spent.spare));

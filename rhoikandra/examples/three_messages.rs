@@ -1,26 +1,41 @@
-//! Opens a book, reads an ON, a CC and a DK from a line, sends exactly what each call gives to send, saves and loads the book after each, and prints the figures, and how the answers were at the end.
+//! Opens a book, sends an ON, a CC and a DK as frames of a tape, and prints the figures after each, and how the answers were at the end.
 
-use rhoikandra::columns::{GDMM, NUMBER_OF_POOLS, REASON, SEQUENCE, TARGET};
-use rhoikandra::message::{Message, PoolDetail};
-use rhoikandra::{numbers, Answer, Book, Limits, Line, Opening, Tally, Trade};
+mod landed;
 
-/// A good lot of one million in one pool.
-pub fn lot(pool: &[u8; 7], terminator: &[u8; 4]) -> PoolDetail {
-    PoolDetail {
-        lot: *b"LOT001",
-        pool: *pool,
-        original: 1_000_000,
-        current: 100_000_000,
-        terminator: *terminator,
+use landed::{Book, Stepped};
+use rhoikandra::{Answer, Limits, OUTPUT_LENGTH, Opening, Tally, Trade, numbers};
+
+/// The bytes that start and end a frame.
+const START: u8 = 2;
+const END: u8 = 3;
+
+/// A pool of a message: number, original face in dollars, current face in cents, terminator.
+pub type Pool<'a> = (&'a str, u64, u64, &'a str);
+
+/// The body of a message: a header and its pools, by the columns of the paper.
+pub fn body(kind: &str, sequence: u32, millions: u64, target: u64, pools: &[Pool]) -> Vec<u8> {
+    let submitter = if kind == "DK" { "MBBB" } else { "MBAA" };
+    let new = if kind == "CC" { pools.iter().filter(|pool| pool.3.starts_with('7')).count() } else { 0 };
+    let reason = if kind == "DK" { 1 } else { 0 };
+    let mut text = format!(
+        "{kind}{sequence:06}00201231200{submitter}FTBA01F082630 {par:011}{blank:10}{price:012}{millions:04}\
+         {date:08}{date:08}{date:08}{blank:16}{blank:4}{reason:04}{target:011}{blank:15}{blank:4} {blank:30}{new:04}",
+        par = 100_000_000,
+        price = 98_500_000_000_u64,
+        date = 7_142_026,
+        blank = "",
+    );
+    for (number, original, current, terminator) in pools {
+        text += &format!("LOT001  {number:7}{original:09}{blank:55}{current:011}{blank:32}{terminator}{blank:73}", blank = "");
     }
+    text.into_bytes()
 }
 
 fn told(answer: Answer) -> String {
-    let cause = |number| numbers::meaning(number).map_or("", |meaning| meaning.cause);
     match answer {
         Answer::Accepted(id) => format!("accepted under {id}"),
-        Answer::Rejected(number) => format!("rejected with {number}: {}", cause(number)),
-        Answer::Dked(number) => format!("DKed with {number}: {}", cause(number)),
+        Answer::Rejected(number) => format!("rejected with {number}: {}", numbers::meaning(number).unwrap().cause),
+        Answer::Dked(number) => format!("DKed with {number}: {}", numbers::meaning(number).unwrap().cause),
     }
 }
 
@@ -46,56 +61,38 @@ pub fn opening() -> Opening {
     }
 }
 
-/// Two good lots of one million each; then one of them is replaced; then the replacement is questioned, twice.
-fn messages(opening: &Opening) -> [Message; 4] {
-    let on = Message::on(opening, 0).number(SEQUENCE, 1).number(GDMM, 2);
-    let cc =
-        Message::cc(opening, 0).number(SEQUENCE, 2).number(TARGET, 1).number(NUMBER_OF_POOLS, 1);
-    let dk = Message::dk(opening, 0).number(SEQUENCE, 3).number(TARGET, 2).number(REASON, 1);
-    let dk = dk.pool(&lot(b"AA00003", b"0001"));
-    [
-        on.pool(&lot(b"AA00001", b"0001")).pool(&lot(b"AA00002", b"0001")),
-        cc.pool(&lot(b"AA00002", b"6001")).pool(&lot(b"AA00003", b"7001")),
-        dk.clone(),
-        dk.number(SEQUENCE, 4),
-    ]
-}
-
 /// The lines that the example prints.
 pub fn lines() -> Vec<String> {
-    let opening = opening();
-    let mut book = opening.open(64).expect("the opening is in range");
-    let tape: Vec<u8> = messages(&opening).iter().flat_map(Message::frame).collect();
+    let mut book = Book::of(&opening(), 64);
+    book.open().expect("the opening is in range");
+    // Two good lots of one million each; then one of them is replaced; then the replacement is questioned.
+    let messages = [
+        body("ON", 1, 2, 0, &[("AA00001", 1_000_000, 100_000_000, "0001"), ("AA00002", 1_000_000, 100_000_000, "0001")]),
+        body("CC", 2, 0, 1, &[("AA00002", 1_000_000, 100_000_000, "6001"), ("AA00003", 1_000_000, 100_000_000, "7001")]),
+        body("DK", 3, 0, 2, &[("AA00003", 1_000_000, 100_000_000, "0001")]),
+        body("DK", 4, 0, 2, &[("AA00003", 1_000_000, 100_000_000, "0001")]),
+    ];
+    let tape: Vec<u8> = messages.iter().flat_map(|message| [&[START][..], message, &[END]].concat()).collect();
     let mut tally = Tally::default();
-    let mut line = Line::default();
-    let mut sent: Vec<u8> = Vec::new();
+    // What goes out on the line: exactly the bytes that each call wrote.
+    let mut line: Vec<u8> = Vec::new();
     let mut lines = Vec::new();
-    // A read ends anywhere: what it has of a frame is kept for the next one.
-    for read in tape.chunks(100) {
-        line.read(read);
-        while let Some(message) = line.next_body() {
-            let stepped = book.step(message, b"093000");
-            tally.count(message, stepped.answer);
-            // The book is saved before the answer goes out, so that a program that starts again goes on from here.
-            let saved = book.save();
-            sent.extend(stepped.to_send());
-            book = Book::load(&saved).expect("nothing changed meanwhile");
-            let figures = book.figures(0).expect("the book is sound");
-            lines.push(format!(
-                "{} {}; open par {}, standing millions {}",
-                String::from_utf8_lossy(&message[..2]),
-                told(stepped.answer),
-                figures.open_par,
-                figures.standing_millions,
-            ));
-        }
+    for message in rhoikandra::frames(&tape) {
+        let mut output = [0; OUTPUT_LENGTH];
+        let Stepped { answer, written } = book.step(message, b"093000", &mut output);
+        line.extend(&output[..written]);
+        tally.count(message, answer);
+        let figures = book.figures(0).expect("the book is sound");
+        lines.push(format!(
+            "{} {}; open par {}, standing millions {}",
+            String::from_utf8_lossy(&message[..2]),
+            told(answer),
+            figures.open_par,
+            figures.standing_millions,
+        ));
     }
-    let [accepted, rejected, dked] =
-        [0, 1, 2].map(|column| tally.rows.iter().map(|row| row[column]).sum::<u32>());
-    lines.push(format!(
-        "{accepted} accepted, {rejected} rejected, {dked} DKed; {} bytes sent",
-        sent.len()
-    ));
+    let [accepted, rejected, dked] = [0, 1, 2].map(|column| tally.rows.iter().map(|row| row[column]).sum::<u32>());
+    lines.push(format!("{accepted} accepted, {rejected} rejected, {dked} DKed; {} bytes sent", line.len()));
     lines
 }
 

@@ -190,9 +190,6 @@ pub struct Book {
     raw: raw::Raw,
 }
 
-/// Where a book's words have the number of live pools.
-const LIVE: usize = 2739;
-
 impl Book {
     /// Puts a frame's body to the book. What it gives to send is to be sent once the book is saved. Where it is rejected with
     /// 42, [`Book::fault`] says why.
@@ -245,9 +242,7 @@ impl Book {
 
     /// The pools that stand under trades, in the order of the table.
     pub fn live_pools(&self) -> &[Pool] {
-        let raw::Raw { words, pools } = &self.raw;
-        let live = words.get(LIVE).map_or(0, |live| pools.len().min(*live as usize));
-        &pools[..live]
+        self.raw.live_pools()
     }
 
     /// The figures of a trade, counted from 0 in opening order; none where there is no such trade or the book is damaged,

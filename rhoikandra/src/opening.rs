@@ -1,13 +1,12 @@
 //! What opening lends, and the words that say it.
 
-use crate::raw::Raw;
+use crate::raw::{Raw, RECORDS_MAX};
 use crate::{Book, Fault, Number, BOOK_WORDS};
 
 const TRADES_MAX: usize = 64;
 const TRADE_WORDS: usize = 42;
 const HOLIDAYS_MAX: usize = 32;
 const ID_MAX: usize = 16;
-const RECORDS_MAX: usize = 4096;
 
 /// A trade. Dates are the number mmddyyyy, the price has nine decimals, par is in cents.
 #[derive(Clone, Debug)]

@@ -3,6 +3,12 @@
 
 use crate::{exported, Fault, Number, Opening, Pool};
 
+/// The records of the longest table.
+pub const RECORDS_MAX: usize = 4096;
+
+/// Where a book's words have the number of live pools.
+const LIVE: usize = 2739;
+
 /// The words of a book and the records of its table.
 #[derive(Clone, Debug, PartialEq, Eq)]
 pub struct Raw {
@@ -34,6 +40,13 @@ impl Raw {
             }
             number => Err(number as Number),
         }
+    }
+
+    /// The records that the words say are live, as many of them as there are.
+    pub fn live_pools(&self) -> &[Pool] {
+        let Raw { words, pools } = self;
+        let live = words.get(LIVE).map_or(0, |live| pools.len().min(*live as usize));
+        &pools[..live]
     }
 
     /// The first rule of opening that the words break over a table of so many records.

@@ -2,7 +2,7 @@
 use Prim.Native.Nat.{ℕ, ◌+◌, ◌≤◌, ◌<◌}
 use native.Mathlib.Omega.{arith}
 use native.Mathlib.Decide.{ℕ_discrete}
-use mathlib.Core.Path.{◌≡◌, refl, sym, ap, ◌∙◌}
+use mathlib.Core.Path.{◌≡◌, refl, sym, ap, subst, ◌∙◌}
 use mathlib.Core.Logic.{◌⊎◌, inl, inr}
 use mathlib.Core.List.Memᴰ
 use mathlib.Core.List.{List, [], ◌∷◌, map}
@@ -89,7 +89,7 @@ fit_one ts off t l ls =
     alike ds k = go (par_holds ts off (map (due t) (l ∷ ls)) t) refl
       where
         go : (x : Bool) → par_holds ts off (map (due t) (l ∷ ls)) t ≡ x → (x && all (λ (d : Due). par_holds ts off (map (due t) (l ∷ ls)) d.to) ds) ≡ x
-        go true e = all_in (λ (d : Due). par_holds ts off (map (due t) (l ∷ ls)) d.to) ds (λ d m. rw (k d m) e)
+        go true e = all_in (λ (d : Due). par_holds ts off (map (due t) (l ∷ ls)) d.to) ds (λ d m. subst (λ (u : ℕ). par_holds ts off (map (due t) (l ∷ ls)) u ≡ true) (sym (k d m)) e)
         go false e = refl
 
 -- ---- the lots that a message brings

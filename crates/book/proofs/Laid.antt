@@ -13,7 +13,7 @@ use Rattle.fields.specs.declared.Field.{Field}
 use Rattle.layout.specs.declared.Detail.{Detail}
 use Rattle.terminator.specs.declared.Kind.{Kind}
 use Rattle.terminator.specs.declared.Kind.TheVariants.{Good, Odd, Bad}
-use Rattle.terminator.specs.Lots.{Lot, pools_of, lot_kind, lot_millions, lot_weight, weight_of, current_cents, million_cents}
+use Rattle.terminator.specs.Lots.{pools_of, lot_kind, lot_millions, lot_weight, weight_of, current_cents, million_cents}
 use Rattle.book.specs.declared.Pool.{Pool}
 use Rattle.book.specs.Dues.{Due}
 use Rattle.book.specs.Records.{Fields, pool_of, records_of, kind_good, kind_number, same_lot, LiveLot, live_pools, join_lot, live_lots, live_weight, live_millions, of_trade}

@@ -1,6 +1,6 @@
 -- What an accepted call has passed: the first check that fails gives the answer, so where the answer is accepted none fails, whatever its key.
 use Prim.Native.Nat.{ℕ}
-use mathlib.Core.Path.{◌≡◌, refl, sym, ap, ◌∙◌}
+use mathlib.Core.Path.{◌≡◌, refl, sym, ◌∙◌}
 use mathlib.Core.List.{List, [], ◌∷◌, map}
 use mathlib.Core.Bool.{Bool, true, false, cond, not, ◌&&◌, false≢true}
 use lib.Dec.{eqb}

@@ -3,7 +3,7 @@ use mathlib.Core.Path.{◌≡◌, refl, sym, ap, ◌∙◌}
 use mathlib.Core.Bool.{Bool, true, false, cond, and-false}
 use mathlib.Core.List.Memᴰ
 use mathlib.Core.List.{List, [], ◌∷◌, map}
-use Prim.Native.Nat.{ℕ, ◌+◌, ◌≤◌}
+use Prim.Native.Nat.{ℕ, ◌+◌}
 use native.Mathlib.Omega.{arith}
 use native.Mathlib.Nat.{add-zero}
 use native.Mathlib.Decide.{ℕ_discrete}
@@ -11,7 +11,7 @@ use lib.Dec.{eqb}
 use lib.ListN.{length, length-map}
 use borrow.Author.Tests.{eq-eqb, ne_eqb}
 use Rattle.lists.specs.Lists.{keep, any, all, sum_of}
-use Rattle.lists.proofs.Tests.{◌∈◌, clash, cond_zero, all_in, any_none, sum_same, sum_zero}
+use Rattle.lists.proofs.Tests.{◌∈◌, cond_zero, all_in, any_none, sum_same, sum_zero}
 use Rattle.fields.specs.declared.Field.{Field}
 use Rattle.layout.specs.Details.{details}
 use Rattle.terminator.specs.Lots.{Lot, pools_of, lot_millions, formed_for}
@@ -25,11 +25,11 @@ use Rattle.book.specs.declared.Values.{Values}
 use Rattle.book.specs.declared.Pool.{Pool}
 use Rattle.message_type.specs.Questions.{is_on, brings_lots}
 use Rattle.book.specs.Dues.{due, due_share, due_weight}
-use Rattle.book.specs.Records.{fields_of, distinct, trade_weight}
+use Rattle.book.specs.Records.{fields_of, distinct}
 use Rattle.book.specs.Messages.{type_of, id_in, target_of, under, listed, brought}
 use Rattle.book.specs.Trades.{trades_of, agrees, first_trade, may_take, trade_of_on, open_pars}
 use Rattle.book.specs.Opening.{at_par}
-use Rattle.book.specs.Checks.{target_trade, trade_at, trade_due, dues_by, is_taken, canceled_lots, dues_fit}
+use Rattle.book.specs.Checks.{target_trade, trade_due, dues_by, is_taken, canceled_lots, dues_fit}
 use Rattle.book.specs.History.{Brought, History, is_target, touches, take_off, trade_share, stands, fields_of_lots, due_by_groups, lots_after}
 use Rattle.book.proofs.Dues.{due_lots, sum_due, held_range, held_room, dues_lots, dues_all, dues_none, dues_on, dues_target}
 use Rattle.book.proofs.ByRecord.{exact_by_record, one_by_record}

@@ -1,7 +1,7 @@
 -- Taking lots off: the table's filter and the history's counters agree, because a standing lot is listed whole or not at all (37);
 -- and no lot is taken off twice, because a listed pool is live and a live pool is of one standing lot.
 use mathlib.Core.Path.{◌≡◌, refl, sym, ap, ◌∙◌}
-use mathlib.Core.Bool.{Bool, true, false, not, cond, ◌&&◌, ◌||◌, and_true, and-false}
+use mathlib.Core.Bool.{Bool, true, false, not, cond, ◌&&◌, ◌||◌, and-true, and-false}
 use mathlib.Core.List.Memᴰ
 use mathlib.Core.List.{List, [], ◌∷◌, map}
 use Prim.Native.Nat.{ℕ, ◌+◌, ◌≤◌, ◌<◌}
@@ -121,7 +121,7 @@ module _ (tgt : Field) (fs : List Fields) (hs : List Brought) where
     where
       go : (b : Bool) → (stands h && not b) ≡ eqb (h.offs + once b) 0
       go true = rw (and-false, add-one, eqb-suc-zero)
-      go false = rw (and_true, add-zero)
+      go false = rw (and-true, add-zero)
 
   -- the records that are left are those of the lots that still stand
   pub left_flat : whole_lots tgt fs (flat stands hs) ≡ true → (byDk : Bool)

@@ -1,6 +1,6 @@
 -- The checks of a frame call in their order (01, "Who causes which number"), the first that fails, and the answer that follows from it.
 use Rattle.std.specs.Prelude.{ℕ, ◌+◌, List, [], ◌∷◌, ◌++◌, map, Bool, true, false, cond, not, ◌&&◌, ◌||◌, length, get_or, eqb, leb, ltb}
-use Rattle.lists.specs.Lists.{same, keep, any, all, between}
+use Rattle.lists.specs.Lists.{same, keep, any, all}
 use Rattle.fields.specs.declared.Field.{Field}
 use Rattle.fields.specs.Fields.{is_number, value_of, holds, all_blank}
 use Rattle.output.specs.Output.{blanks}

@@ -1,5 +1,5 @@
 -- What a book says of a trade (01, "The book").
-use Rattle.std.specs.Prelude.{ℕ, List, Bool, true, false, cond, ◌&&◌, length, ltb}
+use Rattle.std.specs.Prelude.{ℕ, List, true, false, cond, ◌&&◌, length, ltb}
 use Rattle.book.specs.declared.Book.{Book}
 use Rattle.book.specs.declared.Pool.{Pool}
 use Rattle.book.specs.Records.{standing_millions}

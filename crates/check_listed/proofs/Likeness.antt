@@ -4,7 +4,7 @@ use mathlib.Core.Path.{◌≡◌, refl, sym, ap, ◌∙◌}
 use mathlib.Core.Logic.{◌⊎◌, inl, inr}
 use mathlib.Core.List.Memᴰ
 use mathlib.Core.List.{List, [], ◌∷◌, ◌++◌}
-use mathlib.Core.Bool.{Bool, true, false, cond, not, ◌&&◌, ◌||◌, and_true, and_assoc}
+use mathlib.Core.Bool.{Bool, true, false, cond, not, ◌&&◌, ◌||◌, and-true, and_assoc}
 use lib.Dec.{eqb}
 use borrow.Author.Tests.{eq-eqb, eqb-true}
 use Rattle.lists.specs.Lists.{all, fold}
@@ -48,7 +48,7 @@ module _ (numbers : Detail → List ℕ) where
   -- with one pool more
   one_more_law : (ms : List Detail) (d : Detail) → one_ordinal (ms ++ (d ∷ [])) ≡ (one_ordinal ms && (not (some ms) || eqb (first_of ms) (ordinal_of d)))
   one_more_law [] d = refl
-  one_more_law (x ∷ xs) d = all_append (λ (y : Detail). eqb (ordinal_of x) (ordinal_of y)) xs (d ∷ []) ∙ ap (λ (b : Bool). all (λ (y : Detail). eqb (ordinal_of x) (ordinal_of y)) xs && b) (and_true (eqb (ordinal_of x) (ordinal_of d)))
+  one_more_law (x ∷ xs) d = all_append (λ (y : Detail). eqb (ordinal_of x) (ordinal_of y)) xs (d ∷ []) ∙ ap (λ (b : Bool). all (λ (y : Detail). eqb (ordinal_of x) (ordinal_of y)) xs && b) (and-true (eqb (ordinal_of x) (ordinal_of d)))
 
   firsts : (ms : List Detail) (d : Detail) → cond (some ms) (first_of ms) (ordinal_of d) ≡ first_of (ms ++ (d ∷ []))
   firsts [] d = refl
@@ -75,17 +75,17 @@ module _ (numbers : Detail → List ℕ) where
       let p : ((a && one_ordinal ms) && (t && l)) ≡ ((a && (one_ordinal (ms ++ (d ∷ [])) && l)) && true) =
       and_assoc a (one_ordinal ms) (t && l)
       ∙ ap (λ (b : Bool). a && b) (sym (and_assoc (one_ordinal ms) t l) ∙ ap (λ (b : Bool). b && l) (sym (one_more_law ms d)))
-      ∙ sym (and_true (a && (one_ordinal (ms ++ (d ∷ [])) && l))) in
+      ∙ sym (and-true (a && (one_ordinal (ms ++ (d ∷ [])) && l))) in
       rw e (λ i. record { fine = p i; begun = false; ordinal = 0 })
 
   fold_lots : (a : Bool) (ls : List Lot) → fold take_lot a ls ≡ (a && all lot_alike ls)
-  fold_lots a [] = sym (and_true a)
+  fold_lots a [] = sym (and-true a)
   fold_lots a (l ∷ ls) = fold_lots (a && lot_alike l) ls ∙ and_assoc a (lot_alike l) (all lot_alike ls)
 
   pub alike_pass : (cc : Bool) (ds : List Detail) → formed_for cc ds ≡ true → (fold alike_on none_alike ds).fine ≡ all lot_alike (lots ds)
   alike_pass cc ds f =
       ap (λ (s : Alike). s.fine) (whole_lots_law alike_on hold take_lot hold_middle hold_last cc true ds f)
-      ∙ and_true (fold take_lot true (lots ds))
+      ∙ and-true (fold take_lot true (lots ds))
       ∙ fold_lots true (lots ds)
 
   -- any two of some pools with one ordinal

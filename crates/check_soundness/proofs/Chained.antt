@@ -1,7 +1,7 @@
 -- The live records in one pass: the first by itself, and each other by itself and after the one before it.
 use mathlib.Core.Path.{◌≡◌, refl, sym, ap, ◌∙◌}
 use mathlib.Core.List.{List, [], ◌∷◌}
-use mathlib.Core.Bool.{Bool, true, false, not, ◌&&◌, false≢true, and_true, and_assoc, or-true}
+use mathlib.Core.Bool.{Bool, true, false, not, ◌&&◌, false≢true, and-true, and_assoc, or-true}
 use Prim.Native.Nat.{ℕ, ◌+◌, ◌-◌, ◌≤◌, ◌<◌}
 use lib.ListN.{length, get_or, take}
 use lib.Dec.{eqb, leb, ltb}
@@ -69,12 +69,12 @@ module _ (v : Values) (before row key next : List ℕ) (s : SameLot before row) 
   only_face : record_fine v q ≡ true → (g : Bool) → g ≡ faced q g
   only_face e g =
       let p = five (ltb q.trade v.lent.tradeCount) (between 1 v.lastMessageId q.message) (leb 1 q.ordinal) (leb q.current eleven_digits_max) (kind_fine q) e in
-      rw (p.0, p.1, p.2, p.4) (sym (and_true g))
+      rw (p.0, p.1, p.2, p.4) (sym (and-true g))
 
   pub lot_goes : record_fine v q ≡ true → leb r.current eleven_digits_max ≡ (record_fine v r && follows q r)
   lot_goes e =
       only_face e (leb r.current eleven_digits_max)
-      ∙ lot_faced (leb r.current eleven_digits_max) ∙ sym (ap (λ (b : Bool). record_fine v r && b) lot_follows_law ∙ and_true (record_fine v r))
+      ∙ lot_faced (leb r.current eleven_digits_max) ∙ sym (ap (λ (b : Bool). record_fine v r && b) lot_follows_law ∙ and-true (record_fine v r))
 
 -- ---- the live records one after another
 module _ (v : Values) where

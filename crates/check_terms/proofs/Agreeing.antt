@@ -1,7 +1,7 @@
 -- Terms agree: the two that are numbers are looked at first, and a trade past the end agrees with no message.
 use mathlib.Core.Path.{◌≡◌, refl, sym, ap, ◌∙◌}
 use mathlib.Core.List.{List, []}
-use mathlib.Core.Bool.{Bool, true, false, cond, not, ◌&&◌, and-false, and_true}
+use mathlib.Core.Bool.{Bool, true, false, cond, not, ◌&&◌, and-false, and-true}
 use Prim.Native.Nat.{ℕ, ◌<◌}
 use native.Mathlib.Omega.{arith}
 use lib.ListN.{length}
@@ -29,7 +29,7 @@ last_fail : (x y z a b : Bool) → (a && b) ≡ false → false ≡ (x && (y && 
 last_fail x y z a b e = rw (e, and-false z, and-false y, and-false x)
 
 last_pass : (x y z a b : Bool) → (a && b) ≡ true → (x && (y && z)) ≡ (x && (y && (z && (a && b))))
-last_pass x y z a b e = rw (e, and_true z)
+last_pass x y z a b e = rw (e, and-true z)
 
 -- the lengths of a trade's arrays
 pub record Lengths (t : Trade) : Type 0 where

@@ -1,7 +1,6 @@
 -- What an AA and a TX say, lent as one list of bytes: subscriber and connection first; for an AA then internal ID, time bytes and original sequence.
 use Rattle.std.specs.Prelude.{ℕ, List, cond, length, eqb}
 use Rattle.lists.specs.Lists.{part, pasted}
-use Rattle.sequence.specs.declared.Outbound.{Outbound}
 use Rattle.sequence.specs.Sequence.{inbound, outbound, next_outbound}
 use Rattle.acknowledgment.specs.declared.Acknowledged.{Acknowledged}
 use Rattle.acknowledgment.specs.Frames.{aa_bytes, tx_bytes}

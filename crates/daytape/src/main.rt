@@ -2,17 +2,20 @@
 // Trusted is what the C library's read and write do. All bytes that come are read, up to 64 KiB; what a failing read leaves out is not on the tape.
 #![tactic(auto)]
 
-ghost use Rattle.std.specs.Prelude.{◌≡◌, true};
+ghost use Rattle.std.specs.Prelude.{◌≡◌, ◌≤◌, true, length};
 ghost use Rattle.book.specs.Opening.{values_fine};
 ghost use Rattle.daytape.specs.Program.{the_trade, values_given, report_of, ReportsOver, Reports};
 
 use book::{Book, Connection, Lent, Limits, Trade, Values};
 use calls::{Figures, Opened};
 use day::Day;
-use libc::{STDIN_FILENO, STDOUT_FILENO};
 use sequence::Outbound;
+use std::io::{self, Read};
 
 const RECORDS: usize = 512;
+
+// The most that is read of standard input.
+const TAPE_MAX: usize = 65536;
 
 // What the day gives: the two counts, and the trade's figures.
 #[derive(Clone, Copy)]
@@ -118,17 +121,25 @@ fn day_of(tape: &[u8]) -> Report
     day_over(v, tape)
 }
 
-fn main() {
-    let mut tape = io::large_buffer();
-    let n = io::read_full(STDIN_FILENO, &mut tape);
+// Reads what comes into a buffer, up to its end, and says how many bytes came. What a failing read leaves out is not on the tape.
+fn read_full<R: Read>(input: &mut R, tape: &mut [u8]) -> usize
+    ensures { result ≤ length tape.new }
+{
+    let mut n = 0;
+    while n < tape.len() {
+        match input.read(&mut tape[n..]) {
+            Ok(0) => return n,
+            Ok(more) => n += more,
+            Err(_) => return n,
+        }
+    }
+    n
+}
+
+fn main(rt: HostRuntime) -> io::Result<()> {
+    let mut tape = [0; TAPE_MAX];
+    let n = read_full(&mut rt.stdin(), &mut tape);
     let r = day_of(&tape[..n]);
-    io::write_all(STDOUT_FILENO, b"day ");
-    io::print_decimal(STDOUT_FILENO, r.accepted);
-    io::write_all(STDOUT_FILENO, b" ");
-    io::print_decimal(STDOUT_FILENO, r.others);
-    io::write_all(STDOUT_FILENO, b"\ntrade T1 ");
-    io::print_decimal(STDOUT_FILENO, r.openPar);
-    io::write_all(STDOUT_FILENO, b" ");
-    io::print_decimal(STDOUT_FILENO, r.millions);
-    io::write_all(STDOUT_FILENO, b"\n");
+    println!(rt; "day {} {}", r.accepted, r.others)?;
+    println!(rt; "trade T1 {} {}", r.openPar, r.millions)
 }

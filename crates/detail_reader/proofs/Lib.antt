@@ -1,4 +1,3 @@
-pub mod Held
 pub mod Turns
-pub mod Pass
 pub mod Passing
+pub mod Pass

@@ -1,13 +1,13 @@
 -- A rule is named exactly where 41 refuses an opening, and exactly where 42 refuses a book.
-use mathlib.Core.Path.{◌≡◌, refl, sym, ap, ◌∙◌}
-use mathlib.Core.List.{List, [], ◌∷◌, map}
+use mathlib.Core.Path.{◌≡◌, refl, ◌∙◌}
+use mathlib.Core.List.{List, [], ◌∷◌}
 use mathlib.Core.Bool.{Bool, true, false, not, ◌&&◌, ◌||◌}
-use Prim.Native.Nat.{ℕ, zero, suc, ◌+◌}
+use Prim.Native.Nat.{ℕ, suc, ◌+◌}
 use lib.ListN.{length, drop}
 use native.Mathlib.Omega.{arith}
-use lib.Dec.{eqb, leb, ltb}
+use lib.Dec.{leb}
 use borrow.Author.Tests.{ne_eqb}
-use Rattle.lists.specs.Lists.{between, same, any, all}
+use Rattle.lists.specs.Lists.{same, any, all}
 use Rattle.calendar.specs.Calendar.{is_date}
 use Rattle.sequence.specs.Sequence.{sound_line}
 use Rattle.book.specs.declared.Trade.{Trade}
@@ -15,13 +15,11 @@ use Rattle.book.specs.declared.Limits.{Limits}
 use Rattle.book.specs.declared.Values.{Values}
 use Rattle.book.specs.declared.Book.{Book}
 use Rattle.book.specs.declared.Pool.{Pool}
-use Rattle.book.specs.Trades.{trades_of, trade_name}
-use Rattle.book.specs.Records.{live_fields, same_fields, trade_weight}
 use Rattle.book.specs.Opening.{holidays_of, records_max, limits_fine, trade_fine, names_repeat, values_fine, opening_fine}
 use Rattle.book.specs.Soundness.{live_of, record_fine, follows, in_order, fields_once, is_none, pars_from}
 use Rattle.book.specs.Soundness as soundness
 use Rattle.fault.specs.declared.Fault.{Fault}
-use Rattle.fault.specs.Rules.{sound, is_sound, test, or_else, first, each}
+use Rattle.fault.specs.Rules.{sound, is_sound, test, or_else, each}
 use Rattle.fault.specs.Faults.{limits_fault, trade_fault, names_fault, date_fault, values_fault, opening_fault, record_fault, follows_fault, order_fault, once_fault, zeros_fault, par_fault, table_fault, book_fault}
 
 -- ---- rules in general: nothing is broken where every test passes

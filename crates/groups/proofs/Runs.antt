@@ -1,7 +1,7 @@
 -- Checks 20 and 21 by one pass: the group at hand is known by its counts, kinds and sums, and a pool that ends a lot adds to them.
 use mathlib.Core.Path.{◌≡◌, refl, sym, ap, subst, ◌∙◌}
 use mathlib.Core.List.{List, [], ◌∷◌, ◌++◌}
-use mathlib.Core.Bool.{Bool, true, false, cond, not, ◌&&◌, and_assoc, and_true}
+use mathlib.Core.Bool.{Bool, true, false, cond, not, ◌&&◌, and_assoc, and-true}
 use Prim.Native.Nat.{ℕ, zero, suc, ◌+◌, ◌≤◌, ◌<◌}
 use native.Mathlib.Omega.{arith}
 use lib.ListN.{length, length-append}
@@ -20,7 +20,7 @@ use Rattle.groups.specs.declared.Run.{Run}
 use Rattle.terminator.specs.declared.Groups.{Groups}
 use Rattle.terminator.specs.declared.Kind.{Kind}
 use Rattle.terminator.specs.declared.Kind.TheVariants.{Good, Odd, Bad}
-use Rattle.terminator.specs.Terminators.{digit_canceled, is_end, is_canceled, one, term}
+use Rattle.terminator.specs.Terminators.{digit_canceled, is_end, is_canceled, term}
 use Rattle.terminator.specs.Reading.{mark_of, groups_judged}
 use Rattle.terminator.specs.Lots.{Lot, lot_kind, lot_millions, lots_from, lots}
 use Rattle.terminator.specs.Groups.{Group, groups_from, groups, same_kind, of_kind, group_formed, group_balanced, groups_formed, groups_balanced}
@@ -175,7 +175,7 @@ module _ (f b : Bool) (os : List Lot) (l : Lot) (ds : List Detail)
 
 run_pass : (f b : Bool) (os ns : List Lot) (ms ds : List Detail) → judged (fold run_step (run_of f b os ns) ds) ≡ verdict f b (groups_from os ns (lots_from ms ds))
 unfolding run_on mark_of
-run_pass f b os ns ms [] = λ i. record { formed = f && sym (and_true (group_formed (record { canceled = os; replacement = ns }))) i; balanced = b && sym (and_true (group_balanced (record { canceled = os; replacement = ns }))) i }
+run_pass f b os ns ms [] = λ i. record { formed = f && sym (and-true (group_formed (record { canceled = os; replacement = ns }))) i; balanced = b && sym (and-true (group_balanced (record { canceled = os; replacement = ns }))) i }
 run_pass f b os ns ms (d ∷ ds) =
     go (is_end (term d)) (run_pass f b os ns (ms ++ (d ∷ [])) ds)
     (end_pass f b os (record { middles = ms; last = d }) ds (λ (f b : Bool) (os ns : List Lot). run_pass f b os ns [] ds) ns (is_canceled d) refl)

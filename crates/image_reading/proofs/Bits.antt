@@ -1,6 +1,6 @@
 -- Words joined bit by bit are below a power of two exactly where each of them is: none is above the join, and a join needs no more bits than they do.
 use mathlib.Core.Path.{◌≡◌, refl, sym, ap, ◌∙◌}
-use mathlib.Core.Bool.{Bool, true, false, ◌&&◌, and_true, and_assoc}
+use mathlib.Core.Bool.{Bool, true, false, ◌&&◌, and-true, and_assoc}
 use Prim.Native.Nat.{ℕ, ◌+◌, ◌-◌, ◌^◌, ◌≤◌, ◌<◌}
 use native.Mathlib.Nat.{one-le-pow}
 use native.Mathlib.Omega.{arith}
@@ -47,4 +47,4 @@ module _ (g : ℕ → ℕ) (n : ℕ) where
 
     pub bounded_done : n ≤ i → (k : ℕ) → below k bits ≡ all (below k) (tab g n 0)
     bounded_done h k =
-        sym (and_true (below k bits)) ∙ ap (λ (p : Bool). below k bits && p) (sym (ap (all (below k)) (tab_end g n i h))) ∙ inv k
+        sym (and-true (below k bits)) ∙ ap (λ (p : Bool). below k bits && p) (sym (ap (all (below k)) (tab_end g n i h))) ∙ inv k

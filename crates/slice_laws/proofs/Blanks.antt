@@ -10,7 +10,7 @@ use mathlib.Core.List.{List, [], ◌∷◌}
 use lib.ListN.{length, replicate, length-replicate}
 use lib.Dec.{T as Holds}
 use seplogic.Ra.Ura.{Ura}
-use seplogic.Ra.TreeShare.{full_share}
+use base.Fraction.{full_share}
 use mir.Syntax.{Width, ty_int, ty_array}
 use mir.Val.{Val, WT, has_ty, vint}
 use base.Logic.{ent}

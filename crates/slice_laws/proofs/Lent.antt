@@ -1,34 +1,29 @@
--- A `&κ mut [T]` that its holder lends on for the lifetime κ' of a call, as a `&κ' mut [T]` or as a `&κ' [T]`, and that comes back after it.
+-- A `&κ mut [T]` that its holder lends on for the lifetime κ' of a call, as a `&κ' mut [T]`, and that comes back after it.
 --     Kept             what the holder keeps of its own borrow while the elements are lent: the borrow, open, which holds the token, and both halves of the borrow's name
---     lends, shuts     the elements of a `&κ mut [T]` are lent in any way, and as many are put back: both ways of lending are these two
+--     lends, shuts     the elements of a `&κ mut [T]` are lent in any way, and as many are put back
 --     LentMut          what the holder has while they are lent as a `&κ' mut [T]` under the name δ
 --     lends_mut        own (the `&κ mut [T]` at ys) ∗ [κ]_q  ⊢ ⇛ ∃ δ. own (the `&κ' mut [T]` at ys under δ) ∗ LentMut δ ys
 --     mut_back         [†κ'] ∗ LentMut δ ys ∗ finally δ zs  ⊢ ⇛ (own (the `&κ mut [T]` at zs) ∗ [κ]_q), where zs are as many as ys
---     LentShared       what the holder has while they are lent as a `&κ' [T]`
---     lends_shared     own (the `&κ mut [T]` at ys) ∗ [κ]_q  ⊢ ⇛ ∃ δ. own (the `&κ' [T]` at ys under δ) ∗ LentShared ys
---     shared_back      [†κ'] ∗ LentShared ys  ⊢ ⇛ (own (the `&κ mut [T]` at ys) ∗ [κ]_q)
 -- Assumes `Logic`.
-use mathlib.Core.Path.{◌≡◌, refl, sym, ap, subst}
+use mathlib.Core.Path.{◌≡◌, sym, ap, subst}
 use Prim.Native.Nat.{ℕ}
 use mathlib.Core.List.{List, [], ◌∷◌}
 use lib.ListN.{length}
 use seplogic.Ra.Ura.{Ura}
-use seplogic.Ra.TreeShare.{full_share}
+use base.Fraction.{full_share}
 use mir.Syntax.{Lifetime}
 use mir.Val.{Val}
 use base.Logic.{ent, sep, ex, via}
 use base.Fml.{Lft, GName, Share, Fml, fsep, flft, fdead, fobs, fauth, flent, fobor}
 use types.Logic.{Logic, sem}
-use types.Kit.{‵, ◌⊛◌, some, later, ◌$◌, ◌∵◌, !, qed, move, use1, use2, use3, drop, split, pick, fsplit, fjoin, feq_i, frame, await, updating, now as at_once, show, done}
-use types.Tokens.{lent_back}
+use types.Kit.{‵, ◌⊛◌, some, later, ◌$◌, ◌∵◌, !, qed, move, use1, use2, use3, drop, split, pick, fsplit, fjoin, frame, await, updating, now as at_once, show, done}
 use types.SemTy.{cells, Arr}
-use types.Share.{arr_parts}
 use denote.RattleType.{RattleType}
 use denote.Shadow.{pure_l, pure_i}
-use denote.Memory.{mem, shares}
+use denote.Memory.{mem}
 use denote.Ref.{MutBor}
-use denote.Slice.{slice_val, MutSlice, ShrSlice, heres, Room, finally, shr_slice_at, mut_slice_at, coded_holeys}
-use denote.Lend.{Held, lends_slice, slice_back, lends_shr_slice}
+use denote.Slice.{slice_val, MutSlice, heres, Room, finally, mut_slice_at, coded_holeys}
+use denote.Lend.{Held, lends_slice, slice_back}
 use denote.Index.{row, whole_in, whole_out, opens_slice, closes_slice}
 
 module _ (R : RattleType) (κ κ' : Lft) (q : Share) (γ : GName) (b o : ℕ) where
@@ -41,17 +36,11 @@ module _ (R : RattleType) (κ κ' : Lft) (q : Share) (γ : GName) (b o : ℕ) wh
   abbrev All : List R.Denot → Fml
   All ys = row R full_share ys b o
 
-  abbrev Shares : List R.Denot → Fml
-  Shares ys = (arr_parts (shares R) (length ys)).part full_share ys b o
-
   abbrev Kept : List R.Denot → Fml
   Kept ys = fsep (fobor κ q (Held R (length ys) b o γ)) (fsep (fobs γ ((coded_holeys R).code (heres R ys))) (fauth γ ((coded_holeys R).code (heres R ys))))
 
   abbrev pub LentMut : GName → List R.Denot → Fml
   LentMut δ ys = fsep (flent κ' (Held R (length ys) b o δ)) (Kept ys)
-
-  abbrev pub LentShared : List R.Denot → Fml
-  LentShared ys = fsep (flent κ' (Shares ys)) (Kept ys)
 
   module _ {M : Type 1} {𝓤 : Ura M} (𝓛 : Logic 𝓤) (ℓ ℓ' : Lifetime) (ys : List R.Denot) where
     open 𝓛 use {H, A}
@@ -74,7 +63,7 @@ module _ (R : RattleType) (κ κ' : Lft) (q : Share) (γ : GName) (b o : ℕ) wh
         → ent 𝓤 (sep 𝓤 (sem 𝓛 (All zs)) (sem 𝓛 (Kept ys))) (H.⇛ (sep 𝓤 (sem 𝓛 (Mine zs)) (A.lft κ q)))
     shuts zs room e =
         qed 𝓛 (‵ (All zs) ∷ ‵ (Kept ys) ∷ []) ∵ updating ! $ move ! (1 ∷ []) $ fsplit ! $ move ! (1 ∷ []) $ fsplit ! $ move ! (3 ∷ 2 ∷ 0 ∷ 1 ∷ []) $ closes_slice ! tt R ys zs e b o $ at_once ! $
-        fjoin ! $ pure_i ! (shr_slice_at R (at_list γ zs) (values (length ys))) (tt, (tt, tt)) (ap values (sym e), subst (Room R) (sym e) room) $ fjoin ! $ done !
+        fjoin ! $ pure_i ! (mut_slice_at R (at_list γ zs) (values (length ys))) (tt, (tt, tt)) (ap values (sym e), subst (Room R) (sym e) room) $ fjoin ! $ done !
 
     -- lent as a `&κ' mut [T]`
     abbrev AsMut : GName → Fml
@@ -89,15 +78,3 @@ module _ (R : RattleType) (κ κ' : Lft) (q : Share) (γ : GName) (b o : ℕ) wh
         qed 𝓛 (‵ (fdead κ') ∷ ‵ (LentMut δ ys) ∷ ‵ (finally R δ zs) ∷ []) ∵ updating ! $ move ! (1 ∷ []) $ fsplit ! $ move ! (2 ∷ 0 ∷ 3 ∷ []) $
         use3 𝓛 (later (‵ ((Arr (mem R) (length ys)).own_at zs b o))) (slice_back 𝓛 R κ' δ zs (length ys) b o) $ await ! tt $ fsplit ! $ drop ! $ use1 𝓛 (‵ (All zs)) (whole_out 𝓛 R zs b o) $
         use2 𝓛 (later (‵ (Mine zs) ⊛ ‵ (flft κ q))) (shuts zs room e) $ await ! tt $ at_once ! $ done !
-
-    -- lent as a `&κ' [T]`
-    abbrev AsShared : GName → Fml
-    AsShared δ = (ShrSlice ℓ' κ' R).own_val (at_list δ ys) (values (length ys))
-
-    pub lends_shared : ent 𝓤 (sep 𝓤 (sem 𝓛 (Mine ys)) (A.lft κ q)) (H.⇛ (ex 𝓤 (λ (δ : GName). sep 𝓤 (sem 𝓛 (AsShared δ)) (sem 𝓛 (LentShared ys)))))
-    lends_shared = lends AsShared (λ _. flent κ' (Shares ys)) (λ room. via 𝓤 (sem 𝓛 (Shares ys)) (qed 𝓛 (‵ (All ys) ∷ []) ∵ feq_i ! ℕ (length ys) (length ys) refl $ done !) (lends_shr_slice 𝓛 R ℓ' κ' full_share ys b o room))
-
-    pub shared_back : Room R (length ys) → ent 𝓤 (sep 𝓤 (A.dead κ') (sem 𝓛 (LentShared ys))) (H.⇛ (sep 𝓤 (sem 𝓛 (Mine ys)) (A.lft κ q)))
-    shared_back room =
-        qed 𝓛 (‵ (fdead κ') ∷ ‵ (LentShared ys) ∷ []) ∵ updating ! $ move ! (1 ∷ []) $ fsplit ! $ move ! (2 ∷ 0 ∷ []) $ lent_back ! tt $ fsplit ! $ drop ! $
-        use2 𝓛 (later (‵ (Mine ys) ⊛ ‵ (flft κ q))) (shuts ys room refl) $ await ! tt $ at_once ! $ done !

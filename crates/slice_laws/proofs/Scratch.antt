@@ -5,7 +5,6 @@
 --     repeat_out       the array in its local  ⊢  its n elements
 --     elems_room       n elements  ⊢  room for the array
 --     ElemsLent        the lender's part while elements are lent as a `&κ [T]`
---     lends_elems      the elements  ⊢ ⇛ ∃ δ. own (the `&κ [T]` at them under δ) ∗ ElemsLent
 --     elems_back       [†κ] ∗ ElemsLent  ⊢ ⇛ the elements
 -- R is the element's type, which owns only facts. n is a variable here, so no check computes a list of n elements. Assumes `Logic`.
 use mathlib.Core.Path.{◌≡◌, refl}
@@ -14,11 +13,11 @@ use mathlib.Core.List.{List, [], ◌∷◌}
 use lib.ListN.{length, replicate, length-replicate}
 use lib.Dec.{T as Holds}
 use seplogic.Ra.Ura.{Ura}
-use seplogic.Ra.TreeShare.{full_share}
-use mir.Syntax.{Ty, Lifetime, ty_array}
+use base.Fraction.{full_share}
+use mir.Syntax.{Ty, ty_array}
 use mir.Val.{Val, vstruct, of_list, WT, has_ty}
-use base.Logic.{ent, sep, ex, via}
-use base.Fml.{Lft, GName, Fml, fsep, fat, froom, fdead, flent}
+use base.Logic.{ent, sep}
+use base.Fml.{Lft, Fml, fsep, fat, froom, fdead, flent}
 use types.Logic.{Logic, sem}
 use types.Kit.{‵, ◌$◌, ◌∵◌, !, qed, by, move, drop, use0, use1, rewrite, fsplit, fjoin, fpick, fpack, feq_l, feq_i, updating, now as at_once, done}
 use types.Tokens.{lent_back}
@@ -30,8 +29,6 @@ use denote.Laws.{Is, Makes, Lawful}
 use denote.Memory.{lone, cell_at, part_at, mem, shares, part_of}
 use denote.Array.{each, Array, Array-Lawful, Array-Makes}
 use denote.ArrayMemory.{Single, Array-apart, Array-whole}
-use denote.Slice.{slice_val, ShrSlice, Room}
-use denote.Lend.{lends_shr_slice}
 use denote.Index.{row, whole_out, whole_in}
 
 abbrev pub repeat_val : ℕ → Val → Val
@@ -77,13 +74,6 @@ module _ (R : RattleType) where
         move ! (2 ∷ []) $ rewrite ! 0 (λ (ws : List Val). ‵ (cell_at full_share (Array R n).mir ws l 0)) is refl $
         use1 𝓛 (‵ (fat full_share (array_ty n) l 0 (vstruct (of_list us)))) (𝓛.laws.raw_at full_share (array_ty n) l 0 (vstruct (of_list us))) $
         use1 𝓛 (‵ (froom (array_ty n) l 0)) (𝓛.laws.at_room (array_ty n) l 0 (vstruct (of_list us))) $ move ! (1 ∷ []) $ drop ! $ move ! (1 ∷ []) $ drop ! $ done !)))
-
-    -- lent as a `&κ [T]`
-    pub lends_elems : (ℓ : Lifetime) (κ : Lft) (xs : List R.Denot) (l : ℕ) → Room R (length xs)
-        → ent 𝓤 (sem 𝓛 (cells (mem R) xs l 0)) (H.⇛ (ex 𝓤 (λ (δ : GName). sep 𝓤 (sem 𝓛 ((ShrSlice ℓ κ R).own_val (record { ref_ptr = (l, 0); now = xs }) (slice_val (l, 0) (length xs) ∷ []))) (sem 𝓛 (ElemsLent κ xs l)))))
-    lends_elems ℓ κ xs l room =
-        via 𝓤 (sem 𝓛 (Shares xs l)) (qed 𝓛 (‵ (cells (mem R) xs l 0) ∷ []) ∵ use1 𝓛 (‵ (row R full_share xs l 0)) (whole_out 𝓛 R xs l 0) $ feq_i ! ℕ (length xs) (length xs) refl $ done !)
-        (lends_shr_slice 𝓛 R ℓ κ full_share xs l 0 room)
 
     pub elems_back : (κ : Lft) (xs : List R.Denot) (l : ℕ) → ent 𝓤 (sep 𝓤 (A.dead κ) (sem 𝓛 (ElemsLent κ xs l))) (H.⇛ (sem 𝓛 (cells (mem R) xs l 0)))
     elems_back κ xs l =

@@ -1,7 +1,7 @@
 -- Whether the records from a place up to another are zeros: none at first, one more in each turn, and all that are left once the end is reached.
 use mathlib.Core.Path.{◌≡◌, sym, ap, ◌∙◌}
 use mathlib.Core.List.{List, [], ◌∷◌}
-use mathlib.Core.Bool.{Bool, true, ◌&&◌, and_true}
+use mathlib.Core.Bool.{Bool, true, ◌&&◌, and-true}
 use Prim.Native.Nat.{ℕ, suc, ◌+◌, ◌-◌, ◌≤◌, ◌<◌}
 use native.Mathlib.Omega.{arith}
 use lib.ListN.{length, get_or, take, drop, length-drop}
@@ -26,7 +26,7 @@ unfolding blank_to
 blank_more ps from i h l =
     sym (ap (λ (n : ℕ). all is_none (take n (drop from ps))) e ∙ ap (all is_none) (take-suc (drop from ps) (i - from) no_pool in_rest)
     ∙ all_append is_none (take (i - from) (drop from ps)) (get_or (drop from ps) (i - from) no_pool ∷ [])
-    ∙ ap (λ (b : Bool). all is_none (take (i - from) (drop from ps)) && b) (and_true (is_none (get_or (drop from ps) (i - from) no_pool)) ∙ ap is_none (get_or-drop from ps (i - from) no_pool ∙ ap (λ (k : ℕ). get_or ps k no_pool) place)))
+    ∙ ap (λ (b : Bool). all is_none (take (i - from) (drop from ps)) && b) (and-true (is_none (get_or (drop from ps) (i - from) no_pool)) ∙ ap is_none (get_or-drop from ps (i - from) no_pool ∙ ap (λ (k : ℕ). get_or ps k no_pool) place)))
   where
     e : suc i - from ≡ suc (i - from)
     e = omega arith

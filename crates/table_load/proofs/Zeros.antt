@@ -1,7 +1,7 @@
 -- A record of zeros: its matched fields tested byte by byte, and among its numbers.
 use mathlib.Core.Path.{◌≡◌, sym, ap, ◌∙◌}
 use mathlib.Core.List.{List}
-use mathlib.Core.Bool.{Bool, ◌&&◌, and_true, and_assoc}
+use mathlib.Core.Bool.{Bool, ◌&&◌, and-true, and_assoc}
 use Prim.Native.Nat.{ℕ, zero, suc, ◌+◌}
 use lib.ListN.{length, get_or, replicate}
 use lib.Dec.{eqb}
@@ -13,7 +13,7 @@ use Rattle.book.specs.Soundness.{is_none}
 use Rattle.table_load.specs.Zeros.{zeros_from}
 
 zeros_tab : (s : List ℕ) (i n : ℕ) → zeros_from s i n ≡ same (tab (λ (k : ℕ). get_or s k 0) (suc n) i) (replicate (suc n) 0)
-zeros_tab s i zero = sym (and_true (eqb (get_or s i 0) 0))
+zeros_tab s i zero = sym (and-true (eqb (get_or s i 0) 0))
 zeros_tab s i (suc n) = ap (λ (t : Bool). eqb (get_or s i 0) 0 && t) (zeros_tab s (i + 1) n)
 
 zeros_same : (s : List ℕ) (n : ℕ) → length s ≡ suc n → zeros_from s 0 n ≡ same s (replicate (suc n) 0)

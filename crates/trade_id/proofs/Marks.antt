@@ -1,7 +1,7 @@
 -- The first mark is found from the front: while no mark stands at the places passed, the first one from here on is the first one of all.
 use mathlib.Core.Path.{◌≡◌, refl, sym, ap, ◌∙◌}
 use mathlib.Core.List.{List, [], ◌∷◌}
-use mathlib.Core.Bool.{Bool, true, false, ◌&&◌, and_true, and_assoc}
+use mathlib.Core.Bool.{Bool, true, false, ◌&&◌, and-true, and_assoc}
 use Prim.Native.Nat.{ℕ, suc, ◌+◌, ◌-◌, ◌≤◌, ◌<◌}
 use native.Mathlib.Omega.{arith}
 use lib.ListN.{length, get_or, take, drop, length-take, length-drop, drop_of_length-le}
@@ -35,7 +35,7 @@ module _ (s : List ℕ) (at : ℕ) (h : at + length mark ≤ length s) where
       ≡ begins_with_mark (drop at s)
   unfolding begins_with_mark
   five_bytes =
-      rw (drop_turn s at 0 (omega arith), byte 1 (omega arith), byte 2 (omega arith), byte 3 (omega arith), byte 4 (omega arith)) (simp (and_assoc, and_true))
+      rw (drop_turn s at 0 (omega arith), byte 1 (omega arith), byte 2 (omega arith), byte 3 (omega arith), byte 4 (omega arith)) (simp (and_assoc, and-true))
 
 module _ (s : List ℕ) where
   abbrev pub Left : ℕ → Type 0

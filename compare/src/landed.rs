@@ -1,0 +1,108 @@
+//! The interface by which earlier tests hold a book, over the crate's raw one: its words and its records are open, it is opened in its
+//! place, and a call writes to an output of the caller's.
+
+use std::mem::take;
+
+use reference::book::PoolRecord;
+use rhoikandra::saved::Damaged;
+use rhoikandra::{Figures, Number, Opening, Pool, Raw};
+
+pub use rhoikandra::{Answer, Said as Stepped, Tally, BOOK_WORDS};
+
+/// The words of an opening.
+pub trait Words {
+    fn words(&self) -> Vec<u64>;
+}
+
+impl Words for Opening {
+    fn words(&self) -> Vec<u64> {
+        Raw::of(self, 0).words
+    }
+}
+
+/// A book, opened or not: its words and the records of its table.
+#[derive(Clone, Debug, PartialEq, Eq)]
+pub struct Book {
+    pub words: Vec<u64>,
+    pub pools: Vec<Pool>,
+}
+
+impl From<Raw> for Book {
+    fn from(Raw { words, pools }: Raw) -> Book {
+        Book { words, pools }
+    }
+}
+
+impl Book {
+    /// A book that is not opened yet, with a table of so many records.
+    pub fn of(opening: &Opening, records: usize) -> Book {
+        Raw::of(opening, records).into()
+    }
+
+    /// Lends the memory to a call as a client of the engine holds it, and takes it back.
+    fn lend<T>(&mut self, call: impl FnOnce(&mut rhoikandra::Book) -> T) -> T {
+        let raw = Raw { words: take(&mut self.words), pools: take(&mut self.pools) };
+        let mut book = rhoikandra::Book::from_raw(raw);
+        let told = call(&mut book);
+        let Raw { words, pools } = book.raw_mut();
+        *self = Book { words: take(words), pools: take(pools) };
+        told
+    }
+
+    /// The same memory for calls that only read it.
+    fn read(&self) -> rhoikandra::Book {
+        let Book { words, pools } = self.clone();
+        rhoikandra::Book::from_raw(Raw { words, pools })
+    }
+
+    /// Opens it, or says 41 and leaves it as it was.
+    pub fn open(&mut self) -> Result<(), Number> {
+        self.lend(|book| book.raw_mut().open())
+    }
+
+    /// Puts a frame's body to the book, by a seed drawn at random.
+    pub fn step(&mut self, body: &[u8], time: &[u8; 6], output: &mut [u8]) -> Stepped {
+        self.lend(|book| book.step_into(body, time, output))
+    }
+
+    /// The same by a seed of one's own.
+    pub fn step_by(
+        &mut self,
+        seed: u64,
+        body: &[u8],
+        time: &[u8; 6],
+        output: &mut [u8],
+    ) -> Stepped {
+        self.lend(|book| book.step_by(seed, body, time, output))
+    }
+
+    /// The figures of a trade, by a seed drawn at random.
+    pub fn figures(&self, trade: usize) -> Option<Figures> {
+        self.read().figures(trade)
+    }
+
+    /// The same by a seed of one's own.
+    pub fn figures_by(&self, seed: u64, trade: usize) -> Option<Figures> {
+        self.read().figures_by(seed, trade)
+    }
+
+    /// The book as bytes for a disk.
+    pub fn save(&self) -> Vec<u8> {
+        self.read().save()
+    }
+
+    /// A book from such bytes, or what is wrong with them.
+    pub fn load(bytes: &[u8]) -> Result<Book, Damaged> {
+        rhoikandra::Book::load(bytes).map(|book| book.raw().clone().into())
+    }
+}
+
+/// The reference's book and table as such a book.
+pub fn held(book: &reference::book::Book, table: &[PoolRecord]) -> Book {
+    crate::engine::raw(book, table).into()
+}
+
+/// Whether a table's records are the reference's.
+pub fn same_table(held: &Book, table: &[PoolRecord]) -> bool {
+    held.pools.iter().copied().eq(table.iter().map(crate::engine::pool))
+}

@@ -1,0 +1,16 @@
+-- The loop's invariant: the marks before i, and those of the trades from i on, of the first count, are those of all of them; the array keeps its 64 numbers.
+use mathlib.Core.Path.{◌≡◌, refl, ◌∙◌}
+use Prim.Native.Nat.{◌≤◌, ◌-◌}
+use native.Mathlib.Omega.{arith}
+use lib.ListN.{length, length-set}
+use Rattle.book.specs.Trades.{trade_name}
+use Rattle.book.specs.Checks.{no_trade}
+use Rattle.check_opening.proofs.Marked.{Filling, filling_more, filling_done}
+use borrow.Author.Rules.{rules}
+use Rattle.check_opening.proofs.marks_of.Given as goal
+
+abbrev pub invariant-loop-i : goal.invariant-loop-i
+invariant-loop-i l = (l.i ≤ l.count) × (length l.marks ≡ 64) × Filling trade_name l.trades l.count l.marks l.i
+
+abbrev pub decreases-loop-i : goal.decreases-loop-i
+decreases-loop-i l = l.count - l.i
