@@ -1,8 +1,8 @@
 //! The library from C and C++, by its headers: the examples, what the header says of lengths, and saved books.
 
 mod built;
-#[path = "../../rhoikandra/examples/three_messages.rs"]
-mod three_messages;
+#[path = "../../rhoikandra/examples/kept_day.rs"]
+mod kept_day;
 
 use std::fs;
 use std::path::Path;
@@ -26,9 +26,9 @@ fn run(compiler: &str, source: &str, flags: &[&str], words: &[&Path]) -> String 
 }
 
 /// The same messages from C and C++, by the header: the same figures. The book is saved and loaded on the way, and Rust loads it too.
-fn three_messages_from(compiler: &str, source: &str, builds: &[[&str; 2]]) {
+fn a_kept_day_from(compiler: &str, source: &str, builds: &[[&str; 2]]) {
     // The example in Rust says what a refusal means, the others its number alone.
-    let told = three_messages::lines().join("\n").replace(": no live pool under the target", "");
+    let told = kept_day::lines().join("\n").replace(": no live pool under the target", "");
     for flags in builds {
         let path = built::kept(&format!("{compiler}{}.book", flags.concat()));
         let printed = run(compiler, source, flags, &[&path]);
@@ -39,18 +39,18 @@ fn three_messages_from(compiler: &str, source: &str, builds: &[[&str; 2]]) {
 }
 
 #[test]
-fn three_messages_from_c() {
-    three_messages_from("cc", "rhoikandra/examples/three_messages.c", &C);
+fn a_kept_day_from_c() {
+    a_kept_day_from("cc", "rhoikandra/examples/kept_day.c", &C);
 }
 
 #[test]
-fn three_messages_from_cpp() {
-    three_messages_from("c++", "rhoikandra/examples/three_messages.cpp", &CPP);
+fn a_kept_day_from_cpp() {
+    a_kept_day_from("c++", "rhoikandra/examples/kept_day.cpp", &CPP);
 }
 
-/// In C too an accepted opening leaves no stale byte in the memory of a table.
+/// By every standard of C an accepted opening leaves no stale byte in the memory of a table.
 #[test]
-fn spare_bytes_from_c() {
+fn spare_bytes_by_each_standard() {
     for flags in &C {
         run("cc", "compare/tests/spare.c", flags, &[]);
     }

@@ -117,7 +117,7 @@ fn asked(name: &str, definitions: &BTreeMap<String, String>, numbers: &mut Vec<u
     for (place, word) in words.iter().enumerate() {
         if *word == "test" {
             numbers.push(words[place + 1].parse().expect("a rule's number"));
-        } else if *word != name && word.ends_with("Fault") {
+        } else if *word != name && word.ends_with("_fault") {
             asked(word, definitions, numbers);
         }
     }
@@ -133,8 +133,8 @@ fn the_definitions_have_the_numbers() {
         asked(name, &all, &mut numbers);
         numbers
     };
-    assert_eq!(of("bookFaultIn"), numbers());
-    assert_eq!(of("openingFaultIn"), [&[101], &OF_OPENING[..]].concat());
+    assert_eq!(of("book_fault_in"), numbers());
+    assert_eq!(of("opening_fault_in"), [&[101], &OF_OPENING[..]].concat());
     let written = all.values().map(|body| body.matches("test ").count()).sum::<usize>();
     assert_eq!(written, numbers().len() + 1, "101 stands in both calls' definitions");
 }

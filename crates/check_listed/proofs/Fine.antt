@@ -43,7 +43,7 @@ use Rattle.check_listed.proofs.Evenness.{Even}
 use Rattle.check_listed.proofs.Likeness.{lot_alike, alike_pass}
 use Rattle.check_listed.proofs.Whole.{Stands, dk_fine, dk_taken, dk_even}
 use Rattle.check_listed.proofs.Canceled.{Numbers, cc_fine, cc_taken, cc_even}
-use Rattle.check_listed.proofs.Placed.{at, run, rows_are, order_at, once_at, row_at_law, run_bound, run_inside, row_of, rows_placed, pools_stand}
+use Rattle.check_listed.proofs.Placed.{run, rows_are, order_at, once_at, row_at_law, run_bound, run_inside, row_of, rows_placed, pools_stand}
 
 alike_fold : (numbers : Detail → List ℕ) (s : Alike) (ds : List Detail) → alike_all numbers s ds ≡ fold (λ (s : Alike) (d : Detail). alike_pool s d (numbers d)) s ds
 alike_fold numbers s [] = refl

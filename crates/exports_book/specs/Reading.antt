@@ -3,7 +3,7 @@ use Rattle.std.specs.Prelude.{ℕ, ◌≡◌, List, Bool, true, false}
 use Rattle.book.specs.declared.Values.{Values}
 use Rattle.book.specs.declared.Book.{Book}
 use Rattle.book.specs.Opening.{values_fine}
-use Rattle.image.specs.Images.{is_lent, is_image, values_in, book_in}
+use Rattle.image.specs.Images.{is_lent, values_in, book_in}
 
 -- of words that are known to say a book, or known not to
 pub record Reads (known : Bool) (ws : List ℕ) (b : Book) : Type 0 where

@@ -14,7 +14,6 @@ use Rattle.rows_keys.proofs.Rows.{records_same}
 use Rattle.fault.specs.declared.Fault.{Fault}
 use Rattle.fault.specs.Rules.{sound, test, or_else, each}
 use Rattle.fault.specs.Faults.{follows_fault, order_fault, twins, once_fault}
-use Rattle.fault.proofs.Walking.{left_stop, left_more}
 
 module _ (g : ℕ → Pool) (n : ℕ) where
   -- each by itself

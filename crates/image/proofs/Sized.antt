@@ -1,7 +1,7 @@
 -- A book's image is as long as a book's types make it: each of its arrays has its length.
 use Prim.Native.Nat.{ℕ, ◌*◌, ◌<◌}
 use mathlib.Core.Path.{◌≡◌, refl, ◌∙◌}
-use mathlib.Core.List.{List, [], ◌∷◌, map, flat_map}
+use mathlib.Core.List.{List, [], ◌∷◌, flat_map}
 use native.Mathlib.Omega.{arith}
 use lib.ListN.{length, length-append}
 use mir.Val.{Val}
@@ -10,11 +10,9 @@ use denote.Laws.{Is}
 use denote.Array.{each}
 use Rattle.lists.specs.Lists.{pasted}
 use Rattle.lists.proofs.Pasting.{pasting_short}
-use Rattle.acknowledgment.proofs.Building.{field_length}
 use Rattle.book.specs.declared.Trade.{Trade}
 use Rattle.book.specs.declared.Book.{Book}
 use Rattle.book.specs.contracts.Trade as T
-use Rattle.book.specs.contracts.Values as S
 use Rattle.book.specs.contracts.Book as B
 use Rattle.image.specs.Images.{trade_words, trades_words, rest_words, book_words, trade_image, rest_image, image_of}
 
@@ -23,9 +21,9 @@ unfolding trade_image
 trade_long t vs p =
     let g = p.1.1 in
     simp length-append
-    (omega (arith, field_length _ t.id g.0.1.0.1, field_length _ t.seller g.1.1.0.1.0.1, field_length _ t.buyer g.1.1.1.0.1.0.1, field_length _ t.contra g.1.1.1.1.0.1.0.1, field_length _ t.cusip g.1.1.1.1.1.0.1.0.1))
+    (omega (arith, g.0.1.0.1, g.1.1.0.1.0.1, g.1.1.1.0.1.0.1, g.1.1.1.1.0.1.0.1, g.1.1.1.1.1.0.1.0.1))
 
-trades_long : (ts : List Trade) (us : List Val) → shadow (each (T.the_field).row.Denot (T.the_field).row.own_val (map (T.the_type).to ts) us) → length (flat_map trade_image ts) ≡ length ts * trade_words
+trades_long : (ts : List Trade) (us : List Val) → shadow (each (T.the_row).Denot (T.the_row).own_val ts us) → length (flat_map trade_image ts) ≡ length ts * trade_words
 unfolding flat_map
 trades_long [] us s = refl
 trades_long (t ∷ ts) [] s = absurd s
@@ -36,7 +34,7 @@ module _ (b : Book) (vs : List Val) (p : Is B.the_row b vs) where
   trades_length : length (flat_map trade_image b.values.trades) ≡ trades_words
   trades_length =
       let g = p.1.1.0.1.1 in
-      trades_long b.values.trades g.0.0 g.0.1.1 ∙ omega (arith, field_length _ b.values.trades g.0.1.0.1)
+      trades_long b.values.trades g.0.0 g.0.1.1 ∙ omega (arith, g.0.1.0.1)
 
   rest_length : length (rest_image b) ≡ rest_words
   unfolding rest_image
@@ -44,7 +42,7 @@ module _ (b : Book) (vs : List Val) (p : Is B.the_row b vs) where
       let g = p.1.1.0.1.1 in
       let v = b.values in
       simp length-append
-      (omega (arith, field_length _ v.lent.holidays g.1.0.1.1.1.0.1.0.1, field_length _ v.lent.subscriber g.1.0.1.1.1.1.1.0.1.0.1, field_length _ v.connection.id g.1.1.1.0.1.1.0.1.0.1))
+      (omega (arith, g.1.0.1.1.1.0.1.0.1, g.1.0.1.1.1.1.1.0.1.0.1, g.1.1.1.0.1.1.0.1.0.1))
 
   image_long : length (image_of b) ≡ book_words
   unfolding image_of

@@ -10,13 +10,12 @@ use lib.ListN.{length}
 use lib.Dec.{eqb}
 use borrow.Author.Tests.{eq-eqb, ne_eqb}
 use Rattle.book.specs.declared.Pool.{Pool}
-use Rattle.book.specs.declared.Answer.TheVariants.{Rejected}
 use Rattle.book.specs.Reasons.{number_of, code_of, book_unsound}
 use Rattle.book.specs.Soundness as soundness
 use Rattle.book.specs.Checks.{Call, answer_of}
 use Rattle.book.specs.Step.{call_with}
 use Rattle.book.proofs.Unsound.{unsound_answer}
-use Rattle.image.specs.Images.{is_lent, is_image, values_in, book_in}
+use Rattle.image.specs.Images.{is_image, book_in}
 use Rattle.fault.specs.Rules.{is_sound}
 use Rattle.fault.proofs.Exactly.{and_true, tested, none_broken, in_order_law, opening_exact, book_exact}
 use Rattle.calls_words.specs.Calls.{is_time, caller_of}

@@ -17,7 +17,7 @@ use Rattle.book.specs.Soundness.{Sound, held_in}
 use Rattle.book.specs.declared.Caller.{Caller}
 use Rattle.book.specs.declared.Reason.TheVariants.{Operator}
 use Rattle.book.specs.declared.Verdict.TheVariants.{Fails}
-use Rattle.book.specs.Checks.{Asked, Call, call, asked_by, trades, numbers_spent, unsound, soundness_checks, sender_checks, answer_to, answer_of}
+use Rattle.book.specs.Checks.{Asked, Call, call, asked_by, numbers_spent, unsound, soundness_checks, sender_checks, answer_to, answer_of}
 use Rattle.book.specs.Step.{call_with, book_after, table_after}
 use Rattle.book.specs.History.{History, feed}
 use Rattle.book.specs.Promise.{Put, call_of, after}

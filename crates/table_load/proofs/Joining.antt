@@ -4,6 +4,7 @@ use mathlib.Core.List.{List, [], ◌∷◌, ◌++◌}
 use mathlib.Core.Bool.{Bool, true, false, ◌&&◌}
 use Prim.Native.Nat.{ℕ, zero, suc, ◌+◌, ◌-◌, ◌≤◌, ◌<◌}
 use native.Mathlib.Omega.{arith}
+use Rattle.std.proofs.Common.{add-one}
 use borrow.Author.Tests.{ne_eqb}
 use lib.ListN.{length, get_or, take, drop, replicate, length-drop}
 use lib.Seq.{take-suc, get_or-drop}
@@ -15,6 +16,7 @@ use Rattle.book.specs.declared.Pool.{Pool}
 use Rattle.book.specs.Records.{no_pool}
 use Rattle.book.specs.Soundness.{is_none}
 use Rattle.table_load.specs.Fit.{Fit}
+use Rattle.table_load.proofs.Blank.{blank_to, blank_more}
 use Rattle.table_load.specs.Joined.{join_bytes, join}
 
 -- ---- numbers
@@ -128,3 +130,12 @@ join_more ps from i h l =
 
     place : from + (i - from) ≡ i
     place = omega arith
+
+-- a turn that joins the next record
+pub joined_next : (ps : List Pool) (from i : ℕ) (all all' p : Pool) → all' ≡ join all p → p ≡ get_or ps i no_pool → all ≡ join_to ps from i → from ≤ i → i < length ps
+    → all' ≡ join_to ps from (i + 1)
+joined_next ps from i all all' p e is h begun l = rw add-one (e ∙ (λ k. join (h k) (is k)) ∙ join_more ps from i begun l)
+
+pub blank_next : (ps : List Pool) (from i : ℕ) (all all' p : Pool) → all' ≡ join all p → p ≡ get_or ps i no_pool → Fit all → Fit p → is_none all ≡ blank_to ps from i → from ≤ i → i < length ps
+    → is_none all' ≡ blank_to ps from (i + 1)
+blank_next ps from i all all' p e is fa fp h begun l = rw add-one (ap is_none e ∙ join_none all p fa fp ∙ (λ k. h k && is_none (is k)) ∙ blank_more ps from i begun l)

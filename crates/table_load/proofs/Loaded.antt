@@ -1,7 +1,8 @@
 -- The rows after the first records are copied into them: as many as before, each row that of its record, so that the table that they hold begins with those records.
 use mathlib.Core.Path.{◌≡◌, refl, sym, ap, ◌∙◌}
 use mathlib.Core.List.{List, []}
-use Prim.Native.Nat.{ℕ, zero, suc, ◌≤◌, ◌<◌}
+use Prim.Native.Nat.{ℕ, zero, suc, ◌+◌, ◌≤◌, ◌<◌}
+use Rattle.std.proofs.Common.{add-one}
 use native.Mathlib.Omega.{arith}
 use native.Mathlib.Decide.{ℕ_discrete}
 use lib.ListN.{length, get_or, take, set, length-set}
@@ -31,6 +32,12 @@ module _ (row : Pool → List ℕ) (ps : List Pool) where
   unfolding load_to
   load_at zero rows h k l = absurd (omega arith)
   load_at (suc n) rows h k l = placed n rows (omega arith) k (λ g. load_at n rows (omega arith) k g) l (ℕ_discrete k n)
+
+-- a turn that stores the row of the next record
+pub load_next : (row : Pool → List ℕ) (ps : List Pool) (us rows rows' : List (List ℕ)) (i : ℕ) (p : Pool) → rows' ≡ set rows i (row p) → p ≡ get_or ps i no_pool → rows ≡ load_to row ps i us
+    → rows' ≡ load_to row ps (i + 1) us
+unfolding load_to
+load_next row ps us rows rows' i p e is h = rw add-one (e ∙ λ k. set (h k) i (row (is k)))
 
 -- the table after the first n records are copied begins with them
 pub load_table : (ps : List Pool) (n : ℕ) (ns ks : List (List ℕ)) → n ≤ length ps → n ≤ length ns → n ≤ length ks → ((k : ℕ) → k < n → Fit (get_or ps k no_pool))

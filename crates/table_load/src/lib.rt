@@ -33,6 +33,11 @@ fn put_row(
     keys[i] = key;
 }
 
+// Does nothing: what it says holds of every record that lies in memory.
+fn fits(p: Pool)
+    ensures { Fit p }
+{}
+
 // Copies the first records into the rows of numbers and of bytes, and says that each fits its types.
 pub fn load(
     pools: &[Pool],
@@ -48,6 +53,7 @@ pub fn load(
     let mut i: usize = 0;
     while i < count {
         let p = pools[i];
+        fits(p);
         put_row(numbers, keys, i, p);
         i += 1;
     }
@@ -181,6 +187,7 @@ pub fn blank_from(pools: &[Pool], from: usize) -> bool
     let mut i = from;
     while i < pools.len() {
         let p = pools[i];
+        fits(p);
         all = joined(all, p);
         i += 1;
     }

@@ -4,6 +4,7 @@
 --     written_none             nothing is written yet
 --     length_written           the list is as long as before
 --     written_more             the element at i is written next
+--     written_step             the same, where the list and the element are given by equations
 --     written_same             the same element is written everywhere, from the front
 use mathlib.Core.Path.{◌≡◌, refl, sym, ap, ◌∙◌}
 use mathlib.Core.List.{List, [], ◌∷◌, ◌++◌, append_assoc}
@@ -74,6 +75,12 @@ module _ {A : Type 0} (f : ℕ → A) (from : ℕ) (ys : List A) where
         ∙ append_assoc (take from ys) (tab f (i - from) from) (f i ∷ drop (suc i) ys)
         ∙ ap (λ (l : List A). take from ys ++ l) (sym (append_assoc (tab f (i - from) from) (f i ∷ []) (drop (suc i) ys)))
         ∙ ap (λ (l : List A). take from ys ++ (l ++ drop (suc i) ys)) (sym one_after)
+
+  -- the element that the function gives is set at i
+  pub written_step : (i : ℕ) (t : List A) (x : A) → from ≤ i → i < length ys → t ≡ written i → x ≡ f i → set t i x ≡ written (i + 1)
+  written_step i t x h k e d =
+      let j : suc i ≡ i + 1 = omega arith in
+      ap (λ (l : List A). set l i x) e ∙ ap (λ (y : A). set (written i) i y) d ∙ written_more i h k ∙ ap written j
 
 -- the same element everywhere, from the front
 pub written_same : {A : Type 0} (z : A) (ys : List A) (n : ℕ) → written (λ _. z) 0 ys n ≡ replicate n z ++ drop n ys

@@ -11,7 +11,7 @@ pub overflow_mul-m : goal.overflow_mul-m
 overflow_mul-m c = omega (arith, room_fits c.loop-i.m c.loop-i.i c.loop-i.invariant.1 (omega arith))
 
 pub overflow_add-m : goal.overflow_add-m
-overflow_add-m c = omega (arith, room_fits c.loop-i.m c.loop-i.i c.loop-i.invariant.1 (omega arith), c.shared_slice_known-in-loop-i-1.given c.loop-i.i)
+overflow_add-m c = omega (arith, room_fits c.loop-i.m c.loop-i.i c.loop-i.invariant.1 (omega arith), c.type_inv.id c.loop-i.i)
 
 pub overflow_add-i : goal.overflow_add-i
 overflow_add-i c = omega arith
@@ -23,7 +23,7 @@ pub loop-i-preserved : goal.loop-i-preserved
 loop-i-preserved c =
     let l = c.loop-i in
     let s = c.args.id.now in
-    (omega arith, rw c.wide_byte.ensures (room_more l.m l.i (get_or s l.i 0) l.invariant.1 (omega (arith, c.shared_slice_known-in-loop-i-1.given l.i))), rw c.wide_byte.ensures (marking_more s l.m l.i l.invariant.2 (omega arith)))
+    (omega arith, rw c.wide_byte.ensures (room_more l.m l.i (get_or s l.i 0) l.invariant.1 (omega (arith, c.type_inv.id l.i))), rw c.wide_byte.ensures (marking_more s l.m l.i l.invariant.2 (omega arith)))
 
 pub returns : goal.returns
 returns c =

@@ -1,12 +1,9 @@
 -- The loop's invariant: the marks before i, and those of the trades from i on, of the first count, are those of all of them; the array keeps its 64 numbers.
-use mathlib.Core.Path.{◌≡◌, refl, ◌∙◌}
+use mathlib.Core.Path.{◌≡◌}
 use Prim.Native.Nat.{◌≤◌, ◌-◌}
-use native.Mathlib.Omega.{arith}
-use lib.ListN.{length, length-set}
+use lib.ListN.{length}
 use Rattle.book.specs.Trades.{trade_name}
-use Rattle.book.specs.Checks.{no_trade}
-use Rattle.check_opening.proofs.Marked.{Filling, filling_more, filling_done}
-use borrow.Author.Rules.{rules}
+use Rattle.check_opening.proofs.Marked.{Filling}
 use Rattle.check_opening.proofs.marks_of.Given as goal
 
 abbrev pub invariant-loop-i : goal.invariant-loop-i

@@ -1,13 +1,10 @@
 -- The loop's invariant: whether the name stands among those from i on, of the first count, is still the answer.
-use mathlib.Core.Path.{◌≡◌, refl, sym, ap, ◌∙◌}
+use mathlib.Core.Path.{◌≡◌}
 use mathlib.Core.List.{map}
 use Prim.Native.Nat.{◌≤◌, ◌-◌}
-use native.Mathlib.Omega.{arith}
 use lib.ListN.{take, drop}
 use Rattle.lists.specs.Lists.{any, same}
 use Rattle.book.specs.Trades.{trade_name}
-use Rattle.book.specs.Checks.{no_trade}
-use Rattle.lists.proofs.Looking.{first_turn, first_done, any_stop, any_more}
 use Rattle.check_opening.proofs.named_from.Given as goal
 
 abbrev pub invariant-loop-i : goal.invariant-loop-i

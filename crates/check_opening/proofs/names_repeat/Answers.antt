@@ -1,10 +1,9 @@
 -- The loop's invariant: whether the names from i on repeat is still the answer. They do where the first of them stands among the later ones.
 -- It cannot where its mark does not stand among the later marks.
-use mathlib.Core.Path.{◌≡◌, refl, sym, ap, ◌∙◌}
+use mathlib.Core.Path.{refl, sym, ap, ◌∙◌}
 use mathlib.Core.List.{map}
-use Prim.Native.Nat.{◌≤◌, ◌-◌}
 use native.Mathlib.Omega.{arith}
-use lib.ListN.{take, drop}
+use lib.ListN.{take}
 use Rattle.book.specs.Trades.{trade_name}
 use Rattle.book.specs.Opening.{names_repeat}
 use Rattle.book.specs.Checks.{no_trade}

@@ -1,17 +1,11 @@
 -- The loop's invariant: whether the names from i on repeat is still the answer. They do where the first of them stands among the later ones.
 -- It cannot where its mark does not stand among the later marks.
-use mathlib.Core.Path.{◌≡◌, refl, sym, ap, ◌∙◌}
+use mathlib.Core.Path.{◌≡◌}
 use mathlib.Core.List.{map}
 use Prim.Native.Nat.{◌≤◌, ◌-◌}
-use native.Mathlib.Omega.{arith}
 use lib.ListN.{take, drop}
 use Rattle.book.specs.Trades.{trade_name}
 use Rattle.book.specs.Opening.{names_repeat}
-use Rattle.book.specs.Checks.{no_trade}
-use Rattle.lists.proofs.Looking.{first_turn, first_done}
-use Rattle.check_opening.proofs.Names.{repeat_stop, repeat_more}
-use Rattle.check_opening.proofs.Marked.{unmarked_rest}
-use borrow.Author.Rules.{rules}
 use Rattle.check_opening.proofs.names_repeat.Given as goal
 
 abbrev pub invariant-loop-i : goal.invariant-loop-i

@@ -1,9 +1,6 @@
 -- The loop's invariant: whether the trades from i on, of the first count, are all fine is still the answer.
-use mathlib.Core.Path.{◌≡◌, refl, sym, ap, ◌∙◌}
-use Prim.Native.Nat.{◌≤◌, ◌-◌}
+use mathlib.Core.Path.{refl, sym, ap, ◌∙◌}
 use native.Mathlib.Omega.{arith}
-use lib.ListN.{take, drop}
-use borrow.Author.Tests.{not-true, not-false}
 use Rattle.lists.specs.Lists.{all}
 use Rattle.book.specs.Opening.{trade_fine}
 use Rattle.book.specs.Checks.{no_trade}

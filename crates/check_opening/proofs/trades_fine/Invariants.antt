@@ -1,14 +1,9 @@
 -- The loop's invariant: whether the trades from i on, of the first count, are all fine is still the answer.
-use mathlib.Core.Path.{◌≡◌, refl, sym, ap, ◌∙◌}
+use mathlib.Core.Path.{◌≡◌}
 use Prim.Native.Nat.{◌≤◌, ◌-◌}
-use native.Mathlib.Omega.{arith}
 use lib.ListN.{take, drop}
-use borrow.Author.Tests.{not-true, not-false}
 use Rattle.lists.specs.Lists.{all}
 use Rattle.book.specs.Opening.{trade_fine}
-use Rattle.book.specs.Checks.{no_trade}
-use Rattle.lists.proofs.Looking.{first_turn, first_done, all_stop, all_more}
-use borrow.Author.Rules.{rules}
 use Rattle.check_opening.proofs.trades_fine.Given as goal
 
 abbrev pub invariant-loop-i : goal.invariant-loop-i

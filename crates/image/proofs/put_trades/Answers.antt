@@ -1,11 +1,9 @@
 -- The loop's invariant: the rows of the first i trades, joined, stand at the front.
-use mathlib.Core.Path.{◌≡◌, refl, ◌∙◌}
-use Prim.Native.Nat.{◌≤◌, ◌-◌}
+use mathlib.Core.Path.{refl, ◌∙◌}
 use native.Mathlib.Omega.{arith}
-use lib.ListN.{length}
 use Rattle.book.specs.Checks.{no_trade}
 use Rattle.image.specs.Images.{trade_image}
-use Rattle.image.proofs.Joining.{Joining, joining_none, joining_more, joining_done}
+use Rattle.image.proofs.Joining.{joining_none, joining_more, joining_done}
 use Rattle.image.proofs.put_trades.Goals as goal
 
 pub loop-i-init : goal.loop-i-init
@@ -15,7 +13,7 @@ pub loop-i-preserved : goal.loop-i-preserved
 loop-i-preserved c =
     let s = c in
     let l = c.loop-i in
-    (omega arith, c.put_words.auto.0 ∙ l.invariant.1, joining_more trade_image s.args.trades s.args.words.now l.words _ l.i l.invariant.2 _ no_trade c.trade_words-row.ensures c.trade_words-row.type_inv.1.0.1 c.put_words.ensures (omega (arith, s.well_formed.1.0.1.0.1)))
+    (omega arith, c.put_words.auto.words ∙ l.invariant.1, joining_more trade_image s.args.trades s.args.words.now l.words _ l.i l.invariant.2 _ no_trade c.trade_words-row.ensures c.trade_words-row.type_inv.1.0.1 c.put_words.ensures (omega (arith, s.well_formed.1.0.1.0.1)))
 
 pub shape_of-words : goal.shape_of-words
 shape_of-words c = c.loop-i.invariant.1

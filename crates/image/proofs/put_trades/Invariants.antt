@@ -1,11 +1,9 @@
 -- The loop's invariant: the rows of the first i trades, joined, stand at the front.
-use mathlib.Core.Path.{◌≡◌, refl, ◌∙◌}
+use mathlib.Core.Path.{◌≡◌}
 use Prim.Native.Nat.{◌≤◌, ◌-◌}
-use native.Mathlib.Omega.{arith}
 use lib.ListN.{length}
-use Rattle.book.specs.Checks.{no_trade}
 use Rattle.image.specs.Images.{trade_image}
-use Rattle.image.proofs.Joining.{Joining, joining_none, joining_more, joining_done}
+use Rattle.image.proofs.Joining.{Joining}
 use Rattle.image.proofs.put_trades.Given as goal
 
 abbrev pub invariant-loop-i : goal.invariant-loop-i

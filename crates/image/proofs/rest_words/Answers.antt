@@ -1,6 +1,5 @@
 -- The words of the parts are those of all of a book but its trades.
 use mathlib.Core.Path.{◌∙◌}
-use Rattle.acknowledgment.proofs.Building.{field_length}
 use Rattle.image.proofs.Joining.{rest_made}
 use Rattle.image.proofs.rest_words.Goals as goal
 
@@ -10,5 +9,5 @@ returns c =
     let v = s.args.book.values in
     let good = s.well_formed.0.1.1.0.1.1 in
     c.rest_row.ensures
-    ∙ rest_made s.args.book _ _ c.account_words-accounts.result c.flag_of-flag.ensures c.last_of-last.ensures (field_length _ v.lent.holidays good.1.0.1.1.1.0.1.0.1)
-    (field_length _ v.lent.subscriber good.1.0.1.1.1.1.1.0.1.0.1) (field_length _ v.connection.id good.1.1.1.0.1.1.0.1.0.1) c.account_words-accounts.ensures
+    ∙ rest_made s.args.book _ _ c.account_words-accounts.result c.flag_of-flag.ensures c.last_of-last.ensures good.1.0.1.1.1.0.1.0.1
+    good.1.0.1.1.1.1.1.0.1.0.1 good.1.1.1.0.1.1.0.1.0.1 c.account_words-accounts.ensures

@@ -1,6 +1,5 @@
 -- The words of the parts are the trade's.
 use mathlib.Core.Path.{◌∙◌}
-use Rattle.acknowledgment.proofs.Building.{field_length}
 use Rattle.image.proofs.Joining.{trade_made}
 use Rattle.image.proofs.trade_words.Goals as goal
 
@@ -10,5 +9,5 @@ returns c =
     let t = s.args.t in
     let good = s.well_formed.0.1.1 in
     c.trade_row.ensures
-    ∙ trade_made t c.name_words-names.result (field_length _ t.id good.0.1.0.1) (field_length _ t.seller good.1.1.0.1.0.1) (field_length _ t.buyer good.1.1.1.0.1.0.1)
-    (field_length _ t.contra good.1.1.1.1.0.1.0.1) (field_length _ t.cusip good.1.1.1.1.1.0.1.0.1) c.name_words-names.ensures
+    ∙ trade_made t c.name_words-names.result good.0.1.0.1 good.1.1.0.1.0.1 good.1.1.1.0.1.0.1
+    good.1.1.1.1.0.1.0.1 good.1.1.1.1.1.0.1.0.1 c.name_words-names.ensures

@@ -1,12 +1,11 @@
 -- The loop's invariant: the records written, those still to come and the rest of the table are the answer.
 use native.Mathlib.Omega.{arith}
-use Prim.Native.Nat.{◌≤◌, ◌-◌, ◌+◌}
-use mathlib.Core.Path.{◌≡◌, refl, ◌∙◌}
-use lib.ListN.{length}
+use Prim.Native.Nat.{◌+◌}
+use mathlib.Core.Path.{refl, ◌∙◌}
 use Rattle.layout.proofs.Lengths.{count_max}
 use Rattle.rows.specs.Rows.{table_of}
 use Rattle.rows.proofs.Rows.{length_table}
-use Rattle.rows_bring.proofs.Pools.{Putting, putting_none, putting_more, putting_done}
+use Rattle.rows_bring.proofs.Pools.{putting_none, putting_more, putting_done}
 use Rattle.rows_bring.proofs.put_pools.Goals as goal
 
 pub loop-k-init : goal.loop-k-init
@@ -30,8 +29,8 @@ loop-k-preserved c =
     let l = c.loop-k in
     let m = c.put_record in (
       omega arith,
-      m.auto.0 ∙ l.invariant.1,
-      m.auto.1.0 ∙ l.invariant.2,
+      m.auto.numbers ∙ l.invariant.1,
+      m.auto.keys ∙ l.invariant.2,
       putting_more a.body.now a.s a.first a.n a.at (table_of a.numbers.now a.keys.now) (table_of l.numbers l.keys) l.k l.invariant.3 _ _ _ _
           (omega arith) (rw (length_table l.numbers l.keys) (omega arith)) c.pool_at-d.ensures (s.requires.3 (a.first + l.k) (omega arith)) c.record_with-p.ensures m.ensures,
     )

@@ -1,12 +1,9 @@
 -- The loop's invariant: the records written, those still to come and the rest of the table are the answer.
-use native.Mathlib.Omega.{arith}
-use Prim.Native.Nat.{◌≤◌, ◌-◌, ◌+◌}
-use mathlib.Core.Path.{◌≡◌, refl, ◌∙◌}
+use Prim.Native.Nat.{◌≤◌, ◌-◌}
+use mathlib.Core.Path.{◌≡◌}
 use lib.ListN.{length}
-use Rattle.layout.proofs.Lengths.{count_max}
 use Rattle.rows.specs.Rows.{table_of}
-use Rattle.rows.proofs.Rows.{length_table}
-use Rattle.rows_bring.proofs.Pools.{Putting, putting_none, putting_more, putting_done}
+use Rattle.rows_bring.proofs.Pools.{Putting}
 use Rattle.rows_bring.proofs.put_pools.Given as goal
 
 abbrev pub invariant-loop-k : goal.invariant-loop-k

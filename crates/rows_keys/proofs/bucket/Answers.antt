@@ -1,7 +1,6 @@
 -- Two words and six bytes, each by two spread numbers, give the bucket.
 use Rattle.rows_keys.proofs.Buckets.{bucket_words}
 use Rattle.std.proofs.Common.{rules}
-use borrow.Author.Rules.{rules}
 use Rattle.rows_keys.proofs.bucket.Goals as goal
 
 pub shares-a-requires : goal.shares-a-requires
@@ -16,4 +15,4 @@ shares-c-requires c = (c.requires 4, c.requires 5)
 pub returns : goal.returns
 returns c =
     let a = c.args in
-    bucket_words a.rows a.key.now _ _ _ c.first.ensures.0 c.second.ensures.0 c.third.ensures.0 _ _ _ c.shares-a.ensures.0 c.shares-b.ensures.0 c.shares-c.ensures.0 (search rules)
+    bucket_words a.spread a.key.now _ _ _ c.first.ensures.0 c.second.ensures.0 c.third.ensures.0 _ _ _ c.shares-a.ensures.0 c.shares-b.ensures.0 c.shares-c.ensures.0 (search rules)

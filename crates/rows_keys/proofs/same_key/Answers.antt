@@ -1,7 +1,6 @@
 -- The rows are compared as three numbers each.
 use Rattle.rows_keys.proofs.Whole.{words_same}
 use Rattle.std.proofs.Common.{rules}
-use borrow.Author.Rules.{rules}
 use Rattle.rows_keys.proofs.same_key.Goals as goal
 
 pub returns : goal.returns

@@ -1,0 +1,20 @@
+-- An ID and a name of unlike length are unlike; others are compared where the ID stands in the body.
+use mathlib.Core.Path.{◌∙◌}
+use native.Mathlib.Omega.{arith}
+use Rattle.check_terms.proofs.Named.{id_inside, named_unlike, named_is}
+use Rattle.check_terms.proofs.is_named_by.Goals as goal
+
+pub returns-then-n-length : goal.returns-then-n-length
+returns-then-n-length c =
+    let s = c in
+    named_unlike s.args.body.now s.args.place s.args.length s.requires s.args.t c.well_formed.1.1.1.0.1.1.0.1.0.1 _ c.lesser-n.ensures c.if-n-length.true
+
+pub overflow_add-place : goal.overflow_add-place
+overflow_add-place c =
+    let s = c in
+    omega (arith, id_inside s.args.body.now s.args.place s.args.length s.requires)
+
+pub returns : goal.returns
+returns c =
+    let s = c in
+    c.same_part.ensures ∙ named_is s.args.body.now s.args.place s.args.length s.requires s.args.t c.well_formed.1.1.1.0.1.1.0.1.0.1 _ c.lesser-n.ensures c.if-n-length.false
