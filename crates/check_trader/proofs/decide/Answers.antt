@@ -13,7 +13,7 @@ pub target_trade-target-requires : goal.target_trade-target-requires
 target_trade-target-requires c = run_stop c.args.book c.args.numbers.now c.args.keys.now c.args.body.now c.requires _ c.target_run-run.ensures
 
 pub decide_moves-requires : goal.decide_moves-requires
-decide_moves-requires c = (c.requires, target_is c.args.book c.args.numbers.now c.args.keys.now c.args.body.now c.requires _ c.target_run-run.ensures ∙ sym c.target_trade-target.ensures)
+decide_moves-requires c = record { ready = c.requires; keys_value = target_is c.args.book c.args.numbers.now c.args.keys.now c.args.body.now c.requires _ c.target_run-run.ensures ∙ sym c.target_trade-target.ensures }
 
 pub returns-in-Fails : goal.returns-in-Fails
 returns-in-Fails c = λ asked. refused_by trader_checks c.args.book c.args.numbers.now c.args.keys.now c.args.body.now asked _ _ c.refused.ensures (sym (first_early (call_on c.args.book c.args.numbers.now c.args.keys.now c.args.body.now asked) terms_checks moves_checks _ (sym (c.first_of_terms-terms.ensures c.args.book (table_of c.args.numbers.now c.args.keys.now) asked refl (there_is c.args.book c.args.numbers.now c.args.keys.now c.args.body.now c.requires _ c.target_run-run.ensures) (target_is c.args.book c.args.numbers.now c.args.keys.now c.args.body.now c.requires _ c.target_run-run.ensures ∙ sym c.target_trade-target.ensures)) ∙ c.in-Fails.is)))

@@ -1,4 +1,5 @@
 -- Each test that fails gives its reason, and all that come before it have passed.
+use native.Mathlib.Omega.{arith}
 use Rattle.check_trader.proofs.Rows.{target_fails, id_fails_law, terms_fail_law, no_more, millions_fail_law, faces_fail_law, lots_fail_law, pools_repeat, all_pass}
 use mathlib.Core.Path.{ap}
 use mathlib.Core.Bool.{not}
@@ -12,7 +13,7 @@ returns-then-lists-there c =
 pub returns-in_default : goal.returns-in_default
 returns-in_default c =
     let a = c.args in
-    id_fails_law a.v a.body.now a.there a.target _ _ _ _ c.message_type-kind.ensures c.is_on-on.ensures c.lists_lots-lists.ensures c.brings_lots-brings.ensures _ c.id_verdict-id.ensures c.if-lists-there.false c.in_default.in_default-own.keys2
+    id_fails_law a.v a.body.now a.there a.target _ _ _ _ c.message_type-kind.ensures c.is_on-on.ensures c.lists_lots-lists.ensures c.brings_lots-brings.ensures _ c.id_verdict-id.ensures c.if-lists-there.false (omega arith)
 
 pub returns-then-terms_fail : goal.returns-then-terms_fail
 returns-then-terms_fail c =
