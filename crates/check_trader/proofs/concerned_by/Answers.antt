@@ -1,3 +1,4 @@
+-- An ON goes where its rule says, any other message to the target's trade.
 use Rattle.check_trader.proofs.concerned_by.Goals as goal
 
 pub returns-then-on : goal.returns-then-on

@@ -1,3 +1,4 @@
+-- 30 to 36 come first, and 37, 38 and 40 where those pass.
 use mathlib.Core.Path.{refl, sym, ◌∙◌}
 use Rattle.rows.specs.Rows.{table_of}
 use Rattle.check_trader.specs.Decisions.{call_on}

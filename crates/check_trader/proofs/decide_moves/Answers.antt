@@ -1,3 +1,4 @@
+-- Each of 37, 38 and 40 that fails gives its reason; where none does, what moves is what the message takes off and brings.
 use native.Mathlib.Omega.{arith}
 use Rattle.book.specs.Checks.{moves_checks}
 use Rattle.check_trader.proofs.Deciding.{refused_by, findable, weighable, within, few, listed_fails, par_fails, table_fails, all_pass}

@@ -1,3 +1,4 @@
+-- No trade stands past the last one, and the weight brought is weighed against open par and the weight taken off.
 use native.Mathlib.Omega.{arith}
 use Rattle.check_trader.proofs.Fits.{past_count, past_all, covered, weighed}
 use Rattle.check_trader.proofs.par_fits.Goals as goal

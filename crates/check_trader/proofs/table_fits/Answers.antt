@@ -1,3 +1,4 @@
+-- A CC frees the rows of the pools that it takes off, an ON none.
 use native.Mathlib.Omega.{arith}
 use Rattle.check_trader.proofs.Fits.{pools_few, fits_cc, fits_on}
 use Rattle.check_trader.proofs.table_fits.Goals as goal

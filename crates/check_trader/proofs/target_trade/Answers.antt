@@ -1,3 +1,4 @@
+-- The target's run has a first record just where it is not empty.
 use borrow.Author.Tests.{lt-ltb, le-ltb}
 use Rattle.check_trader.proofs.target_trade.Goals as goal
 
