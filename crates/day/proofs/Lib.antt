@@ -1,4 +1,3 @@
 pub mod Counting
 pub mod Turning
-pub mod Values
 pub mod Promised

@@ -1,12 +1,11 @@
 -- The rows are enough: of a table that is not too long they hold every record, and one that is breaks a rule before any record is looked at.
 use mathlib.Core.Path.{◌≡◌, sym, ap, ◌∙◌}
 use mathlib.Core.List.{List}
-use mathlib.Core.Bool.{Bool, false, ◌&&◌, and-false}
-use Prim.Native.Nat.{ℕ, ◌≤◌, ◌<◌, min}
+use mathlib.Core.Bool.{false, and-false}
+use Prim.Native.Nat.{ℕ, ◌≤◌, ◌<◌}
 use native.Mathlib.Omega.{arith}
 use lib.ListN.{length, take}
 use lib.Seq.{take_all}
-use lib.Dec.{leb}
 use borrow.Author.Tests.{lt-leb, eqb-false}
 use Rattle.book.specs.declared.Book.{Book}
 use Rattle.book.specs.declared.Pool.{Pool}

@@ -4,7 +4,6 @@ use mathlib.Core.Path.{◌≡◌, refl, sym, ap, ◌∙◌}
 use mathlib.Core.List.{List}
 use mathlib.Core.Bool.{Bool, true, false, ◌&&◌}
 use lib.ListN.{length}
-use lib.Dec.{eqb}
 use borrow.Author.Tests.{eqb-true, eq-eqb}
 use Rattle.lists.specs.Lists.{pasted}
 use Rattle.lists.proofs.Tests.{and_left, clash}
@@ -21,7 +20,7 @@ use Rattle.book.proofs.Unsound.{unsound_answer, unsound_table, unsound_output}
 use Rattle.image.specs.Images.{is_image, book_in}
 use Rattle.calls.specs.declared.Stepped.{Stepped}
 use Rattle.calls.specs.Calls.{Framed}
-use Rattle.calls_words.specs.Calls.{time_width, is_time, caller_of, callable, time_refused, written, said_with, words_after, StepsTo, Refuses, Calls}
+use Rattle.calls_words.specs.Calls.{time_width, is_time, caller_of, callable, time_refused, said_with, words_after, StepsTo, Refuses, Calls}
 use Rattle.exports_book.specs.Reading.{Reads}
 use Rattle.exports_book.specs.Writing.{told_as, outbound_in, bytes_out, Finishes}
 use Rattle.exports_book.proofs.Reading.{values_unsound, callable_six}

@@ -1,2 +1,1 @@
-pub mod MachineValues
 pub mod Saying

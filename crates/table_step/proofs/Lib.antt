@@ -1,2 +1,1 @@
 pub mod Framing
-pub mod Calling

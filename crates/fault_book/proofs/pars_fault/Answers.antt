@@ -1,10 +1,6 @@
 -- The loop's invariant: what is left of the trades at i still gives the answer.
-use Prim.Native.Nat.{ℕ, ◌≤◌, ◌-◌}
 use native.Mathlib.Omega.{arith}
-use mathlib.Core.Path.{◌≡◌, refl, sym, ap, ◌∙◌}
-use mathlib.Core.List.{List}
-use lib.ListN.{length, length-map}
-use Rattle.book.specs.Opening.{trades_max}
+use mathlib.Core.Path.{refl, ◌∙◌}
 use Rattle.fault.proofs.Walking.{left_stop, left_more}
 use Rattle.fault_book.proofs.Pars.{left_of_pars, pars_done, pars_turn, par_here}
 use Rattle.fault_book.proofs.pars_fault.Goals as goal
@@ -15,32 +11,17 @@ weights-sums-requires c = (omega arith, omega arith, c.requires.3)
 pub loop-i-init : goal.loop-i-init
 loop-i-init c = (omega arith, λ ks. refl)
 
-pub offset_bounds-v-i : goal.offset_bounds-v-i
-offset_bounds-v-i c = omega arith
-
 pub bounds-v-i : goal.bounds-v-i
-bounds-v-i c = omega (arith, sixty-four c.before)
-
-pub offset_bounds-sums-i : goal.offset_bounds-sums-i
-offset_bounds-sums-i c = omega arith
-
-pub bounds-sums-i : goal.bounds-sums-i
-bounds-sums-i c = omega arith
-
-pub overflow_add-i : goal.overflow_add-i
-overflow_add-i c = omega arith
+bounds-v-i c = omega (arith, c.well_formed.0.1.1.0.1.0.1)
 
 pub returns-then-fault-ne0 : goal.returns-then-fault-ne0
-returns-then-fault-ne0 c =
+returns-then-fault-ne0 c ks =
     let a = c.args in
     let l = c.loop-i in
     let t = a.v in
-    left_stop (left_of_pars t.trades t.lent.tradeCount a.numbers.now ks a.live) _ l.i (pars_turn t.trades t.lent.tradeCount a.numbers.now ks a.live l.i (sixty-four c.before) c.requires.0 c.loop-i-test.true) c.tested-fault.result
-    (c.tested-fault.ensures ∙ par_here t.trades t.lent.tradeCount a.numbers.now ks a.live l.i (sixty-four c.before) c.requires.0 c.loop-i-test.true t c.requires.4 _ (c.weights-sums.ensures ks l.i (omega arith)) c.makes_up.result c.makes_up.ensures) c.if-fault-ne0.true
+    left_stop (left_of_pars t.trades t.lent.tradeCount a.numbers.now ks a.live) _ l.i (pars_turn t.trades t.lent.tradeCount a.numbers.now ks a.live l.i (omega (arith, c.well_formed.0.1.1.0.1.0.1)) c.requires.0 c.loop-i-test.true) c.tested-fault.result
+    (c.tested-fault.ensures ∙ par_here t.trades t.lent.tradeCount a.numbers.now ks a.live l.i (omega (arith, c.well_formed.0.1.1.0.1.0.1)) c.requires.0 c.loop-i-test.true t c.requires.4 _ (c.weights-sums.ensures ks l.i (omega arith)) c.makes_up.result c.makes_up.ensures) c.if-fault-ne0.true
     ∙ l.invariant.1 ks
-
-pub loop-i-smaller : goal.loop-i-smaller
-loop-i-smaller c = omega arith
 
 pub loop-i-preserved : goal.loop-i-preserved
 loop-i-preserved c =
@@ -51,13 +32,13 @@ loop-i-preserved c =
     let h = c.loop-i-test.true in (
       omega arith,
       λ ks.
-          left_more (left_of_pars t.trades t.lent.tradeCount a.numbers.now ks a.live) _ i (pars_turn t.trades t.lent.tradeCount a.numbers.now ks a.live i (sixty-four c.before) c.requires.0 h) c.tested-fault.result
-          (c.tested-fault.ensures ∙ par_here t.trades t.lent.tradeCount a.numbers.now ks a.live i (sixty-four c.before) c.requires.0 h t c.requires.4 _ (c.weights-sums.ensures ks i (omega arith)) c.makes_up.result c.makes_up.ensures) c.if-fault-ne0.false
+          left_more (left_of_pars t.trades t.lent.tradeCount a.numbers.now ks a.live) _ i (pars_turn t.trades t.lent.tradeCount a.numbers.now ks a.live i (omega (arith, c.well_formed.0.1.1.0.1.0.1)) c.requires.0 h) c.tested-fault.result
+          (c.tested-fault.ensures ∙ par_here t.trades t.lent.tradeCount a.numbers.now ks a.live i (omega (arith, c.well_formed.0.1.1.0.1.0.1)) c.requires.0 h t c.requires.4 _ (c.weights-sums.ensures ks i (omega arith)) c.makes_up.result c.makes_up.ensures) c.if-fault-ne0.false
           ∙ l.invariant.1 ks,
     )
 
 pub returns : goal.returns
-returns c =
+returns c ks =
     let a = c.args in
     let l = c.loop-i in
     c.none.ensures ∙ pars_done a.v.trades a.v.lent.tradeCount a.numbers.now ks a.live l.i c.loop-i-test.false ∙ l.invariant.1 ks

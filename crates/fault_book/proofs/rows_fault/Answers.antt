@@ -1,8 +1,8 @@
 -- A table that is too long is told by its length; the rows of any other hold all of it.
 use Prim.Native.Nat.{◌≤◌}
-use mathlib.Core.Path.{◌≡◌, sym, ◌∙◌}
+use mathlib.Core.Path.{sym, ◌∙◌}
 use native.Mathlib.Omega.{arith}
-use lib.ListN.{length, take}
+use lib.ListN.{length}
 use lib.Seq.{length-take-le}
 use Rattle.fault_book.proofs.Enough.{long_table, whole_table}
 use Rattle.fault_book.proofs.rows_fault.Goals as goal
