@@ -1,14 +1,10 @@
 -- Demand 3 of the program: it holds of the book and the table that every tape leaves, and the figures that the program reports of the tape are those that it says.
-use mathlib.Core.Path.{◌≡◌}
 use mathlib.Core.List.{List}
-use mathlib.Core.Bool.{true, ◌&&◌}
 use Prim.Native.Nat.{ℕ, ◌<◌}
 use native.Mathlib.Omega.{arith}
-use lib.ListN.{length, replicate, length-replicate}
-use lib.Dec.{leb}
+use lib.ListN.{length, replicate}
 use Rattle.book.specs.Records.{no_pool}
 use Rattle.book.specs.Trades.{trades_of}
-use Rattle.book.specs.Opening.{opening_fine, records_max}
 use Rattle.book.specs.Promise.{after_all, fed, Demand3}
 use Rattle.book.proofs.Demand3.{run, demand3, traced_count}
 use Rattle.book.proofs.Undamaged.{always_sound}

@@ -1,5 +1,5 @@
 -- What the program opens its book with, and what it says of a tape (01, Program daytape).
-use Rattle.std.specs.Prelude.{ℕ, ◌-◌, ◌≡◌, List, [], ◌∷◌, true, replicate}
+use Rattle.std.specs.Prelude.{ℕ, ◌-◌, ◌≡◌, List, [], ◌∷◌, replicate}
 use Rattle.trade_id.specs.SpecialInstructions.{id_length_max}
 use Rattle.sequence.specs.Sequence.{outbound, start_line}
 use Rattle.book.specs.declared.Trade.{Trade}
