@@ -19,6 +19,7 @@ WORD = re.compile(NAME)
 DECLARED = re.compile(rf"(?m)^[ ]*(?:(?:abbrev|unfoldable|irreducible|opaque|pub) )*({NAME})(?: \{{[^{{}}\n]*\}})* :(?=\s)")
 FIELD = re.compile(r"(?m)^\s+(?:pub )?(\w+): ")
 USE = re.compile(r"\buse ([^\s;{]+)(?:\.(\{[^{}]*\}))?(?: as ([^\s;]+))?")
+BOUND = re.compile(r"[({]((?:[^\s(){}.;,:]+ )+): ")
 CLAUSE = re.compile(r"\b(?:requires|ensures)\*?(?: \w+)? \{|\bghost use [^;]*;|\bghost \w+: \{")
 
 
@@ -36,8 +37,8 @@ def read(path):
 
 
 def snake(name):
-    words = re.sub(r"(?<=[a-z0-9])[A-Z]", lambda m: "_" + m[0].lower(), name)
-    return words.replace("-", "_")
+    words = re.sub(r"(?<=[a-z0-9])[A-Z]|(?<=[A-Z])[A-Z](?=[a-z])", lambda m: "_" + m[0].lower(), name)
+    return words.replace("-", "_").lower()
 
 
 def is_old(name):
@@ -91,6 +92,23 @@ def constants_turned(text, names):
         text = re.sub(rf"(?m)^((?:abbrev pub )?){name}(?= [:=])", rf"\g<1>{snake(name)}", text)
         text = re.sub(rf"\bwords\.{name}\b", f"words.{snake(name)}", text)
     return text
+
+
+def binders(top):
+    """The variables of lemmas and definitions that are written with dashes or capitals, each with its new name."""
+    names, taken = set(), set()
+    for path in texts(top, ".antt"):
+        text = read(path)
+        taken.update(WORD.findall(text))
+        if not by_hand(path):
+            names.update(name for bound in BOUND.findall(text) for name in bound.split())
+    names = {name for name in names if is_old(name)} - set(declared(top)) - fields_of(top)
+    return {name: snake(name) + "_" * (snake(name) in taken) for name in names}
+
+
+def bound_turned(text, names):
+    """Turns variables: behind a dot a name is a field."""
+    return WORD.sub(lambda m: names.get(m[0], m[0]) if text[m.start() - 1 : m.start()] != "." else m[0], text)
 
 
 def from_libraries(text):
@@ -157,6 +175,7 @@ def main():
             print(f"{name}\t{to}")
         return
     fields = sorted(fields_of(top))
+    variables = binders(top)
     for path in texts(top, ".antt"):
         text = read(path)
         stay = from_libraries(text)
@@ -164,7 +183,7 @@ def main():
             # A step that is declared here is no lemma of another file.
             stay |= set(DECLARED.findall(text)) - {it for _, items, _ in USE.findall(text) for it in WORD.findall(items or "")}
         turned = comments_apart(text, lambda code: respelled(code, new, stay))
-        turned = constants_turned(turned, fields)
+        turned = bound_turned(constants_turned(turned, fields), variables)
         if turned != text:
             with open(path, "w", encoding="utf-8") as file:
                 file.write(turned)

@@ -63,9 +63,9 @@ canceled_exact c e f =
 
 module _ (v : Values) (c : Call) (h : History) (w : Beside v c.book.values.lastMessageId (trades c) (live c) h) where
   -- the flags of a message's lots, its move, and that the history makes the same lots of it
-  pub record Moves (by_on byDk : Bool) : Type 0 where
-    pub moves : Move (trades c) (live c) h.lots (target_of c.body) (listed c.body) (dues c) by_on byDk
-    pub makes : moved_lots h.lastMessageId h.lots (target_of c.body) (listed c.body) (dues c) by_on byDk
+  pub record Moves (by_on by_dk : Bool) : Type 0 where
+    pub moves : Move (trades c) (live c) h.lots (target_of c.body) (listed c.body) (dues c) by_on by_dk
+    pub makes : moved_lots h.lastMessageId h.lots (target_of c.body) (listed c.body) (dues c) by_on by_dk
         ≡ lots_after (type_of c.body) v (h.lastMessageId + 1) c.body h.lots
 
   moves_on : type_of c.body ≡ On → Fine c → Moves true false
@@ -93,10 +93,10 @@ module _ (v : Values) (c : Call) (h : History) (w : Beside v c.book.values.lastM
       }
 
   -- some flags, for one of the three types that are accepted
-  accepted_moves : is_accepted (answer_of c) ≡ true → (by_on : Bool) × ((byDk : Bool) × Moves by_on byDk)
+  accepted_moves : is_accepted (answer_of c) ≡ true → (by_on : Bool) × ((by_dk : Bool) × Moves by_on by_dk)
   accepted_moves a = go (type_of c.body) refl (fine c a)
     where
-      go : (k : MessageType) → type_of c.body ≡ k → Fine c → (by_on : Bool) × ((byDk : Bool) × Moves by_on byDk)
+      go : (k : MessageType) → type_of c.body ≡ k → Fine c → (by_on : Bool) × ((by_dk : Bool) × Moves by_on by_dk)
       go On e f = (true, (false, moves_on e f))
       go Cc e f = (false, (false, moves_cc e f))
       go Dk e f = (false, (true, moves_dk e f))
@@ -114,13 +114,13 @@ moved : (v : Values) (c : Call) (h : History) → Beside v c.book.values.lastMes
     (record { lastMessageId = h.lastMessageId + 1; lots = lots_after (type_of c.body) v (h.lastMessageId + 1) c.body h.lots })
 unfolding live_moved trades_moved
 moved v c h w a =
-    let (by_on, (byDk, m)) = accepted_moves v c h w a in
+    let (by_on, (by_dk, m)) = accepted_moves v c h w a in
     rw (take_moved (taken c) (dues c) 0 c.book.values.lent.tradeCount c.book.values.trades)
     (carry v (c.book.values.lastMessageId + 1) (moved_trades (trades c) (live c) (target_of c.body) (listed c.body) (dues c))
     (moved_records c.book.values.lastMessageId (live c) (target_of c.body) (listed c.body) (dues c)) (h.lastMessageId + 1)
-    (moved_lots h.lastMessageId h.lots (target_of c.body) (listed c.body) (dues c) by_on byDk)
+    (moved_lots h.lastMessageId h.lots (target_of c.body) (listed c.body) (dues c) by_on by_dk)
     (lots_after (type_of c.body) v (h.lastMessageId + 1) c.body h.lots) m.makes
-    (move v c.book.values.lastMessageId (trades c) (live c) h w (target_of c.body) (listed c.body) (dues c) by_on byDk m.moves))
+    (move v c.book.values.lastMessageId (trades c) (live c) h w (target_of c.body) (listed c.body) (dues c) by_on by_dk m.moves))
 
 pub call_in_step : (v : Values) (c : Call) (h : History) → Beside v c.book.values.lastMessageId (trades c) (live c) h
     → Beside v (book_after c).values.lastMessageId (trades_of (book_after c).values) (live_of (book_after c) (table_after c)) (feed v h c.body (is_accepted (answer_of c)))

@@ -40,10 +40,10 @@ pub flat_same : (s u : Brought → Bool) (hs : List Brought) → ((h : Brought) 
 flat_same s u [] k = refl
 flat_same s u (h ∷ hs) k = rw (k h (Memᴰ.head refl), flat_same s u hs (λ g m. k g (Memᴰ.tail m)))
 
-pub flat_take_off : (s : Brought → Bool) (byDk : Bool) (tgt : Field) (fs : List Fields) (hs : List Brought)
-    → flat s (map (take_off byDk tgt fs) hs) ≡ flat (λ h. s (take_off byDk tgt fs h)) hs
-flat_take_off s byDk tgt fs [] = refl
-flat_take_off s byDk tgt fs (h ∷ hs) = rw (flat_take_off s byDk tgt fs hs)
+pub flat_take_off : (s : Brought → Bool) (by_dk : Bool) (tgt : Field) (fs : List Fields) (hs : List Brought)
+    → flat s (map (take_off by_dk tgt fs) hs) ≡ flat (λ h. s (take_off by_dk tgt fs h)) hs
+flat_take_off s by_dk tgt fs [] = refl
+flat_take_off s by_dk tgt fs (h ∷ hs) = rw (flat_take_off s by_dk tgt fs hs)
 
 pub flat_bring : (id : ℕ) (by_on : Bool) (o : ℕ) (ds : List Due) → flat stands (bring id by_on o ds) ≡ records_of id o ds
 flat_bring id by_on o [] = refl

@@ -65,12 +65,12 @@ same_opens v last ts rs h w =
 -- ---- millions when lots are taken off
 
 module _ (tgt : Field) (fs : List Fields) (hs : List Brought) (t : ℕ) where
-  ons_take : (byDk : Bool) → millions_by_ons t (map (take_off byDk tgt fs) hs) ≡ millions_by_ons t hs
+  ons_take : (by_dk : Bool) → millions_by_ons t (map (take_off by_dk tgt fs) hs) ≡ millions_by_ons t hs
   unfolding millions_by_ons
-  ons_take byDk = sum_map (trade_share t (λ (h : Brought). cond h.by_on (lot_millions h.lot) 0)) (take_off byDk tgt fs) hs
+  ons_take by_dk = sum_map (trade_share t (λ (h : Brought). cond h.by_on (lot_millions h.lot) 0)) (take_off by_dk tgt fs) hs
 
-  dks_take : (byDk : Bool) → ((h : Brought) → h ∈ hs → touches tgt fs h ≡ true → stands h ≡ true)
-      → millions_by_dks t (map (take_off byDk tgt fs) hs) ≡ millions_by_dks t hs + cond byDk (sum_of (trade_share t (gone tgt fs lot_millions)) hs) 0
+  dks_take : (by_dk : Bool) → ((h : Brought) → h ∈ hs → touches tgt fs h ≡ true → stands h ≡ true)
+      → millions_by_dks t (map (take_off by_dk tgt fs) hs) ≡ millions_by_dks t hs + cond by_dk (sum_of (trade_share t (gone tgt fs lot_millions)) hs) 0
   unfolding millions_by_dks
   dks_take true up =
       sum_map (trade_share t (λ (h : Brought). h.dks * lot_millions h.lot)) (take_off true tgt fs) hs
@@ -100,13 +100,13 @@ module _ (tgt : Field) (fs : List Fields) (hs : List Brought) (t : ℕ) where
 
 -- what a message must satisfy: which lots go (37), that the new ones come to one trade that is opened, that each trade has room for them (38), that none
 -- repeats (36), and that for each trade the millions that go and come agree with what ONs bring and DKs take off (21)
-pub record Move (ts : List Trade) (rs : List Pool) (hs : List Brought) (tgt : Field) (fs : List Fields) (ds : List Due) (by_on byDk : Bool) : Type 0 where
+pub record Move (ts : List Trade) (rs : List Pool) (hs : List Brought) (tgt : Field) (fs : List Fields) (ds : List Due) (by_on by_dk : Bool) : Type 0 where
   pub exact : Exact tgt fs rs
   pub range : (d : Due) → d ∈ ds → d.to < length ts
   pub one : (t : ℕ) × AllTo t ds
   pub room : (u : ℕ) → due_weight u ds ≤ (trade_at ts u).openPar + trade_weight u (keep (is_taken tgt fs) rs)
   pub apart : distinct (fields_of_lots (due_lots ds)) ≡ true
-  pub even : (u : ℕ) → cond byDk (sum_of (trade_share u (gone tgt fs lot_millions)) hs) 0 + sum_of (due_share u lot_millions) ds
+  pub even : (u : ℕ) → cond by_dk (sum_of (trade_share u (gone tgt fs lot_millions)) hs) 0 + sum_of (due_share u lot_millions) ds
       ≡ sum_of (trade_share u (gone tgt fs lot_millions)) hs + cond by_on (sum_of (due_share u lot_millions) ds) 0
 
 -- the trades, the records and the lots that it leaves
@@ -117,7 +117,7 @@ abbrev pub moved_records : ℕ → List Pool → Field → List Fields → List 
 moved_records last rs tgt fs ds = keep (λ (r : Pool). not (is_taken tgt fs r)) rs ++ records_of (last + 1) 1 ds
 
 abbrev pub moved_lots : ℕ → List Brought → Field → List Fields → List Due → Bool → Bool → List Brought
-moved_lots last hs tgt fs ds by_on byDk = map (take_off byDk tgt fs) hs ++ bring (last + 1) by_on 1 ds
+moved_lots last hs tgt fs ds by_on by_dk = map (take_off by_dk tgt fs) hs ++ bring (last + 1) by_on 1 ds
 
 -- a trade's open par after it
 moved_at : (off : List Pool) (ds : List Due) (i : ℕ) (ts : List Trade) (j : ℕ) → j < length ts
@@ -128,14 +128,14 @@ moved_at off ds i (t ∷ ts) (suc j) lt =
     let e : i + 1 + j ≡ i + suc j = omega arith in
     moved_at off ds (i + 1) ts j (omega arith) ∙ ap (λ (k : ℕ). ((trade_at ts j).openPar + trade_weight k off) - due_weight k ds) e
 
-module _ (v : Values) (ts : List Trade) (h : History) (tgt : Field) (fs : List Fields) (ds : List Due) (by_on byDk : Bool)
-    (w : Beside v h.lastMessageId ts (flat stands h.lots) h) (mv : Move ts (flat stands h.lots) h.lots tgt fs ds by_on byDk) where
+module _ (v : Values) (ts : List Trade) (h : History) (tgt : Field) (fs : List Fields) (ds : List Due) (by_on by_dk : Bool)
+    (w : Beside v h.lastMessageId ts (flat stands h.lots) h) (mv : Move ts (flat stands h.lots) h.lots tgt fs ds by_on by_dk) where
   abbrev next : List Brought
-  next = moved_lots h.lastMessageId h.lots tgt fs ds by_on byDk
+  next = moved_lots h.lastMessageId h.lots tgt fs ds by_on by_dk
 
   -- a sum over the lots after it is that over the old ones and that over the new ones
-  parted : (f : Brought → ℕ) → sum_of f next ≡ sum_of f (map (take_off byDk tgt fs) h.lots) + sum_of f (bring (h.lastMessageId + 1) by_on 1 ds)
-  parted f = sum_append f (map (take_off byDk tgt fs) h.lots) (bring (h.lastMessageId + 1) by_on 1 ds)
+  parted : (f : Brought → ℕ) → sum_of f next ≡ sum_of f (map (take_off by_dk tgt fs) h.lots) + sum_of f (bring (h.lastMessageId + 1) by_on 1 ds)
+  parted f = sum_append f (map (take_off by_dk tgt fs) h.lots) (bring (h.lastMessageId + 1) by_on 1 ds)
 
   move_pars : (u : ℕ) → u < length (trades_of v) → (trade_at (moved_trades ts (flat stands h.lots) tgt fs ds) u).openPar + standing_weight u next ≡ (trade_at (trades_of v) u).par
   unfolding standing_weight due_weight
@@ -146,7 +146,7 @@ module _ (v : Values) (ts : List Trade) (h : History) (tgt : Field) (fs : List F
         mv.room u,
         w.pars u lu,
         gone_weight tgt fs h.lots (length (trades_of v)) h.lastMessageId w.lots mv.exact.whole u,
-        standing_take tgt fs h.lots lot_weight byDk u,
+        standing_take tgt fs h.lots lot_weight by_dk u,
         parted (trade_share u (standing lot_weight)),
         standing_bring (h.lastMessageId + 1) by_on lot_weight u 1 ds,
       ))
@@ -158,9 +158,9 @@ module _ (v : Values) (ts : List Trade) (h : History) (tgt : Field) (fs : List F
         arith,
         w.millions u,
         mv.even u,
-        standing_take tgt fs h.lots lot_millions byDk u,
-        dks_take tgt fs h.lots u byDk (first_time tgt fs h.lots (length (trades_of v)) h.lastMessageId w.lots mv.exact.live),
-        ons_take tgt fs h.lots u byDk,
+        standing_take tgt fs h.lots lot_millions by_dk u,
+        dks_take tgt fs h.lots u by_dk (first_time tgt fs h.lots (length (trades_of v)) h.lastMessageId w.lots mv.exact.live),
+        ons_take tgt fs h.lots u by_dk,
         parted (trade_share u (standing lot_millions)),
         parted (trade_share u (λ (g : Brought). g.dks * lot_millions g.lot)),
         parted (trade_share u (λ (g : Brought). cond g.by_on (lot_millions g.lot) 0)),
@@ -174,20 +174,20 @@ module _ (v : Values) (ts : List Trade) (h : History) (tgt : Field) (fs : List F
   move_flat =
       record {
         last = refl;
-        table = rw (left_flat tgt fs h.lots mv.exact.whole byDk, flat_append, flat_bring);
+        table = rw (left_flat tgt fs h.lots mv.exact.whole by_dk, flat_append, flat_bring);
         terms = moved_blind at_par (λ t cents. refl) (keep (is_taken tgt fs) (flat stands h.lots)) ds 0 ts ∙ w.terms;
         pars = move_pars;
         lots =
-            lots_bring (length (trades_of v)) h.lastMessageId (map (take_off byDk tgt fs) h.lots)
-            (lots_take tgt fs h.lots (length (trades_of v)) h.lastMessageId w.lots mv.exact.live byDk) by_on ds mv.one.0
+            lots_bring (length (trades_of v)) h.lastMessageId (map (take_off by_dk tgt fs) h.lots)
+            (lots_take tgt fs h.lots (length (trades_of v)) h.lastMessageId w.lots mv.exact.live by_dk) by_on ds mv.one.0
             (λ d m. omega (arith, mv.range d m, same_count v ts w.terms)) mv.one.1 mv.apart;
         millions = move_millions;
       }
 
 -- a move keeps book and history side by side
 pub move : (v : Values) (last : ℕ) (ts : List Trade) (rs : List Pool) (h : History) → Beside v last ts rs h
-    → (tgt : Field) (fs : List Fields) (ds : List Due) (by_on byDk : Bool) → Move ts rs h.lots tgt fs ds by_on byDk
-    → Beside v (last + 1) (moved_trades ts rs tgt fs ds) (moved_records last rs tgt fs ds) (record { lastMessageId = h.lastMessageId + 1; lots = moved_lots h.lastMessageId h.lots tgt fs ds by_on byDk })
-move v last ts rs h w tgt fs ds by_on byDk mv =
+    → (tgt : Field) (fs : List Fields) (ds : List Due) (by_on by_dk : Bool) → Move ts rs h.lots tgt fs ds by_on by_dk
+    → Beside v (last + 1) (moved_trades ts rs tgt fs ds) (moved_records last rs tgt fs ds) (record { lastMessageId = h.lastMessageId + 1; lots = moved_lots h.lastMessageId h.lots tgt fs ds by_on by_dk })
+move v last ts rs h w tgt fs ds by_on by_dk mv =
     let w₀ : Beside v h.lastMessageId ts (flat stands h.lots) h = record { last = refl; table = refl; terms = w.terms; pars = w.pars; lots = w.lots; millions = w.millions } in
-    rw (w.table, w.last) (move_flat v ts h tgt fs ds by_on byDk w₀ (rw w.table at mv))
+    rw (w.table, w.last) (move_flat v ts h tgt fs ds by_on by_dk w₀ (rw w.table at mv))

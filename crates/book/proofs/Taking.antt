@@ -124,13 +124,13 @@ module _ (tgt : Field) (fs : List Fields) (hs : List Brought) where
       go false = rw (and-true, add-zero)
 
   -- the records that are left are those of the lots that still stand
-  pub left_flat : whole_lots tgt fs (flat stands hs) ≡ true → (byDk : Bool)
-      → keep (λ (r : Pool). not (is_taken tgt fs r)) (flat stands hs) ≡ flat stands (map (take_off byDk tgt fs) hs)
-  left_flat w byDk =
+  pub left_flat : whole_lots tgt fs (flat stands hs) ≡ true → (by_dk : Bool)
+      → keep (λ (r : Pool). not (is_taken tgt fs r)) (flat stands hs) ≡ flat stands (map (take_off by_dk tgt fs) hs)
+  left_flat w by_dk =
       flat_keep (λ (r : Pool). not (is_taken tgt fs r)) stands (λ h. not (touches tgt fs h)) hs
       (λ h m s. keep_const (λ (r : Pool). not (is_taken tgt fs r)) (not (touches tgt fs h)) (laid h) (λ r n. ap not (whole_or_none w h m s (touches tgt fs h) refl r n)))
-      ∙ flat_same (λ h. stands h && not (touches tgt fs h)) (λ h. stands (take_off byDk tgt fs h)) hs (λ h m. still h)
-      ∙ sym (flat_take_off stands byDk tgt fs hs)
+      ∙ flat_same (λ h. stands h && not (touches tgt fs h)) (λ h. stands (take_off by_dk tgt fs h)) hs (λ h m. still h)
+      ∙ sym (flat_take_off stands by_dk tgt fs hs)
 
   -- listed fields lead to a standing lot under the target that has them
   pub listed_lot : all_live tgt fs (flat stands hs) ≡ true → (f : Fields) → f ∈ fs
@@ -157,38 +157,38 @@ module _ (tgt : Field) (fs : List Fields) (hs : List Brought) where
       rw same sh
 
   -- ---- the history's lots stay as they should be
-  pub lots_take : (n last : ℕ) → Lots n last hs → all_live tgt fs (flat stands hs) ≡ true → (byDk : Bool) → Lots n last (map (take_off byDk tgt fs) hs)
-  lots_take n last lots li byDk = record { fine = fine; apart = far hs lots.apart; pair = pair }
+  pub lots_take : (n last : ℕ) → Lots n last hs → all_live tgt fs (flat stands hs) ≡ true → (by_dk : Bool) → Lots n last (map (take_off by_dk tgt fs) hs)
+  lots_take n last lots li by_dk = record { fine = fine; apart = far hs lots.apart; pair = pair }
     where
       once_more : (g : Brought) → g ∈ hs → (b : Bool) → touches tgt fs g ≡ b → g.offs + once b ≤ 1
       once_more g m true e = let z : g.offs ≡ 0 = eqb-true g.offs 0 (first_time n last lots li g m e) in omega arith
       once_more g m false e = omega (arith, (lots.fine g m).once)
 
-      fine : (g : Brought) → g ∈ map (take_off byDk tgt fs) hs → Fine last n g
+      fine : (g : Brought) → g ∈ map (take_off by_dk tgt fs) hs → Fine last n g
       fine g m =
-          let (a, ma, ea) = Memᴰ.of_map (take_off byDk tgt fs) hs m in
+          let (a, ma, ea) = Memᴰ.of_map (take_off by_dk tgt fs) hs m in
           let w = lots.fine a ma in
           rw (← ea) (record { id = w.id; trade = w.trade; once = once_more a ma (touches tgt fs a) refl })
 
-      far : (gs : List Brought) → Apart gs → Apart (map (take_off byDk tgt fs) gs)
+      far : (gs : List Brought) → Apart gs → Apart (map (take_off by_dk tgt fs) gs)
       far [] a = tt
-      far (g ∷ gs) a = (λ h m. let (b, mb, eb) = Memᴰ.of_map (take_off byDk tgt fs) gs m in rw (← eb) (a.0 b mb), far gs a.1)
+      far (g ∷ gs) a = (λ h m. let (b, mb, eb) = Memᴰ.of_map (take_off by_dk tgt fs) gs m in rw (← eb) (a.0 b mb), far gs a.1)
 
-      pair : (g h : Brought) → g ∈ map (take_off byDk tgt fs) hs → h ∈ map (take_off byDk tgt fs) hs → g.id ≡ h.id → Pair g h
+      pair : (g h : Brought) → g ∈ map (take_off by_dk tgt fs) hs → h ∈ map (take_off by_dk tgt fs) hs → g.id ≡ h.id → Pair g h
       pair g h mg mh =
-          let (a, ma, ea) = Memᴰ.of_map (take_off byDk tgt fs) hs mg in
-          let (b, mb, eb) = Memᴰ.of_map (take_off byDk tgt fs) hs mh in
-          rw (← ea, ← eb) (λ e. let p = lots.pair a b ma mb e in record { trade = p.trade; one = λ f x y. ap (take_off byDk tgt fs) (p.one f x y) })
+          let (a, ma, ea) = Memᴰ.of_map (take_off by_dk tgt fs) hs mg in
+          let (b, mb, eb) = Memᴰ.of_map (take_off by_dk tgt fs) hs mh in
+          rw (← ea, ← eb) (λ e. let p = lots.pair a b ma mb e in record { trade = p.trade; one = λ f x y. ap (take_off by_dk tgt fs) (p.one f x y) })
 
   -- ---- sums: what is taken off
   -- what stood is what still stands and what is gone
-  pub standing_take : (v : Lot → ℕ) (byDk : Bool) (t : ℕ)
-      → sum_of (trade_share t (standing v)) hs ≡ sum_of (trade_share t (standing v)) (map (take_off byDk tgt fs) hs) + sum_of (trade_share t (gone tgt fs v)) hs
-  standing_take v byDk t =
-      sum_same (trade_share t (standing v)) (λ h. trade_share t (standing v) (take_off byDk tgt fs h) + trade_share t (gone tgt fs v) h) hs
+  pub standing_take : (v : Lot → ℕ) (by_dk : Bool) (t : ℕ)
+      → sum_of (trade_share t (standing v)) hs ≡ sum_of (trade_share t (standing v)) (map (take_off by_dk tgt fs) hs) + sum_of (trade_share t (gone tgt fs v)) hs
+  standing_take v by_dk t =
+      sum_same (trade_share t (standing v)) (λ h. trade_share t (standing v) (take_off by_dk tgt fs h) + trade_share t (gone tgt fs v) h) hs
       (λ h m. rw (← still h) (go (eqb h.trade t) (stands h) (touches tgt fs h) (v h.lot)))
-      ∙ sum_add (λ h. trade_share t (standing v) (take_off byDk tgt fs h)) (trade_share t (gone tgt fs v)) hs
-      ∙ ap (λ (x : ℕ). x + sum_of (trade_share t (gone tgt fs v)) hs) (sym (sum_map (trade_share t (standing v)) (take_off byDk tgt fs) hs))
+      ∙ sum_add (λ h. trade_share t (standing v) (take_off by_dk tgt fs h)) (trade_share t (gone tgt fs v)) hs
+      ∙ ap (λ (x : ℕ). x + sum_of (trade_share t (gone tgt fs v)) hs) (sym (sum_map (trade_share t (standing v)) (take_off by_dk tgt fs) hs))
     where
       go : (b s u : Bool) (w : ℕ) → cond b (cond s w 0) 0 ≡ cond b (cond (s && not u) w 0) 0 + cond b (cond (s && u) w 0) 0
       go true true true w = omega arith

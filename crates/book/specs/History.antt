@@ -51,7 +51,7 @@ once false = 0
 
 -- a lot after a message: taken off once more where it is touched, even one already off
 abbrev pub take_off : Bool → Field → List Fields → Brought → Brought
-take_off byDk tgt fs h =
+take_off by_dk tgt fs h =
     record {
       id = h.id;
       ordinal = h.ordinal;
@@ -59,7 +59,7 @@ take_off byDk tgt fs h =
       lot = h.lot;
       by_on = h.by_on;
       offs = h.offs + once (touches tgt fs h);
-      dks = h.dks + once (byDk && touches tgt fs h);
+      dks = h.dks + once (by_dk && touches tgt fs h);
     }
 
 -- ---- bringing

@@ -41,15 +41,15 @@ ceiling_max = 9999
 abbrev pub variance_max : ℕ
 variance_max = 1000000
 
-abbrev pub pools_aMillion_max : ℕ
-pools_aMillion_max = 250
+abbrev pub pools_a_million_max : ℕ
+pools_a_million_max = 250
 
 -- the holidays that are opened
 abbrev pub holidays_of : Values → List ℕ
 holidays_of v = take v.lent.holidayCount v.lent.holidays
 
 abbrev pub limits_fine : Limits → Bool
-limits_fine l = leb l.ceiling ceiling_max && (leb l.variance variance_max && (between 1 pools_aMillion_max l.poolsAMillion && between 1 original_most l.least))
+limits_fine l = leb l.ceiling ceiling_max && (leb l.variance variance_max && (between 1 pools_a_million_max l.poolsAMillion && between 1 original_most l.least))
 
 -- an account, a subscriber and a connection: four characters of codes 33 to 126
 abbrev pub account_fine : List ℕ → Bool

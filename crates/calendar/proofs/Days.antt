@@ -47,15 +47,15 @@ above a month h e = omega arith
 abbrev pub Thirty : ℕ → Type 0
 Thirty month = (month ≡ 4) ⊎ ((month ≡ 6) ⊎ ((month ≡ 9) ⊎ (month ≡ 11)))
 
-pub thirty_days : (isLeap : Bool) (month : ℕ) → Thirty month → 30 ≡ days_of_month isLeap month
-thirty_days isLeap month (inl e) = rw e
-thirty_days isLeap month (inr (inl e)) = rw e
-thirty_days isLeap month (inr (inr (inl e))) = rw e
-thirty_days isLeap month (inr (inr (inr e))) = rw e
+pub thirty_days : (is_leap : Bool) (month : ℕ) → Thirty month → 30 ≡ days_of_month is_leap month
+thirty_days is_leap month (inl e) = rw e
+thirty_days is_leap month (inr (inl e)) = rw e
+thirty_days is_leap month (inr (inr (inl e))) = rw e
+thirty_days is_leap month (inr (inr (inr e))) = rw e
 
 -- the others but February
-pub thirty_one_days : (isLeap : Bool) (month : ℕ) → (month ≡ 2 → ⊥) → (Thirty month → ⊥) → 31 ≡ days_of_month isLeap month
-thirty_one_days isLeap month h k =
+pub thirty_one_days : (is_leap : Bool) (month : ℕ) → (month ≡ 2 → ⊥) → (Thirty month → ⊥) → 31 ≡ days_of_month is_leap month
+thirty_one_days is_leap month h k =
     simp (ne_eqb month 2 h, ne_eqb month 4 (λ e. k (inl e)), ne_eqb month 6 (λ e. k (inr (inl e))), ne_eqb month 9 (λ e. k (inr (inr (inl e)))), ne_eqb month 11 (λ e. k (inr (inr (inr e)))))
 
 -- what a date's three parts keep to

@@ -44,8 +44,8 @@ days_of_year year = cond (leap year) 366 365
 
 -- the days of a month, in a leap year or not: April, June, September and November have 30
 abbrev pub days_of_month : Bool → ℕ → ℕ
-days_of_month isLeap month =
-    cond (eqb month 2) (cond isLeap 29 28) (cond (eqb month 4 || (eqb month 6 || (eqb month 9 || eqb month 11))) 30 31)
+days_of_month is_leap month =
+    cond (eqb month 2) (cond is_leap 29 28) (cond (eqb month 4 || (eqb month 6 || (eqb month 9 || eqb month 11))) 30 31)
 
 -- the days of so many years, from 1990 on
 abbrev pub days_of_years : ℕ → ℕ
@@ -54,8 +54,8 @@ days_of_years (suc years) = days_of_years years + days_of_year (first_year + yea
 
 -- the days of so many months, from January on
 abbrev pub days_of_months : Bool → ℕ → ℕ
-days_of_months isLeap zero = 0
-days_of_months isLeap (suc months) = days_of_months isLeap months + days_of_month isLeap (suc months)
+days_of_months is_leap zero = 0
+days_of_months is_leap (suc months) = days_of_months is_leap months + days_of_month is_leap (suc months)
 
 -- the days from Monday 1 January 1990 to a date
 unfoldable pub day_number : ℕ → ℕ → ℕ → ℕ

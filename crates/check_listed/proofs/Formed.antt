@@ -30,27 +30,27 @@ pub some_left : (d : Detail) (ds : List Detail) → is_end (term d) ≡ false �
 some_left d ds e g ms p = absurd (false≢true (sym e ∙ (rw p at g)))
 
 -- ---- a state that is held at each pool: after the last end, it is that of the lots
-module _ {S A : Type 0} (step : S → Detail → S) (hold : List Detail → A → S) (take-lot : A → Lot → A)
+module _ {S A : Type 0} (step : S → Detail → S) (hold : List Detail → A → S) (take_lot : A → Lot → A)
     (middle : (ms : List Detail) (a : A) (d : Detail) → is_end (term d) ≡ false → step (hold ms a) d ≡ hold (ms ++ (d ∷ [])) a)
-    (last : (ms : List Detail) (a : A) (d : Detail) → is_end (term d) ≡ true → step (hold ms a) d ≡ hold [] (take-lot a (record { middles = ms; last = d }))) where
+    (last : (ms : List Detail) (a : A) (d : Detail) → is_end (term d) ≡ true → step (hold ms a) d ≡ hold [] (take_lot a (record { middles = ms; last = d }))) where
   whole_from : (first : ℕ → Bool) (ms : List Detail) (a : A) (ds : List Detail) → (ds ≡ [] → ms ≡ []) → lots_formed first ds ≡ true
-      → fold step (hold ms a) ds ≡ hold [] (fold take-lot a (lots_from ms ds))
+      → fold step (hold ms a) ds ≡ hold [] (fold take_lot a (lots_from ms ds))
   whole_from first ms a [] w f = ap (λ (l : List Detail). hold l a) (w refl)
   whole_from first ms a (d ∷ ds) w f =
-      go (is_end (term d)) refl (whole_from first [] (take-lot a (record { middles = ms; last = d })) ds (λ p. refl) below)
+      go (is_end (term d)) refl (whole_from first [] (take_lot a (record { middles = ms; last = d })) ds (λ p. refl) below)
       (λ e. whole_from first (ms ++ (d ∷ [])) a ds (some_left d ds e (formed_on first d ds f) (ms ++ (d ∷ []))) below)
     where
       below : lots_formed first ds ≡ true
       below = formed_below first d ds f
 
       go : (b : Bool) → is_end (term d) ≡ b
-          → fold step (hold [] (take-lot a (record { middles = ms; last = d }))) ds ≡ hold [] (fold take-lot (take-lot a (record { middles = ms; last = d })) (lots_from [] ds))
-          → (is_end (term d) ≡ false → fold step (hold (ms ++ (d ∷ [])) a) ds ≡ hold [] (fold take-lot a (lots_from (ms ++ (d ∷ [])) ds)))
-          → fold step (step (hold ms a) d) ds ≡ hold [] (fold take-lot a (cond b (record { middles = ms; last = d } ∷ lots_from [] ds) (lots_from (ms ++ (d ∷ [])) ds)))
+          → fold step (hold [] (take_lot a (record { middles = ms; last = d }))) ds ≡ hold [] (fold take_lot (take_lot a (record { middles = ms; last = d })) (lots_from [] ds))
+          → (is_end (term d) ≡ false → fold step (hold (ms ++ (d ∷ [])) a) ds ≡ hold [] (fold take_lot a (lots_from (ms ++ (d ∷ [])) ds)))
+          → fold step (step (hold ms a) d) ds ≡ hold [] (fold take_lot a (cond b (record { middles = ms; last = d } ∷ lots_from [] ds) (lots_from (ms ++ (d ∷ [])) ds)))
       go true e h k = ap (λ (s : S). fold step s ds) (last ms a d e) ∙ h
       go false e h k = ap (λ (s : S). fold step s ds) (middle ms a d e) ∙ k e
 
-  pub whole_lots_law : (cc : Bool) (a : A) (ds : List Detail) → formed_for cc ds ≡ true → fold step (hold [] a) ds ≡ hold [] (fold take-lot a (lots ds))
+  pub whole_lots_law : (cc : Bool) (a : A) (ds : List Detail) → formed_for cc ds ≡ true → fold step (hold [] a) ds ≡ hold [] (fold take_lot a (lots ds))
   unfolding formed_for lots
   whole_lots_law cc a ds f = whole_from (cond cc first_cc first_on) [] a ds (λ p. refl) f
 

@@ -65,14 +65,14 @@ module _ (b : Book) (ns ks : List (List ℕ)) where
   pub unlike : (length ks ≡ length ns → ⊥) → Answer false
   unlike n = rw (ne_eqb (length ks) (length ns) n)
 
-  module _ (alike : length ks ≡ length ns) (values : Bool) (values-is : values ≡ values_fine b.values) where
+  module _ (alike : length ks ≡ length ns) (values : Bool) (values_is : values ≡ values_fine b.values) where
     pub values_fail : not values ≡ true → Answer false
     unfolding is_sound
-    values_fail n = rw (eq-eqb (length ks) (length ns) alike, sym values-is ∙ not-true values n)
+    values_fail n = rw (eq-eqb (length ks) (length ns) alike, sym values_is ∙ not-true values n)
 
-    module _ (values-hold : not values ≡ false) where
+    module _ (values_hold : not values ≡ false) where
       holds : values_fine b.values ≡ true
-      holds = sym values-is ∙ not-false values values-hold
+      holds = sym values_is ∙ not-false values values_hold
 
       pub few : b.values.lent.tradeCount ≤ trades_max
       few = few_trades b.values holds
@@ -81,16 +81,16 @@ module _ (b : Book) (ns ks : List (List ℕ)) where
       unfolding is_sound
       table_long h = rw (eq-eqb (length ks) (length ns) alike, holds, length_table ns ks, lt-leb (length ns) records_max h)
 
-      module _ (short : length ns ≤ records_max) (line : Bool) (line-is : line ≡ sound_line b.values.connection.line) where
+      module _ (short : length ns ≤ records_max) (line : Bool) (line_is : line ≡ sound_line b.values.connection.line) where
         pub line_fails : not line ≡ true → Answer false
         unfolding is_sound
-        line_fails n = rw (eq-eqb (length ks) (length ns) alike, holds, length_table ns ks, le-leb (length ns) records_max short, sym line-is ∙ not-true line n)
+        line_fails n = rw (eq-eqb (length ks) (length ns) alike, holds, length_table ns ks, le-leb (length ns) records_max short, sym line_is ∙ not-true line n)
 
-        module _ (line-holds : not line ≡ false) where
+        module _ (line_holds : not line ≡ false) where
           before : is_sound b (table_of ns ks)
               ≡ (leb b.live (length ns) && (all (record_fine b.values) (take b.live (table_of ns ks)) && (in_order (take b.live (table_of ns ks)) && (fields_once (take b.live (table_of ns ks)) && (all is_none (drop b.live (table_of ns ks)) && pars_from 0 (trades_of b.values) (take b.live (table_of ns ks)))))))
           unfolding is_sound
-          before = rw (holds, length_table ns ks, le-leb (length ns) records_max short, sym line-is ∙ not-false line line-holds)
+          before = rw (holds, length_table ns ks, le-leb (length ns) records_max short, sym line_is ∙ not-false line line_holds)
 
           pub live_long : length ns < b.live → Answer false
           live_long h = rw (eq-eqb (length ks) (length ns) alike, before, lt-leb b.live (length ns) h)
@@ -107,15 +107,15 @@ module _ (b : Book) (ns ks : List (List ℕ)) where
                 (fields_once (take b.live (table_of ns ks)) && (all is_none (drop b.live (table_of ns ks)) && pars_from 0 (trades_of b.values) (take b.live (table_of ns ks))))
                 (sym are ∙ not-true rows n)))
 
-            module _ (rows-hold : not rows ≡ false) where
+            module _ (rows_hold : not rows ≡ false) where
               each : all (record_fine b.values) (take b.live (table_of ns ks)) ≡ true
-              each = and_left (all (record_fine b.values) (take b.live (table_of ns ks))) (in_order (take b.live (table_of ns ks))) (sym are ∙ not-false rows rows-hold)
+              each = and_left (all (record_fine b.values) (take b.live (table_of ns ks))) (in_order (take b.live (table_of ns ks))) (sym are ∙ not-false rows rows_hold)
 
               pub ordered : in_order (take b.live (table_of ns ks)) ≡ true
-              ordered = and_right (all (record_fine b.values) (take b.live (table_of ns ks))) (in_order (take b.live (table_of ns ks))) (sym are ∙ not-false rows rows-hold)
+              ordered = and_right (all (record_fine b.values) (take b.live (table_of ns ks))) (in_order (take b.live (table_of ns ks))) (sym are ∙ not-false rows rows_hold)
 
               pub rows_fine : RowsFine b.values ns b.live
-              rows_fine js = sym (rows_are js) ∙ not-false rows rows-hold
+              rows_fine js = sym (rows_are js) ∙ not-false rows rows_hold
 
               pub all_light : Light ns b.live
               all_light = light b.values ns ks b.live within few each
@@ -124,11 +124,11 @@ module _ (b : Book) (ns ks : List (List ℕ)) where
                 pub once_fails : not once ≡ true → Answer false
                 once_fails n = rw (eq-eqb (length ks) (length ns) alike, before, le-leb b.live (length ns) within, each, ordered, sym once_is ∙ not-true once n)
 
-                module _ (once-holds : not once ≡ false) (zeros : Bool) (zeros_are : zeros ≡ all is_none (drop b.live (table_of ns ks))) where
+                module _ (once_holds : not once ≡ false) (zeros : Bool) (zeros_are : zeros ≡ all is_none (drop b.live (table_of ns ks))) where
                   pub zeros_fail : not zeros ≡ true → Answer false
                   zeros_fail n =
-                      rw (eq-eqb (length ks) (length ns) alike, before, le-leb b.live (length ns) within, each, ordered, sym once_is ∙ not-false once once-holds, sym zeros_are ∙ not-true zeros n)
+                      rw (eq-eqb (length ks) (length ns) alike, before, le-leb b.live (length ns) within, each, ordered, sym once_is ∙ not-false once once_holds, sym zeros_are ∙ not-true zeros n)
 
                   pub all_hold : not zeros ≡ false → (pars : Bool) → ((js : List (List ℕ)) → pars ≡ pars_from 0 (trades_of b.values) (take b.live (table_of ns js))) → Answer pars
                   all_hold n pars pars-are =
-                      rw (eq-eqb (length ks) (length ns) alike, before, le-leb b.live (length ns) within, each, ordered, sym once_is ∙ not-false once once-holds, sym zeros_are ∙ not-false zeros n) (pars-are ks)
+                      rw (eq-eqb (length ks) (length ns) alike, before, le-leb b.live (length ns) within, each, ordered, sym once_is ∙ not-false once once_holds, sym zeros_are ∙ not-false zeros n) (pars-are ks)

@@ -35,6 +35,17 @@ not_whole (Whole place n) (inr e) = absurd (omega (arith, e))
 not_whole Broken h = refl
 not_whole Absent h = refl
 
+-- an ID that is none of one variant is of one of the others
+pub else_whole : (id : TradeId) → ((place n : ℕ) → id ≡ Whole place n → ⊥) → OneOf (1 ∷ 2 ∷ []) (tag_of the_type id)
+else_whole (Whole place n) h = absurd (h place n refl)
+else_whole Broken h = inl refl
+else_whole Absent h = inr refl
+
+pub else_absent : (id : TradeId) → (id ≡ Absent → ⊥) → OneOf (0 ∷ 1 ∷ []) (tag_of the_type id)
+else_absent (Whole place n) h = inl refl
+else_absent Broken h = inr refl
+else_absent Absent h = absurd (h refl)
+
 module _ (body : List ℕ) (ts : List Trade) where
   -- ---- the trade that an ID names
   pub named_whole : (place n : ℕ) → id_in body ≡ Whole place n → first_trade (λ (t : Trade) (left : ℕ). is_named_by body (Whole place n) t) 0 ts (open_pars ts) ≡ named_trade body ts

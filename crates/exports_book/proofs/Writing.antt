@@ -56,32 +56,32 @@ two_more two (Accepted id) n e = rw e
 two_more two (Rejected r) n e = rw e
 two_more two (Dked r) n e = rw e
 
-module _ (ws said time : List ℕ) (r : Stepped) (a : Answer) (told : a ≡ told_as time r.answer) (silent : Bool) (silent-is : silent ≡ is_silent a) (before : ℕ) (before-is : before ≡ outbound_in ws) (bytes : ℕ) (bytes-are : bytes ≡ bytes_out silent before r.book.values.connection.outbound.0) (two said' : List ℕ) (two_is : two ≡ said_of a) (said_is : said' ≡ pasted said 0 (get_or two 0 0 ∷ get_or two 1 0 ∷ bytes ∷ [])) where
+module _ (ws said time : List ℕ) (r : Stepped) (a : Answer) (told : a ≡ told_as time r.answer) (silent : Bool) (silent_is : silent ≡ is_silent a) (before : ℕ) (before_is : before ≡ outbound_in ws) (bytes : ℕ) (bytes_are : bytes ≡ bytes_out silent before r.book.values.connection.outbound.0) (two said' : List ℕ) (two_is : two ≡ said_of a) (said_is : said' ≡ pasted said 0 (get_or two 0 0 ∷ get_or two 1 0 ∷ bytes ∷ [])) where
   says : said' ≡ pasted said 0 (said_with (told_as time r.answer) (bytes_out (is_silent (told_as time r.answer)) (outbound_in ws) r.book.values.connection.outbound.0))
   says =
       said_is ∙ ap (pasted said 0) (two_more two a bytes two_is)
-      ∙ (λ i. pasted said 0 (said_with (told i) (bytes-are i)))
-      ∙ (λ i. pasted said 0 (said_with (told_as time r.answer) (bytes_out ((silent-is ∙ ap is_silent told) i) (before-is i) r.book.values.connection.outbound.0)))
+      ∙ (λ i. pasted said 0 (said_with (told i) (bytes_are i)))
+      ∙ (λ i. pasted said 0 (said_with (told_as time r.answer) (bytes_out ((silent_is ∙ ap is_silent told) i) (before_is i) r.book.values.connection.outbound.0)))
 
   pub finish_silent : silent ≡ true → Finishes ws said time r ws said'
   unfolding words_after
   finish_silent t =
-      let e : is_silent (told_as time r.answer) ≡ true = sym (silent-is ∙ ap is_silent told) ∙ t in
+      let e : is_silent (told_as time r.answer) ≡ true = sym (silent_is ∙ ap is_silent told) ∙ t in
       record { image = rw e; answer = says }
 
-  module _ (n : silent ≡ false) (accepted : Bool) (accepted-is : accepted ≡ is_accepted a) (ws' : List ℕ) where
+  module _ (n : silent ≡ false) (accepted : Bool) (accepted_is : accepted ≡ is_accepted a) (ws' : List ℕ) where
     pub finish_accepted : accepted ≡ true → ws' ≡ pasted ws 0 (image_of r.book) → Finishes ws said time r ws' said'
     unfolding words_after
     finish_accepted t w =
-        let e : is_silent (told_as time r.answer) ≡ false = sym (silent-is ∙ ap is_silent told) ∙ n in
-        let f : is_accepted (told_as time r.answer) ≡ true = sym (accepted-is ∙ ap is_accepted told) ∙ t in
+        let e : is_silent (told_as time r.answer) ≡ false = sym (silent_is ∙ ap is_silent told) ∙ n in
+        let f : is_accepted (told_as time r.answer) ≡ true = sym (accepted_is ∙ ap is_accepted told) ∙ t in
         record { image = rw (e, f) w; answer = says }
 
     pub finish_refused : accepted ≡ false → ws' ≡ pasted ws trades_words (rest_image r.book) → Finishes ws said time r ws' said'
     unfolding words_after
     finish_refused t w =
-        let e : is_silent (told_as time r.answer) ≡ false = sym (silent-is ∙ ap is_silent told) ∙ n in
-        let f : is_accepted (told_as time r.answer) ≡ false = sym (accepted-is ∙ ap is_accepted told) ∙ t in
+        let e : is_silent (told_as time r.answer) ≡ false = sym (silent_is ∙ ap is_silent told) ∙ n in
+        let f : is_accepted (told_as time r.answer) ≡ false = sym (accepted_is ∙ ap is_accepted told) ∙ t in
         record { image = rw (e, f) w; answer = says }
 
 -- ---- the end of an opening

@@ -23,7 +23,7 @@ use Rattle.book.specs.Opening.{
   price_max,
   ceiling_max,
   variance_max,
-  pools_aMillion_max,
+  pools_a_million_max,
   holidays_of,
   account_fine,
   id_fine,
@@ -39,7 +39,7 @@ limits_fault l =
     first
     (test 107 0 (leb l.ceiling ceiling_max)
     ∷ test 108 0 (leb l.variance variance_max)
-    ∷ test 109 0 (between 1 pools_aMillion_max l.poolsAMillion)
+    ∷ test 109 0 (between 1 pools_a_million_max l.poolsAMillion)
     ∷ test 110 0 (between 1 original_most l.least)
     ∷ [])
 

@@ -149,7 +149,7 @@ values_from trades rest line =
                 record {
                   ceiling = get_or rest words.ceiling 0;
                   variance = get_or rest words.variance 0;
-                  poolsAMillion = get_or rest words.pools_aMillion 0;
+                  poolsAMillion = get_or rest words.pools_a_million 0;
                   least = get_or rest words.least 0;
                 };
           };

@@ -55,8 +55,8 @@ ceiling = 42
 abbrev pub variance : ℕ
 variance = 43
 
-abbrev pub pools_aMillion : ℕ
-pools_aMillion = 44
+abbrev pub pools_a_million : ℕ
+pools_a_million = 44
 
 abbrev pub least : ℕ
 least = 45

@@ -12,10 +12,10 @@ use Rattle.book.specs.declared.Pool.{Pool}
 use Rattle.book.specs.Opening.{records_max, values_fine, opening_fine, opened, overfull, unopened}
 use Rattle.rows_enough.specs.Moving.{OpensRecords}
 
-module _ (v : Values) (records : ℕ) (values : Bool) (values-is : values ≡ values_fine v) (book : Book) (book_is : book ≡ opened v) where
+module _ (v : Values) (records : ℕ) (values : Bool) (values_is : values ≡ values_fine v) (book : Book) (book_is : book ≡ opened v) where
   test_is : (t : List Pool) → length t ≡ records → (values && leb records records_max) ≡ opening_fine v t
   unfolding opening_fine
-  test_is t e = rw (values-is, e)
+  test_is t e = rw (values_is, e)
 
   pub refused : not (values && leb records records_max) ≡ true → OpensRecords v records (record { opened = record { fine = false; book = overfull book }; count = 0 })
   unfolding unopened

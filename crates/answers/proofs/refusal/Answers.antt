@@ -1,3 +1,4 @@
+-- A trader's reason refuses a DK and answers any other message as DKed; the two tests are the definition's.
 use Rattle.answers.proofs.refusal.Goals as goal
 
 pub returns-then-is_traders-answers_as_dk : goal.returns-then-is_traders-answers_as_dk

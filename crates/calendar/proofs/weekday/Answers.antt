@@ -34,4 +34,4 @@ overflow_add-result-4 c = omega arith
 pub returns : goal.returns
 returns c =
     let n = c.args.n in
-    weekday_is n c.days_before-before.result c.requires (c.days_before-before.ensures.0 ∙ ap (λ (isLeap : Bool). days_of_months isLeap (month_of n - 1)) c.is_leap.ensures)
+    weekday_is n c.days_before-before.result c.requires (c.days_before-before.ensures.0 ∙ ap (λ (is_leap : Bool). days_of_months is_leap (month_of n - 1)) c.is_leap.ensures)

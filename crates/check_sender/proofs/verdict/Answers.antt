@@ -1,3 +1,4 @@
+-- A test that fails gives its reason, and one that passes gives none.
 use Rattle.check_sender.proofs.verdict.Goals as goal
 
 pub returns-then-fails : goal.returns-then-fails

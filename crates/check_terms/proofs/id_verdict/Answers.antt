@@ -1,11 +1,10 @@
 -- Without an ID on FTBA nothing is asked; one that is not whole else fails, and a whole one is decided by the trade that it names.
 use mathlib.Core.Path.{sym, ap, ◌∙◌}
 use native.Mathlib.Omega.{arith}
-use borrow.Enum.Refused.{opened}
 use Rattle.book.specs.Trades.{trades_of}
 use Rattle.message_type.specs.Questions.{is_on}
 use Rattle.check_terms.proofs.Searching.{trade_count, trade_there}
-use Rattle.check_terms.proofs.Deciding.{not_whole, verdict, id_none, id_open, id_past, id_fine_law, id_unlike}
+use Rattle.check_terms.proofs.Deciding.{not_whole, else_whole, verdict, id_none, id_open, id_past, id_fine_law, id_unlike}
 use Rattle.check_terms.proofs.id_verdict.Goals as goal
 
 pub returns-then-is_absent-is_stipulated : goal.returns-then-is_absent-is_stipulated
@@ -18,7 +17,7 @@ pub returns-in_default : goal.returns-in_default
 returns-in_default c =
     let a = c.args in
     let id = c.trade_id_in-id.result in
-    id_open a.body.now (trades_of a.v) a.target id (not_whole id (opened c.in_default.in_default-own.keys2)) _ _ c.is_absent.ensures c.is_stipulated.ensures c.if-is_absent-is_stipulated.false
+    id_open a.body.now (trades_of a.v) a.target id (not_whole id (else_whole id c.in_default.not-Whole)) _ _ c.is_absent.ensures c.is_stipulated.ensures c.if-is_absent-is_stipulated.false
     ∙ ap (verdict a.body.now (trades_of a.v) a.target) c.trade_id_in-id.ensures
 
 pub find_named-i-requires : goal.find_named-i-requires

@@ -2,19 +2,18 @@
 use mathlib.Core.Path.{◌≡◌, sym, ap, ◌∙◌}
 use mathlib.Core.Bool.{true, false}
 use native.Mathlib.Omega.{arith}
-use borrow.Enum.Refused.{opened}
 use Rattle.book.specs.Messages.{type_of}
 use Rattle.book.specs.Trades.{trades_of}
 use Rattle.book.specs.Checks.{terms_fail}
 use Rattle.message_type.specs.Questions.{is_on}
 use Rattle.check_terms.proofs.Searching.{trade_count, trade_there}
-use Rattle.check_terms.proofs.Deciding.{terms_named, terms_on, terms_past, terms_at}
+use Rattle.check_terms.proofs.Deciding.{else_absent, terms_named, terms_on, terms_past, terms_at}
 use Rattle.check_terms.proofs.terms_fail.Goals as goal
 
 pub returns-in_default : goal.returns-in_default
 returns-in_default c =
     let a = c.args in
-    terms_named a.body.now (trades_of a.v) a.target c.trade_id_in-id.result (opened c.in_default.in_default-own.keys2) ∙ ap (terms_fail a.body.now (trades_of a.v) a.target) c.trade_id_in-id.ensures
+    terms_named a.body.now (trades_of a.v) a.target c.trade_id_in-id.result (else_absent c.trade_id_in-id.result c.in_default.not-Absent) ∙ ap (terms_fail a.body.now (trades_of a.v) a.target) c.trade_id_in-id.ensures
 
 pub returns-then-is_on : goal.returns-then-is_on
 returns-then-is_on c =

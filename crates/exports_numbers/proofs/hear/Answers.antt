@@ -1,3 +1,4 @@
+-- Fewer than two numbers say nothing; two are heard as they say.
 use borrow.Author.Tests.{lt-ltb, le-ltb}
 use Rattle.exports_numbers.specs.Said.{heard_in}
 use Rattle.exports_numbers.proofs.hear.Goals as goal

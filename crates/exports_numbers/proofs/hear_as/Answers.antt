@@ -1,3 +1,4 @@
+-- What a code and a number say, by the tests of the definition.
 use borrow.Author.Tests.{ne_eqb}
 use Rattle.exports_numbers.specs.Said.{heard_as}
 use Rattle.exports_numbers.proofs.hear_as.Goals as goal

@@ -1,3 +1,4 @@
+-- The AA has the message's own fields and what the answer tells.
 use Rattle.reply.proofs.Replies.{acknowledged_is}
 use Rattle.reply.proofs.acknowledge.Goals as goal
 

@@ -1,3 +1,4 @@
+-- The number before the AA's: the one after the TX on a gap, and else the last.
 use Rattle.reply.proofs.Replies.{before_told, before_none}
 use Rattle.reply.proofs.before_aa.Goals as goal
 

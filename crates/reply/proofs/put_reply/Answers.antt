@@ -1,3 +1,4 @@
+-- On a gap the TX goes out before the AA, and else the AA alone.
 use Rattle.reply.proofs.Replies.{told_out, plain_out, after_gap, no_gap}
 use Rattle.reply.proofs.put_reply.Goals as goal
 

@@ -1,3 +1,4 @@
+-- The book's counters after a message: the line moves by its number, and the outbound number by what went out.
 use mathlib.Core.Path.{sym}
 use Rattle.reply.proofs.Replies.{silent_counters, moved_counters}
 use Rattle.reply.proofs.with_counters.Goals as goal

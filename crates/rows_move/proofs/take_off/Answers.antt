@@ -1,3 +1,4 @@
+-- A message that lists lots takes them off by the marks; any other leaves all rows.
 use Rattle.rows_move.proofs.Taking.{taken_off, left_all}
 use Rattle.rows_move.proofs.take_off.Goals as goal
 

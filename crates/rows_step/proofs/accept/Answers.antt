@@ -1,3 +1,4 @@
+-- An accepted frame: what the decision says of the body gives each call what it asks, and the calls together are the step.
 use native.Mathlib.Omega.{arith}
 use mathlib.Core.Path.{refl}
 use Rattle.rows_step.proofs.Accepting.{last_fits_law, header_fits, trade_few, trade_fits_law, trade_covers, movable, after_fits, accepted_steps}

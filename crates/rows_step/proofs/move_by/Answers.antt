@@ -1,3 +1,4 @@
+-- The marks are an array, so there are as many as the table can have records.
 use borrow.Author.Rules.{rules}
 use Rattle.rows_step.proofs.move_by.Goals as goal
 

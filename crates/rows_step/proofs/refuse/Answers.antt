@@ -1,3 +1,4 @@
+-- A refused frame: a silent answer ends there, and any other goes out.
 use Rattle.rows_step.proofs.Refusing.{refused_silently, refused_aloud, reply_room, not_silent}
 use Rattle.rows_step.proofs.refuse.Goals as goal
 

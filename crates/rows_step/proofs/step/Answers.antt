@@ -1,3 +1,4 @@
+-- Number 42 comes first, then the checks of the sender; what they let pass goes on to those of the trader.
 use mathlib.Core.Path.{sym, ◌∙◌}
 use Rattle.rows.specs.Rows.{table_of}
 use Rattle.rows_step.proofs.Stepping.{frame_unsound, frame_steps, sender_refuses, sender_header, sender_ready, refused_steps}

@@ -1,3 +1,4 @@
+-- What the checks of the trader fail is refused, and what they let pass is accepted.
 use Rattle.rows_step.proofs.Stepping.{refused_steps, trader_refuses, trader_header, acceptable}
 use Rattle.rows_step.proofs.step_on.Goals as goal
 
