@@ -6,7 +6,7 @@ use std::path::Path;
 
 use compare::cases::Cases;
 use compare::engine::{fill_opened, fill_past, told, words, words_after};
-use compare::landed::{self as rhoikandra, held, same_table, Tally};
+use compare::earlier::{self as rhoikandra, held, same_table, Tally};
 use reference::answer::{Answer, Number, OPENING, SILENT, UNSOUND_BOOK};
 use reference::book::{Book, PoolRecord};
 use reference::damage::{scribble, sound_book, Lent, BOOK_DAMAGES, OPENING_DAMAGES};

@@ -1,7 +1,7 @@
 //! What a client in C may lend and the safe wrapper cannot: time bytes that are not six, and slices too short for what is said.
 
 use compare::engine::told;
-use compare::landed::{held, Book};
+use compare::earlier::{held, Book};
 use reference::answer::{Answer, UNSOUND_BOOK};
 use reference::desk::{pool, Desk};
 use reference::opening::TABLE_MAX;

@@ -3,7 +3,6 @@
 use std::collections::BTreeMap;
 use std::path::Path;
 
-use compare::landed::Words;
 use rhoikandra::{Limits, Opening, Trade};
 
 type Numbers = BTreeMap<String, usize>;

@@ -6,7 +6,7 @@ mod three_messages;
 use std::path::Path;
 use std::process::{Command, Output};
 
-use compare::landed::Book;
+use rhoikandra::earlier::Book;
 use rhoikandra::{numbers, Answer, Pool, OUTPUT_LENGTH};
 
 /// By the paper: 3 millions of par less two good lots of one million; a replacement of equal weight leaves both figures;

@@ -1,8 +1,6 @@
 //! Opens a book, sends an ON, a CC and a DK as frames of a tape, and prints the figures after each, and how the answers were at the end.
 
-mod landed;
-
-use landed::{Book, Stepped};
+use rhoikandra::earlier::{Book, Stepped};
 use rhoikandra::{Answer, Limits, OUTPUT_LENGTH, Opening, Tally, Trade, numbers};
 
 /// The bytes that start and end a frame.

@@ -31,6 +31,7 @@
 //! ```
 
 pub mod columns;
+pub mod earlier;
 pub mod exported;
 mod frames;
 pub mod message;

@@ -101,7 +101,7 @@ impl Opening {
 
     /// The words of a book with these values, nothing received and no live pool. What does not fit its place, a 65th
     /// trade, a 33rd holiday or a 17th character, is told by its count, and opening refuses it.
-    pub(crate) fn words(&self) -> Vec<u64> {
+    pub fn words(&self) -> Vec<u64> {
         let mut words = Vec::with_capacity(BOOK_WORDS);
         for trade in self.trades.iter().take(TRADES_MAX) {
             let mut id = trade.id.clone();

@@ -1,4 +1,4 @@
--- The walk of check 19 over a message's pools: what a private function promises. The check itself is `formedFor` of terminator.
+-- The walk of check 19 over a message's pools: what a private function promises. The check itself is `formed_for` of terminator.
 use Rattle.std.specs.Prelude.{ℕ, Bool, not, ◌&&◌, ◌||◌, eqb}
 use Rattle.std.specs.Bool.{beq}
 use Rattle.layout.specs.declared.Detail.{Detail}

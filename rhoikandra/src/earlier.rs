@@ -1,24 +1,13 @@
-//! The interface by which earlier tests hold a book, over the crate's raw one: its words and its records are open, it is opened in its
-//! place, and a call writes to an output of the caller's.
+//! A book by the earlier interface: its words and its records are open, it is opened in its place, and a call writes to an output of
+//! the caller's. A book of [`crate::Opening::open`] cannot be stepped before it is opened, nor opened twice; this one can, and gets 42.
 
 use std::mem::take;
 
-use reference::book::PoolRecord;
-use rhoikandra::saved::Damaged;
-use rhoikandra::{Figures, Number, Opening, Pool, Raw};
+use crate::raw::Raw;
+use crate::saved::Damaged;
+use crate::{Figures, Number, Opening, Pool};
 
-pub use rhoikandra::{Answer, Said as Stepped, Tally, BOOK_WORDS};
-
-/// The words of an opening.
-pub trait Words {
-    fn words(&self) -> Vec<u64>;
-}
-
-impl Words for Opening {
-    fn words(&self) -> Vec<u64> {
-        Raw::of(self, 0).words
-    }
-}
+pub use crate::Said as Stepped;
 
 /// A book, opened or not: its words and the records of its table.
 #[derive(Clone, Debug, PartialEq, Eq)]
@@ -39,25 +28,24 @@ impl Book {
         Raw::of(opening, records).into()
     }
 
-    /// Lends the memory to a call as a client of the engine holds it, and takes it back.
-    fn lend<T>(&mut self, call: impl FnOnce(&mut rhoikandra::Book) -> T) -> T {
+    /// Lends the memory to a call, and takes it back.
+    fn lend<T>(&mut self, call: impl FnOnce(&mut crate::Book) -> T) -> T {
         let raw = Raw { words: take(&mut self.words), pools: take(&mut self.pools) };
-        let mut book = rhoikandra::Book::from_raw(raw);
+        let mut book = crate::Book { raw };
         let told = call(&mut book);
-        let Raw { words, pools } = book.raw_mut();
-        *self = Book { words: take(words), pools: take(pools) };
+        *self = book.raw.into();
         told
     }
 
     /// The same memory for calls that only read it.
-    fn read(&self) -> rhoikandra::Book {
+    fn read(&self) -> crate::Book {
         let Book { words, pools } = self.clone();
-        rhoikandra::Book::from_raw(Raw { words, pools })
+        crate::Book { raw: Raw { words, pools } }
     }
 
     /// Opens it, or says 41 and leaves it as it was.
     pub fn open(&mut self) -> Result<(), Number> {
-        self.lend(|book| book.raw_mut().open())
+        self.lend(|book| book.raw.open())
     }
 
     /// Puts a frame's body to the book, by a seed drawn at random.
@@ -93,16 +81,6 @@ impl Book {
 
     /// A book from such bytes, or what is wrong with them.
     pub fn load(bytes: &[u8]) -> Result<Book, Damaged> {
-        rhoikandra::Book::load(bytes).map(|book| book.raw().clone().into())
+        crate::Book::load(bytes).map(|book| book.raw.into())
     }
-}
-
-/// The reference's book and table as such a book.
-pub fn held(book: &reference::book::Book, table: &[PoolRecord]) -> Book {
-    crate::engine::raw(book, table).into()
-}
-
-/// Whether a table's records are the reference's.
-pub fn same_table(held: &Book, table: &[PoolRecord]) -> bool {
-    held.pools.iter().copied().eq(table.iter().map(crate::engine::pool))
 }
