@@ -5,7 +5,7 @@ RT = rt
 INSTALL = install
 
 archive = target/staticlib/librhoikandra.a
-sources = crates.txt $(shell find crates -name '*.rt' -o -name '*.antt')
+sources = crates.txt $(shell find crates -name out -prune -o \( -name '*.rt' -o -name '*.antt' \) -print)
 headers = rhoikandra/rhoikandra.h rhoikandra/rhoikandra_saved.h
 crate = rhoikandra/Cargo.toml rhoikandra/build.rs rhoikandra/link.rs
 modules = $(wildcard rhoikandra/src/*.rs)
