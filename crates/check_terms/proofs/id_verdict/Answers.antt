@@ -25,8 +25,7 @@ find_named-i-requires c = sym c.trade_id_in-id.ensures ∙ c.in-Whole.is
 
 pub returns-then-n-i : goal.returns-then-n-i
 returns-then-n-i c =
-    let s = c in
-    let a = s.args in
+    let a = c.args in
     id_past a.body.now (trades_of a.v) a.target _ _ (sym c.trade_id_in-id.ensures ∙ c.in-Whole.is) _ c.find_named-i.ensures
     (omega (arith, trade_count a.v.trades a.v.lent.tradeCount _ c.well_formed.1.0.1.1.0.1.0.1 c.lesser-n.ensures, c.if-n-i.true))
 
@@ -38,8 +37,7 @@ bounds-v-i c = omega (arith, c.lesser-n.ensures, c.well_formed.1.0.1.1.0.1.0.1)
 
 pub returns-then-agrees-concerned : goal.returns-then-agrees-concerned
 returns-then-agrees-concerned c =
-    let s = c in
-    let a = s.args in
+    let a = c.args in
     id_fine_law a.body.now (trades_of a.v) a.target _ _ (sym c.trade_id_in-id.ensures ∙ c.in-Whole.is) _ c.find_named-i.ensures
     (omega (arith, trade_count a.v.trades a.v.lent.tradeCount _ c.well_formed.1.0.1.1.0.1.0.1 c.lesser-n.ensures, c.if-n-i.false)) _
     (trade_there a.v.trades a.v.lent.tradeCount _ c.well_formed.1.0.1.1.0.1.0.1 c.lesser-n.ensures c.find_named-i.result c.if-n-i.false) _ _ c.agrees.ensures
@@ -47,8 +45,7 @@ returns-then-agrees-concerned c =
 
 pub returns : goal.returns
 returns c =
-    let s = c in
-    let a = s.args in
+    let a = c.args in
     id_unlike a.body.now (trades_of a.v) a.target _ _ (sym c.trade_id_in-id.ensures ∙ c.in-Whole.is) _ c.find_named-i.ensures
     (omega (arith, trade_count a.v.trades a.v.lent.tradeCount _ c.well_formed.1.0.1.1.0.1.0.1 c.lesser-n.ensures, c.if-n-i.false)) _
     (trade_there a.v.trades a.v.lent.tradeCount _ c.well_formed.1.0.1.1.0.1.0.1 c.lesser-n.ensures c.find_named-i.result c.if-n-i.false) _ _ c.agrees.ensures

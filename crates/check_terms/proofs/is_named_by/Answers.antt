@@ -6,15 +6,12 @@ use Rattle.check_terms.proofs.is_named_by.Goals as goal
 
 pub returns-then-n-length : goal.returns-then-n-length
 returns-then-n-length c =
-    let s = c in
-    named_unlike s.args.body.now s.args.place s.args.length s.requires s.args.t c.well_formed.1.1.1.0.1.1.0.1.0.1 _ c.lesser-n.ensures c.if-n-length.true
+    named_unlike c.args.body.now c.args.place c.args.length c.requires c.args.t c.well_formed.1.1.1.0.1.1.0.1.0.1 _ c.lesser-n.ensures c.if-n-length.true
 
 pub overflow_add-place : goal.overflow_add-place
 overflow_add-place c =
-    let s = c in
-    omega (arith, id_inside s.args.body.now s.args.place s.args.length s.requires)
+    omega (arith, id_inside c.args.body.now c.args.place c.args.length c.requires)
 
 pub returns : goal.returns
 returns c =
-    let s = c in
-    c.same_part.ensures ∙ named_is s.args.body.now s.args.place s.args.length s.requires s.args.t c.well_formed.1.1.1.0.1.1.0.1.0.1 _ c.lesser-n.ensures c.if-n-length.false
+    c.same_part.ensures ∙ named_is c.args.body.now c.args.place c.args.length c.requires c.args.t c.well_formed.1.1.1.0.1.1.0.1.0.1 _ c.lesser-n.ensures c.if-n-length.false

@@ -23,8 +23,7 @@ returns-then-is_on c =
 
 pub returns-then-n-target : goal.returns-then-n-target
 returns-then-n-target c =
-    let s = c in
-    let a = s.args in
+    let a = c.args in
     let on : is_on (type_of a.body.now) ≡ false = sym (c.is_on.ensures ∙ ap is_on c.message_type-message.ensures) ∙ c.if-is_on.false in
     terms_past a.body.now (trades_of a.v) a.target (sym c.trade_id_in-id.ensures ∙ c.in-Absent.is) on
     (omega (arith, trade_count a.v.trades a.v.lent.tradeCount _ c.well_formed.1.0.1.1.0.1.0.1 c.lesser-n.ensures, c.if-n-target.true))
@@ -37,8 +36,7 @@ bounds-v-target c = omega (arith, c.lesser-n.ensures, c.well_formed.1.0.1.1.0.1.
 
 pub returns : goal.returns
 returns c =
-    let s = c in
-    let a = s.args in
+    let a = c.args in
     let on : is_on (type_of a.body.now) ≡ false = sym (c.is_on.ensures ∙ ap is_on c.message_type-message.ensures) ∙ c.if-is_on.false in
     terms_at a.body.now (trades_of a.v) a.target (sym c.trade_id_in-id.ensures ∙ c.in-Absent.is) on _
     (trade_there a.v.trades a.v.lent.tradeCount _ c.well_formed.1.0.1.1.0.1.0.1 c.lesser-n.ensures a.target c.if-n-target.false) _ c.agrees.ensures

@@ -10,15 +10,12 @@ find_named-requires c = sym c.trade_id_in-id.ensures ∙ c.in-Whole.is
 
 pub returns-in-Whole : goal.returns-in-Whole
 returns-in-Whole c =
-    let s = c in
-    c.find_named.ensures ∙ on_whole s.args.body.now (trades_of s.args.v) _ _ (sym c.trade_id_in-id.ensures ∙ c.in-Whole.is)
+    c.find_named.ensures ∙ on_whole c.args.body.now (trades_of c.args.v) _ _ (sym c.trade_id_in-id.ensures ∙ c.in-Whole.is)
 
 pub returns-in-Broken : goal.returns-in-Broken
 returns-in-Broken c =
-    let s = c in
-    trade_count s.args.v.trades s.args.v.lent.tradeCount _ c.well_formed.1.0.1.1.0.1.0.1 c.lesser.ensures ∙ on_broken s.args.body.now (trades_of s.args.v) (sym c.trade_id_in-id.ensures ∙ c.in-Broken.is)
+    trade_count c.args.v.trades c.args.v.lent.tradeCount _ c.well_formed.1.0.1.1.0.1.0.1 c.lesser.ensures ∙ on_broken c.args.body.now (trades_of c.args.v) (sym c.trade_id_in-id.ensures ∙ c.in-Broken.is)
 
 pub returns-in-Absent : goal.returns-in-Absent
 returns-in-Absent c =
-    let s = c in
-    c.find_holding.ensures ∙ on_absent s.args.body.now (trades_of s.args.v) (sym c.trade_id_in-id.ensures ∙ c.in-Absent.is) _ c.brought_weight.ensures
+    c.find_holding.ensures ∙ on_absent c.args.body.now (trades_of c.args.v) (sym c.trade_id_in-id.ensures ∙ c.in-Absent.is) _ c.brought_weight.ensures

@@ -5,9 +5,8 @@ use Rattle.image.proofs.rest_words.Goals as goal
 
 pub returns : goal.returns
 returns c =
-    let s = c in
-    let v = s.args.book.values in
-    let good = s.well_formed.0.1.1.0.1.1 in
+    let v = c.args.book.values in
+    let good = c.well_formed.0.1.1.0.1.1 in
     c.rest_row.ensures
-    ∙ rest_made s.args.book _ _ c.account_words-accounts.result c.flag_of-flag.ensures c.last_of-last.ensures good.1.0.1.1.1.0.1.0.1
+    ∙ rest_made c.args.book _ _ c.account_words-accounts.result c.flag_of-flag.ensures c.last_of-last.ensures good.1.0.1.1.1.0.1.0.1
     good.1.0.1.1.1.1.1.0.1.0.1 good.1.1.1.0.1.1.0.1.0.1 c.account_words-accounts.ensures

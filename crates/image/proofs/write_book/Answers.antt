@@ -8,7 +8,6 @@ returns-then-words-lt-BOOK_WORDS c = too_short c.args.book _ c.well_formed.1.0 c
 
 pub returns : goal.returns
 returns c =
-    let s = c in
     let p = c.put_trades.ensures in
     let r = c.rest_words-rest in
-    image_written s.args.book s.args.words.now _ _ _ c.if-words-lt-BOOK_WORDS.false p.0 p.1 r.ensures r.type_inv.1.0.1 c.put_words.ensures
+    image_written c.args.book c.args.words.now _ _ _ c.if-words-lt-BOOK_WORDS.false p.0 p.1 r.ensures r.type_inv.1.0.1 c.put_words.ensures

@@ -7,4 +7,4 @@ pub all_numbers-dates-requires : goal.all_numbers-dates-requires
 all_numbers-dates-requires c = omega (arith, c.counted-days.ensures.within)
 
 pub returns : goal.returns
-returns c = let s = c in lent_tests s.args.rest.now s.requires _ c.counted-days.ensures _ _ c.all_numbers-dates.ensures c.all_bytes-accounts.ensures
+returns c = lent_tests c.args.rest.now c.requires _ c.counted-days.ensures _ _ c.all_numbers-dates.ensures c.all_bytes-accounts.ensures

@@ -7,10 +7,10 @@ use Rattle.image_reading.proofs.Rest.{line_read}
 use Rattle.image_reading.proofs.read_line.Goals as goal
 
 pub read_received-received-requires : goal.read_received-received-requires
-read_received-received-requires c = let s = c in rest_received s.args.rest.now s.requires.1
+read_received-received-requires c = rest_received c.args.rest.now c.requires.1
 
 pub overflow_cast-result : goal.overflow_cast-result
-overflow_cast-result c = let s = c in omega (arith, ltb-true (get_or s.args.rest.now 50 0) 4294967296 (rest_expected s.args.rest.now s.requires.1))
+overflow_cast-result c = omega (arith, ltb-true (get_or c.args.rest.now 50 0) 4294967296 (rest_expected c.args.rest.now c.requires.1))
 
 pub returns : goal.returns
 returns c = line_read c.args.rest.now _ c.read_received-received.ensures

@@ -12,18 +12,15 @@ loop-i-init c = (search rules, refl, refl)
 
 pub overflow_cast-out : goal.overflow_cast-out
 overflow_cast-out c =
-    let s = c in
     let l = c.loop-i in
-    omega (arith, below_at s.args.words.now s.args.at (length s.args.out.now) 4294967296 l.i s.requires.0 s.requires.1 (omega arith))
+    omega (arith, below_at c.args.words.now c.args.at (length c.args.out.now) 4294967296 l.i c.requires.0 c.requires.1 (omega arith))
 
 pub loop-i-preserved : goal.loop-i-preserved
 loop-i-preserved c =
-    let s = c in
     let l = c.loop-i in
-    reading_more s.args.out.now s.args.words.now s.args.at s.requires.0 l.out l.i l.invariant (omega arith)
+    reading_more c.args.out.now c.args.words.now c.args.at c.requires.0 l.out l.i l.invariant (omega arith)
 
 pub returns : goal.returns
 returns c =
-    let s = c in
     let l = c.loop-i in
-    reading_done s.args.out.now s.args.words.now s.args.at s.requires.0 l.out l.i l.invariant (omega arith)
+    reading_done c.args.out.now c.args.words.now c.args.at c.requires.0 l.out l.i l.invariant (omega arith)

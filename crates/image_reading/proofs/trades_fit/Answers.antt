@@ -11,7 +11,7 @@ pub loop-i-init : goal.loop-i-init
 loop-i-init c = (search rules, rows_none c.args.words.now c.args.n)
 
 pub trade_fits-requires : goal.trade_fits-requires
-trade_fits-requires c = let s = c in let l = c.loop-i in ap length (slice_row s.args.words.now l.i) ∙ length_row s.args.words.now s.requires.0 l.i (omega (arith, s.requires.1, c.loop-i-test.true))
+trade_fits-requires c = let l = c.loop-i in ap length (slice_row c.args.words.now l.i) ∙ length_row c.args.words.now c.requires.0 l.i (omega (arith, c.requires.1, c.loop-i-test.true))
 
 pub returns-then-not-trade_fits : goal.returns-then-not-trade_fits
 returns-then-not-trade_fits c = let l = c.loop-i in rows_stop c.args.words.now c.args.n l.i l.invariant.1 c.loop-i-test.true _ c.trade_fits.ensures (ap not c.if-not-trade_fits.true)

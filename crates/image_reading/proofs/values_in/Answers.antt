@@ -5,16 +5,16 @@ use Rattle.image_reading.proofs.Whole.{length_rest, slice_fits, first_fit, value
 use Rattle.image_reading.proofs.values_in.Goals as goal
 
 pub bounds-words : goal.bounds-words
-bounds-words c = let s = c in omega (arith, lent_length s.args.words.now s.requires)
+bounds-words c = omega (arith, lent_length c.args.words.now c.requires)
 
 pub read_trades-trades-requires : goal.read_trades-trades-requires
-read_trades-trades-requires c = let s = c in (lent_length s.args.words.now s.requires, c.counted-n.ensures.within, first_fit s.args.words.now s.requires _ c.counted-n.ensures)
+read_trades-trades-requires c = (lent_length c.args.words.now c.requires, c.counted-n.ensures.within, first_fit c.args.words.now c.requires _ c.counted-n.ensures)
 
 pub slice_bounds-read_rest-end : goal.slice_bounds-read_rest-end
-slice_bounds-read_rest-end c = let s = c in omega (arith, lent_length s.args.words.now s.requires)
+slice_bounds-read_rest-end c = omega (arith, lent_length c.args.words.now c.requires)
 
 pub read_rest-requires : goal.read_rest-requires
-read_rest-requires c = let s = c in (length_rest s.args.words.now (lent_length s.args.words.now s.requires), slice_fits s.args.words.now s.requires)
+read_rest-requires c = (length_rest c.args.words.now (lent_length c.args.words.now c.requires), slice_fits c.args.words.now c.requires)
 
 pub returns : goal.returns
-returns c = let s = c in values_are s.args.words.now s.requires _ c.counted-n.ensures _ s.args.line _ c.read_trades-trades.ensures c.read_rest.ensures
+returns c = values_are c.args.words.now c.requires _ c.counted-n.ensures _ c.args.line _ c.read_trades-trades.ensures c.read_rest.ensures

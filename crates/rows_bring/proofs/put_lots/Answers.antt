@@ -43,21 +43,19 @@ overflow_sub-pools c = omega (arith, (heads c.args.body.now c.pool_count-n.resul
 
 pub put_pools-requires : goal.put_pools-requires
 put_pools-requires c =
-    let s = c in
-    let a = s.args in
+    let a = c.args in
     let l = c.loop-next in
     let h = heads c.args.body.now c.pool_count-n.result c.args.terminators.now c.requires.are_staged.1 c.pool_count-n.ensures c.loop-next.next c.lot_end-last.result c.lot_end-last.ensures c.if-n-last.false in
     let r = room a.message a.trade a.at a.body.now (table_of a.numbers.now a.keys.now) (table_of l.numbers l.keys) l.place l.ordinal l.next l.invariant.4 _ h _ (c.requires.are_staged.1 c.lot_end-last.result (omega (arith, c.pool_count-n.ensures))) c.if-number.true _ c.common_of-s.ensures in
-    let n : l.place + (c.lot_end-last.result + 1 - l.next) ≤ length l.numbers = omega (arith, r, s.requires.keys_len.1, l.invariant.0) in
-    (l.invariant.1 ∙ s.requires.keys_len.0 ∙ sym l.invariant.0, n, omega (arith, h.begins, h.ends), s.requires.are_staged.0)
+    let n : l.place + (c.lot_end-last.result + 1 - l.next) ≤ length l.numbers = omega (arith, r, c.requires.keys_len.1, l.invariant.0) in
+    (l.invariant.1 ∙ c.requires.keys_len.0 ∙ sym l.invariant.0, n, omega (arith, h.begins, h.ends), c.requires.are_staged.0)
 
 pub overflow_add-place : goal.overflow_add-place
 overflow_add-place c =
-    let s = c in
-    let a = s.args in
+    let a = c.args in
     let l = c.loop-next in
     let r = room a.message a.trade a.at a.body.now (table_of a.numbers.now a.keys.now) (table_of l.numbers l.keys) l.place l.ordinal l.next l.invariant.4 _ (heads c.args.body.now c.pool_count-n.result c.args.terminators.now c.requires.are_staged.1 c.pool_count-n.ensures c.loop-next.next c.lot_end-last.result c.lot_end-last.ensures c.if-n-last.false) _ (c.requires.are_staged.1 c.lot_end-last.result (omega (arith, c.pool_count-n.ensures))) c.if-number.true _ c.common_of-s.ensures in
-    omega (arith, r, s.requires.keys_len.1, s.ranges)
+    omega (arith, r, c.requires.keys_len.1, c.ranges)
 
 pub overflow_add-ordinal : goal.overflow_add-ordinal
 overflow_add-ordinal c = omega (arith, c.loop-next.invariant.2, c.loop-next.invariant.3, c.pool_count-n.ensures, count_max c.args.body.now)

@@ -24,15 +24,14 @@ bounds-faces-i c = omega (arith, count_max c.args.body.now)
 
 pub loop-k-preserved : goal.loop-k-preserved
 loop-k-preserved c =
-    let s = c in
-    let a = s.args in
+    let a = c.args in
     let l = c.loop-k in
     let m = c.put_record in (
       omega arith,
       m.auto.numbers ∙ l.invariant.1,
       m.auto.keys ∙ l.invariant.2,
       putting_more a.body.now a.s a.first a.n a.at (table_of a.numbers.now a.keys.now) (table_of l.numbers l.keys) l.k l.invariant.3 _ _ _ _
-          (omega arith) (rw (length_table l.numbers l.keys) (omega arith)) c.pool_at-d.ensures (s.requires.3 (a.first + l.k) (omega arith)) c.record_with-p.ensures m.ensures,
+          (omega arith) (rw (length_table l.numbers l.keys) (omega arith)) c.pool_at-d.ensures (c.requires.3 (a.first + l.k) (omega arith)) c.record_with-p.ensures m.ensures,
     )
 
 pub returns : goal.returns

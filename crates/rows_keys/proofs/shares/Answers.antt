@@ -6,10 +6,8 @@ use Rattle.rows_keys.proofs.shares.Goals as goal
 
 pub overflow_add-result : goal.overflow_add-result
 overflow_add-result c =
-    let s = c in
-    omega (arith, share_below s.args.x (s.args.word % half) s.requires.0 (omega arith), share_below s.args.y (s.args.word / half) s.requires.1 (omega arith))
+    omega (arith, share_below c.args.x (c.args.word % half) c.requires.0 (omega arith), share_below c.args.y (c.args.word / half) c.requires.1 (omega arith))
 
 pub returns : goal.returns
 returns c =
-    let s = c in
-    (omega (arith, share_below s.args.x (s.args.word % half) s.requires.0 (omega arith), share_below s.args.y (s.args.word / half) s.requires.1 (omega arith)), omega (arith, share_below s.args.x (s.args.word % half) s.requires.0 (omega arith), share_below s.args.y (s.args.word / half) s.requires.1 (omega arith)))
+    (omega (arith, share_below c.args.x (c.args.word % half) c.requires.0 (omega arith), share_below c.args.y (c.args.word / half) c.requires.1 (omega arith)), omega (arith, share_below c.args.x (c.args.word % half) c.requires.0 (omega arith), share_below c.args.y (c.args.word / half) c.requires.1 (omega arith)))

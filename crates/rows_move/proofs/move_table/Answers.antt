@@ -15,19 +15,17 @@ returns-then-not-brings_lots c =
 
 pub put_lots-requires : goal.put_lots-requires
 put_lots-requires c =
-    let s = c in
-    let a = s.args in
+    let a = c.args in
     let rs = remaining a.body.now (take a.live (table_of a.numbers.now a.keys.now)) in
     let n = brings_room a.body.now a.message a.trade _ _ c.message_type-kind.ensures c.brings_lots.ensures c.take_off-left.result (length a.numbers.now) (c.if-not-brings_lots.false)
-    (omega (arith, s.requires.trade_in_bounds, c.take_off-left.ensures.0, length-append rs (bringing a.body.now a.message a.trade))) in
+    (omega (arith, c.requires.trade_in_bounds, c.take_off-left.ensures.0, length-append rs (bringing a.body.now a.message a.trade))) in
     record {
-      keys_len = (omega (arith, s.requires.movable.paired), omega (arith, n));
+      keys_len = (omega (arith, c.requires.movable.paired), omega (arith, n));
       are_staged = (staged_faces a.body.now c.stage-staged.result c.stage-staged.ensures, staged_terminators a.body.now c.stage-staged.result c.stage-staged.ensures);
     }
 
 pub returns : goal.returns
 returns c =
-    let s = c in
-    let a = s.args in
+    let a = c.args in
     let b = brings_all a.body.now a.message a.trade _ _ c.message_type-kind.ensures c.brings_lots.ensures _ _ _ _ (c.if-not-brings_lots.false) c.put_lots.ensures.0 c.put_lots.ensures.1 in
-    moved _ _ _ (remaining a.body.now (take a.live (table_of a.numbers.now a.keys.now))) (bringing a.body.now a.message a.trade) _ _ s.requires.trade_in_bounds c.take_off-left.ensures.0 c.take_off-left.ensures.1 b.0 b.1
+    moved _ _ _ (remaining a.body.now (take a.live (table_of a.numbers.now a.keys.now))) (bringing a.body.now a.message a.trade) _ _ c.requires.trade_in_bounds c.take_off-left.ensures.0 c.take_off-left.ensures.1 b.0 b.1
