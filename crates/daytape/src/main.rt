@@ -2,7 +2,8 @@
 // Trusted is what the C library's read and write do. All bytes that come are read, up to 64 KiB; what a failing read leaves out is not on the tape.
 #![tactic(auto)]
 
-ghost use Rattle.std.specs.Prelude.{◌≡◌, ◌≤◌, true, length};
+ghost use Rattle.std.specs.Prelude.{◌≡◌, ◌≤◌, true, length, take};
+ghost use Rattle.std.specs.Io.KnownBytes.{Consumes};
 ghost use Rattle.book.specs.Opening.{values_fine};
 ghost use Rattle.daytape.specs.Program.{the_trade, values_given, report_of, ReportsOver, Reports};
 
@@ -121,9 +122,10 @@ fn day_of(tape: &[u8]) -> Report
     day_over(v, tape)
 }
 
-// Reads what comes into a buffer, up to its end, and says how many bytes came. What a failing read leaves out is not on the tape.
+// Reads what comes into a buffer, up to its end, and says how many bytes came: they are the next of the reader's. What a failing read leaves out is not on the tape.
 fn read_full<R: Read>(input: &mut R, tape: &mut [u8]) -> usize
-    ensures { result ≤ length tape.new }
+    ensures fits { result ≤ length tape.new }
+    ensures bytes { Consumes (R.remaining input.old) (R.remaining input.new) (take result tape.new) }
 {
     let mut n = 0;
     while n < tape.len() {
