@@ -2,7 +2,8 @@
 use Rattle.std.specs.Prelude.{ℕ, ◌-◌, List, [], ◌∷◌, ◌++◌, cond, length, eqb}
 use Rattle.output.specs.Output.{digits_of, blanks}
 use Rattle.sequence.specs.declared.Inbound.{Inbound}
-use Rattle.sequence.specs.declared.Outbound.{Outbound}
+use Rattle.sequence.specs.Sequence.{next_outbound}
+use Rattle.acknowledgment.specs.declared.Stamp.{Stamp}
 use Rattle.acknowledgment.specs.declared.Acknowledged.{Acknowledged}
 
 -- lengths of the frames and of a TX's text, in bytes
@@ -63,18 +64,22 @@ received_words = 44 ∷ 32 ∷ 82 ∷ 69 ∷ 67 ∷ 69 ∷ 73 ∷ 86 ∷ 69 ∷ 
 abbrev pub padded : ℕ → List ℕ → List ℕ
 padded n xs = xs ++ blanks (n - length xs)
 
+-- the stamp of the next frame: our number is the next one
+abbrev pub next_stamp : Stamp → Stamp
+next_stamp s = record s { number = next_outbound s.number }
+
 -- both frames begin with 02, the type, the outbound number, 002, subscriber and connection
-abbrev pub opening : List ℕ → Outbound → List ℕ → List ℕ → List ℕ
-opening kind number subscriber connection = start ++ kind ++ digits_of sequence_width number.0 ++ version ++ subscriber ++ connection
+abbrev pub opening : List ℕ → Stamp → List ℕ
+opening kind s = start ++ kind ++ digits_of sequence_width s.number.0 ++ version ++ s.subscriber ++ s.connection
 
 -- the message ID of an accepted message; it is blank if the message is refused
 unfoldable pub message_id : ℕ → ℕ → List ℕ
 message_id message code = cond (eqb code accepted) (digits_of message_width message) (blanks message_width)
 
 -- an AA; internal ID, time bytes and original sequence go out as they came
-unfoldable pub aa_bytes : Outbound → List ℕ → List ℕ → Acknowledged → List ℕ
-aa_bytes number subscriber connection a =
-    opening aa number subscriber connection ++ a.internal ++ message_id a.message a.code ++ digits_of code_width a.code ++ a.time ++ a.original ++ end
+unfoldable pub aa_bytes : Stamp → Acknowledged → List ℕ
+aa_bytes s a =
+    opening aa s ++ a.internal ++ message_id a.message a.code ++ digits_of code_width a.code ++ a.time ++ a.original ++ end
 
 -- the text of a TX: the numbers expected and received, and blanks after them
 abbrev pub text : Inbound → Inbound → List ℕ
@@ -82,6 +87,5 @@ text expected received =
     padded text_length (expected_words ++ digits_of sequence_width expected.0 ++ received_words ++ digits_of sequence_width received.0)
 
 -- a TX, which tells of a gap
-unfoldable pub tx_bytes : Outbound → List ℕ → List ℕ → Inbound → Inbound → List ℕ
-tx_bytes number subscriber connection expected received =
-    opening tx number subscriber connection ++ gd ++ text expected received ++ end
+unfoldable pub tx_bytes : Stamp → Inbound → Inbound → List ℕ
+tx_bytes s expected received = opening tx s ++ gd ++ text expected received ++ end

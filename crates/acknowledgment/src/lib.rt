@@ -3,16 +3,35 @@
 
 ghost use Rattle.std.specs.Prelude.{◌≡◌};
 ghost use Rattle.lists.specs.Lists.{pasted};
-ghost use Rattle.sequence.specs.Sequence.{next_outbound};
-ghost use Rattle.acknowledgment.specs.Frames.{opening, message_id, aa_bytes, text, tx_bytes};
+ghost use Rattle.output.specs.Output.{digits_of};
+ghost use Rattle.acknowledgment.specs.Frames.{sequence_width, next_stamp, opening, message_id, aa_bytes, text, tx_bytes};
 
 use sequence::{Inbound, Outbound};
 
 // The bytes of a time.
 pub const TIME_WIDTH: usize = 6;
 
+// What every frame is stamped with: our number, subscriber and connection.
+#[derive(Clone, Copy, PartialEq, Eq)]
+pub struct Stamp {
+    pub number: Outbound,
+    pub subscriber: [u8; 4],
+    pub connection: [u8; 4],
+}
+
+impl Stamp {
+    // The stamp of the next frame, whose number is one more.
+    pub fn next(self) -> Stamp
+        ensures { result ≡ next_stamp self }
+    {
+        let mut stamp = self;
+        stamp.number = self.number.next();
+        stamp
+    }
+}
+
 // What an AA says of a message: its internal ID, its message ID, its code (0 is accepted), the time bytes lent, and its own sequence number as it came.
-#[derive(Clone, Copy)]
+#[derive(Clone, Copy, PartialEq, Eq)]
 pub struct Acknowledged {
     pub internal: [u8; 16],
     pub message: u64,
@@ -87,56 +106,50 @@ const BLANKS_AT: usize = 44;
 
 const BLANKS_LENGTH: usize = TEXT_LENGTH - BLANKS_AT;
 
-// What every frame begins with.
-fn opening_of(
-    kind: [u8; 2],
-    number: Outbound,
-    subscriber: [u8; 4],
-    connection: [u8; 4],
-) -> [u8; OPENING_LENGTH]
-    ensures { result ≡ opening kind number subscriber connection }
+// Writes a sequence number from at.
+fn put_sequence(out: &mut [u8], at: usize, number: u32)
+    ensures { out.new ≡ pasted out.old at (digits_of sequence_width number) }
 {
-    let mut frame = [0u8; OPENING_LENGTH];
+    output::put_digits(out, at, SEQUENCE_WIDTH, u64::from(number));
+}
+
+// What every frame begins with.
+fn opening_of(kind: [u8; 2], stamp: Stamp) -> [u8; OPENING_LENGTH]
+    ensures { result ≡ opening kind stamp }
+{
+    let mut frame = [0; OPENING_LENGTH];
     output::put_bytes(&mut frame, 0, &START);
     output::put_bytes(&mut frame, KIND_AT, &kind);
-    output::put_digits(&mut frame, NUMBER_AT, SEQUENCE_WIDTH, number.0 as u64);
+    put_sequence(&mut frame, NUMBER_AT, stamp.number.0);
     output::put_bytes(&mut frame, VERSION_AT, b"002");
-    output::put_bytes(&mut frame, SUBSCRIBER_AT, &subscriber);
-    output::put_bytes(&mut frame, CONNECTION_AT, &connection);
+    output::put_bytes(&mut frame, SUBSCRIBER_AT, &stamp.subscriber);
+    output::put_bytes(&mut frame, CONNECTION_AT, &stamp.connection);
     frame
 }
 
 // Writes the message ID of an accepted message, or blanks.
+#[tactic(auto, unfolding(crate::specs::Frames::message_id))]
 fn put_message_id(out: &mut [u8], at: usize, message: u64, code: u64)
     ensures { out.new ≡ pasted out.old at (message_id message code) }
 {
     if code == ACCEPTED {
-        output::put_digits(&mut *out, at, MESSAGE_WIDTH, message);
-        return;
+        output::put_digits(out, at, MESSAGE_WIDTH, message);
+    } else {
+        output::put_blanks(out, at, MESSAGE_WIDTH);
     }
-    output::put_blanks(&mut *out, at, MESSAGE_WIDTH);
 }
 
 // The whole AA.
-fn aa_frame(
-    number: Outbound,
-    subscriber: [u8; 4],
-    connection: [u8; 4],
-    a: Acknowledged,
-) -> [u8; AA_LENGTH]
-    ensures { result ≡ aa_bytes number subscriber connection a }
+fn aa_frame(stamp: Stamp, a: Acknowledged) -> [u8; AA_LENGTH]
+    ensures { result ≡ aa_bytes stamp a }
 {
-    let front = opening_of(AA, number, subscriber, connection);
-    let internal = a.internal;
-    let time = a.time;
-    let original = a.original;
-    let mut frame = [0u8; AA_LENGTH];
-    output::put_bytes(&mut frame, 0, &front);
-    output::put_bytes(&mut frame, INTERNAL_AT, &internal);
+    let mut frame = [0; AA_LENGTH];
+    output::put_bytes(&mut frame, 0, &opening_of(AA, stamp));
+    output::put_bytes(&mut frame, INTERNAL_AT, &a.internal);
     put_message_id(&mut frame, MESSAGE_AT, a.message, a.code);
     output::put_digits(&mut frame, CODE_AT, CODE_WIDTH, a.code);
-    output::put_bytes(&mut frame, TIME_AT, &time);
-    output::put_bytes(&mut frame, ORIGINAL_AT, &original);
+    output::put_bytes(&mut frame, TIME_AT, &a.time);
+    output::put_bytes(&mut frame, ORIGINAL_AT, &a.original);
     output::put_bytes(&mut frame, AA_END_AT, &END);
     frame
 }
@@ -145,66 +158,43 @@ fn aa_frame(
 fn gap_text(expected: Inbound, received: Inbound) -> [u8; TEXT_LENGTH]
     ensures { result ≡ text expected received }
 {
-    let mut words = [0u8; TEXT_LENGTH];
+    let mut words = [0; TEXT_LENGTH];
     output::put_bytes(&mut words, 0, b"EXPECTED SEQ # ");
-    output::put_digits(&mut words, EXPECTED_AT, SEQUENCE_WIDTH, expected.0 as u64);
+    put_sequence(&mut words, EXPECTED_AT, expected.0);
     output::put_bytes(&mut words, BETWEEN_AT, b", RECEIVED SEQ # ");
-    output::put_digits(&mut words, RECEIVED_AT, SEQUENCE_WIDTH, received.0 as u64);
+    put_sequence(&mut words, RECEIVED_AT, received.0);
     output::put_blanks(&mut words, BLANKS_AT, BLANKS_LENGTH);
     words
 }
 
 // The whole TX.
-fn tx_frame(
-    number: Outbound,
-    subscriber: [u8; 4],
-    connection: [u8; 4],
-    expected: Inbound,
-    received: Inbound,
-) -> [u8; TX_LENGTH]
-    ensures { result ≡ tx_bytes number subscriber connection expected received }
+fn tx_frame(stamp: Stamp, expected: Inbound, received: Inbound) -> [u8; TX_LENGTH]
+    ensures { result ≡ tx_bytes stamp expected received }
 {
-    let front = opening_of(TX, number, subscriber, connection);
-    let words = gap_text(expected, received);
-    let mut frame = [0u8; TX_LENGTH];
-    output::put_bytes(&mut frame, 0, &front);
+    let mut frame = [0; TX_LENGTH];
+    output::put_bytes(&mut frame, 0, &opening_of(TX, stamp));
     output::put_bytes(&mut frame, CATEGORY_AT, b"GD");
-    output::put_bytes(&mut frame, TEXT_AT, &words);
+    output::put_bytes(&mut frame, TEXT_AT, &gap_text(expected, received));
     output::put_bytes(&mut frame, TX_END_AT, &END);
     frame
 }
 
-// Writes an AA from at and gives back the number that it is stamped with, the last one used from then on. Where the AA does not fit, nothing is written.
-pub fn put_aa(
-    out: &mut [u8],
-    at: usize,
-    last: Outbound,
-    subscriber: [u8; 4],
-    connection: [u8; 4],
-    a: Acknowledged,
-) -> Outbound
-    ensures { (out.new ≡ pasted out.old at (aa_bytes (next_outbound last) subscriber connection a)) × (result ≡ next_outbound last) }
+// Writes an AA from at and gives back its stamp, the last one used from then on. Where the AA does not fit, nothing is written.
+pub fn put_aa(out: &mut [u8], at: usize, last: Stamp, a: Acknowledged) -> Stamp
+    ensures written { out.new ≡ pasted out.old at (aa_bytes (next_stamp last) a) }
+    ensures stamped { result ≡ next_stamp last }
 {
-    let number = sequence::next(last);
-    let frame = aa_frame(number, subscriber, connection, a);
-    output::put_bytes(&mut *out, at, &frame);
-    number
+    let stamp = last.next();
+    output::put_bytes(out, at, &aa_frame(stamp, a));
+    stamp
 }
 
-// Writes a TX from at and gives back the number that it is stamped with, the last one used from then on. Where the TX does not fit, nothing is written.
-pub fn put_tx(
-    out: &mut [u8],
-    at: usize,
-    last: Outbound,
-    subscriber: [u8; 4],
-    connection: [u8; 4],
-    expected: Inbound,
-    received: Inbound,
-) -> Outbound
-    ensures { (out.new ≡ pasted out.old at (tx_bytes (next_outbound last) subscriber connection expected received)) × (result ≡ next_outbound last) }
+// Writes a TX from at and gives back its stamp, the last one used from then on. Where the TX does not fit, nothing is written.
+pub fn put_tx(out: &mut [u8], at: usize, last: Stamp, expected: Inbound, received: Inbound) -> Stamp
+    ensures written { out.new ≡ pasted out.old at (tx_bytes (next_stamp last) expected received) }
+    ensures stamped { result ≡ next_stamp last }
 {
-    let number = sequence::next(last);
-    let frame = tx_frame(number, subscriber, connection, expected, received);
-    output::put_bytes(&mut *out, at, &frame);
-    number
+    let stamp = last.next();
+    output::put_bytes(out, at, &tx_frame(stamp, expected, received));
+    stamp
 }

@@ -1,4 +1,5 @@
 -- The live table is the standing lots of the history laid out one after another: what appending, filtering and sums over its lots do to that.
+use Rattle.std.specs.Prelude.{Option}
 use mathlib.Core.Path.{◌≡◌, refl, sym, ap, ◌∙◌}
 use mathlib.Core.Logic.{◌⊎◌, inl, inr}
 use mathlib.Core.Bool.{Bool, true, false, cond, ◌&&◌}
@@ -9,7 +10,6 @@ use lib.Dec.{eqb}
 use borrow.Author.Tests.{eq-eqb}
 use Rattle.lists.specs.Lists.{keep, sum_of}
 use Rattle.lists.proofs.Tests.{◌∈◌, keep_append, keep_in, sum_map, sum_same}
-use Rattle.fields.specs.declared.Field.{Field}
 use Rattle.layout.specs.declared.Detail.{Detail}
 use Rattle.terminator.specs.declared.Kind.{Kind}
 use Rattle.terminator.specs.declared.Kind.TheVariants.{Good, Odd, Bad}
@@ -40,7 +40,7 @@ pub flat_same : (s u : Brought → Bool) (hs : List Brought) → ((h : Brought) 
 flat_same s u [] k = refl
 flat_same s u (h ∷ hs) k = rw (k h (Memᴰ.head refl), flat_same s u hs (λ g m. k g (Memᴰ.tail m)))
 
-pub flat_take_off : (s : Brought → Bool) (by_dk : Bool) (tgt : Field) (fs : List Fields) (hs : List Brought)
+pub flat_take_off : (s : Brought → Bool) (by_dk : Bool) (tgt : Option ℕ) (fs : List Fields) (hs : List Brought)
     → flat s (map (take_off by_dk tgt fs) hs) ≡ flat (λ h. s (take_off by_dk tgt fs h)) hs
 flat_take_off s by_dk tgt fs [] = refl
 flat_take_off s by_dk tgt fs (h ∷ hs) = rw (flat_take_off s by_dk tgt fs hs)

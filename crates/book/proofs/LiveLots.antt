@@ -1,5 +1,6 @@
 -- Live lots. Every record is of one of them; where the records are in order, a live lot has all records of its message ID and ordinal, which agree on kind
 -- and millions. So 37 over the target's live lots says what it says record by record.
+use Rattle.std.specs.Prelude.{Option}
 use mathlib.Core.Path.{◌≡◌, refl, sym, ap, ◌∙◌}
 use mathlib.Core.Logic.{◌⊎◌, inl, inr}
 use mathlib.Core.List.Memᴰ
@@ -10,7 +11,6 @@ use lib.Dec.{eqb}
 use borrow.Author.Tests.{eq-eqb, eqb-true, not-true}
 use Rattle.lists.specs.Lists.{keep, any, all}
 use Rattle.lists.proofs.Tests.{◌∈◌, and_left, and_right, both, clash, un_true, implied, all_in, all_out, any_in, any_out, keep_in}
-use Rattle.fields.specs.declared.Field.{Field}
 use Rattle.layout.specs.Details.{details}
 use Rattle.terminator.specs.Lots.{Lot, lot_kind, lot_millions, formed_for}
 use Rattle.message_type.specs.declared.MessageType.{MessageType}
@@ -204,7 +204,7 @@ fields_out (k ∷ ks) f m = go (Memᴰ.append_cases (live_lot_fields k) m) (fiel
     go (inr o) below = let (l, ml, w) = below o in (l, Memᴰ.tail ml, w)
 
 -- ---- 37
-module _ (tgt : Field) (rs : List Pool) (order : in_order rs ≡ true) (once : fields_once rs ≡ true) where
+module _ (tgt : Option ℕ) (rs : List Pool) (order : in_order rs ≡ true) (once : fields_once rs ≡ true) where
   abbrev target_pools : List Pool
   target_pools = keep (under tgt) rs
 

@@ -1,5 +1,6 @@
 -- Matched fields: under one message ID they stay apart, since those of a message's new pools are (36) and old records have other IDs;
 -- and the records that a message takes off are at least as many as the fields that it lists, since each of them is live and none is listed twice (37).
+use Rattle.std.specs.Prelude.{Option}
 use Prim.Native.Nat.{ℕ, ◌+◌, ◌≤◌}
 use mathlib.Core.Path.{◌≡◌, refl, sym, ap, ap₂, ◌∙◌}
 use mathlib.Core.List.{List, [], ◌∷◌, ◌++◌, map, map-append, map-map}
@@ -10,7 +11,6 @@ use lib.ListN.{length}
 use borrow.Author.Tests.{eqb-true, leb-true, ne_eqb, not-true}
 use Rattle.lists.specs.Lists.{same, keep, any, all}
 use Rattle.lists.proofs.Tests.{and_left, and_right, both, same_equal}
-use Rattle.fields.specs.declared.Field.{Field}
 use Rattle.terminator.specs.Lots.{pools_of}
 use Rattle.book.specs.declared.Pool.{Pool}
 use Rattle.book.specs.Dues.{Due}
@@ -83,7 +83,7 @@ once_after last p rs ds old e d =
     (keep p rs) (all_keep (is_old last) p rs old))
 
 -- ---- the records taken off
-module _ (tgt : Field) where
+module _ (tgt : Option ℕ) where
   -- a record under the target with given fields
   abbrev is_the : Fields → Pool → Bool
   is_the f r = under tgt r && same_fields (live_fields r) f

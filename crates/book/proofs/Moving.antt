@@ -1,5 +1,6 @@
 -- Book and history side by side: the facts that hold between them, and that an accepted message keeps them. Every accepted message is one move: it takes
 -- the listed lots off (none for an ON), then brings its new ones (none for a DK).
+use Rattle.std.specs.Prelude.{Option}
 use mathlib.Core.Path.{◌≡◌, refl, sym, ap, ◌∙◌}
 use mathlib.Core.Bool.{Bool, true, false, not, cond, ◌&&◌}
 use mathlib.Core.List.{List, [], ◌∷◌, ◌++◌, map}
@@ -11,7 +12,6 @@ use lib.ListN.{length, get_or, length-map, get_or-map}
 use lib.Seq.{ext_get_or}
 use Rattle.lists.specs.Lists.{keep, sum_of}
 use Rattle.lists.proofs.Tests.{◌∈◌, clash, sum_append, sum_same, sum_add, sum_map}
-use Rattle.fields.specs.declared.Field.{Field}
 use Rattle.terminator.specs.Lots.{lot_weight, lot_millions}
 use Rattle.book.specs.declared.Trade.{Trade}
 use Rattle.book.specs.declared.Values.{Values}
@@ -64,7 +64,7 @@ same_opens v last ts rs h w =
 
 -- ---- millions when lots are taken off
 
-module _ (tgt : Field) (fs : List Fields) (hs : List Brought) (t : ℕ) where
+module _ (tgt : Option ℕ) (fs : List Fields) (hs : List Brought) (t : ℕ) where
   ons_take : (by_dk : Bool) → millions_by_ons t (map (take_off by_dk tgt fs) hs) ≡ millions_by_ons t hs
   unfolding millions_by_ons
   ons_take by_dk = sum_map (trade_share t (λ (h : Brought). cond h.by_on (lot_millions h.lot) 0)) (take_off by_dk tgt fs) hs
@@ -100,7 +100,7 @@ module _ (tgt : Field) (fs : List Fields) (hs : List Brought) (t : ℕ) where
 
 -- what a message must satisfy: which lots go (37), that the new ones come to one trade that is opened, that each trade has room for them (38), that none
 -- repeats (36), and that for each trade the millions that go and come agree with what ONs bring and DKs take off (21)
-pub record Move (ts : List Trade) (rs : List Pool) (hs : List Brought) (tgt : Field) (fs : List Fields) (ds : List Due) (by_on by_dk : Bool) : Type 0 where
+pub record Move (ts : List Trade) (rs : List Pool) (hs : List Brought) (tgt : Option ℕ) (fs : List Fields) (ds : List Due) (by_on by_dk : Bool) : Type 0 where
   pub exact : Exact tgt fs rs
   pub range : (d : Due) → d ∈ ds → d.to < length ts
   pub one : (t : ℕ) × AllTo t ds
@@ -110,13 +110,13 @@ pub record Move (ts : List Trade) (rs : List Pool) (hs : List Brought) (tgt : Fi
       ≡ sum_of (trade_share u (gone tgt fs lot_millions)) hs + cond by_on (sum_of (due_share u lot_millions) ds) 0
 
 -- the trades, the records and the lots that it leaves
-abbrev pub moved_trades : List Trade → List Pool → Field → List Fields → List Due → List Trade
+abbrev pub moved_trades : List Trade → List Pool → Option ℕ → List Fields → List Due → List Trade
 moved_trades ts rs tgt fs ds = pars_moved (keep (is_taken tgt fs) rs) ds 0 ts
 
-abbrev pub moved_records : ℕ → List Pool → Field → List Fields → List Due → List Pool
+abbrev pub moved_records : ℕ → List Pool → Option ℕ → List Fields → List Due → List Pool
 moved_records last rs tgt fs ds = keep (λ (r : Pool). not (is_taken tgt fs r)) rs ++ records_of (last + 1) 1 ds
 
-abbrev pub moved_lots : ℕ → List Brought → Field → List Fields → List Due → Bool → Bool → List Brought
+abbrev pub moved_lots : ℕ → List Brought → Option ℕ → List Fields → List Due → Bool → Bool → List Brought
 moved_lots last hs tgt fs ds by_on by_dk = map (take_off by_dk tgt fs) hs ++ bring (last + 1) by_on 1 ds
 
 -- a trade's open par after it
@@ -128,7 +128,7 @@ moved_at off ds i (t ∷ ts) (suc j) lt =
     let e : i + 1 + j ≡ i + suc j = omega arith in
     moved_at off ds (i + 1) ts j (omega arith) ∙ ap (λ (k : ℕ). ((trade_at ts j).openPar + trade_weight k off) - due_weight k ds) e
 
-module _ (v : Values) (ts : List Trade) (h : History) (tgt : Field) (fs : List Fields) (ds : List Due) (by_on by_dk : Bool)
+module _ (v : Values) (ts : List Trade) (h : History) (tgt : Option ℕ) (fs : List Fields) (ds : List Due) (by_on by_dk : Bool)
     (w : Beside v h.lastMessageId ts (flat stands h.lots) h) (mv : Move ts (flat stands h.lots) h.lots tgt fs ds by_on by_dk) where
   abbrev next : List Brought
   next = moved_lots h.lastMessageId h.lots tgt fs ds by_on by_dk
@@ -186,7 +186,7 @@ module _ (v : Values) (ts : List Trade) (h : History) (tgt : Field) (fs : List F
 
 -- a move keeps book and history side by side
 pub move : (v : Values) (last : ℕ) (ts : List Trade) (rs : List Pool) (h : History) → Beside v last ts rs h
-    → (tgt : Field) (fs : List Fields) (ds : List Due) (by_on by_dk : Bool) → Move ts rs h.lots tgt fs ds by_on by_dk
+    → (tgt : Option ℕ) (fs : List Fields) (ds : List Due) (by_on by_dk : Bool) → Move ts rs h.lots tgt fs ds by_on by_dk
     → Beside v (last + 1) (moved_trades ts rs tgt fs ds) (moved_records last rs tgt fs ds) (record { lastMessageId = h.lastMessageId + 1; lots = moved_lots h.lastMessageId h.lots tgt fs ds by_on by_dk })
 move v last ts rs h w tgt fs ds by_on by_dk mv =
     let w₀ : Beside v h.lastMessageId ts (flat stands h.lots) h = record { last = refl; table = refl; terms = w.terms; pars = w.pars; lots = w.lots; millions = w.millions } in

@@ -12,8 +12,8 @@ use Rattle.terminator.specs.Groups.{groups_formed, groups_balanced}
 use Rattle.faces.specs.Faces.{new_pools}
 use Rattle.message_type.specs.declared.MessageType.{MessageType}
 use Rattle.book.specs.declared.Reason.{Reason}
-use Rattle.book.specs.declared.Verdict.{Verdict}
-use Rattle.book.specs.declared.Verdict.TheVariants.{Passes, Fails}
+use Rattle.book.specs.Reasons.{Verdict}
+use Rattle.std.specs.Prelude.{Ok, Err}
 use Rattle.book.specs.declared.Answer.TheVariants.{Rejected, Dked}
 use Rattle.book.specs.Reasons.{is_traders, is_silent_for, refusal, is_accepted, is_silent}
 use Rattle.book.specs.Records.{fields_of, distinct}
@@ -44,17 +44,17 @@ refusal_refuses t r = elim (is_traders r && not (answers_as_dk t)) as (λ b. is_
 pub refusal_silent : (t : MessageType) (r : Reason) → is_silent (refusal t r) ≡ is_silent_for r
 refusal_silent t r = elim (is_traders r && not (answers_as_dk t)) as (λ b. is_silent (cond b (Dked r) (Rejected r)) ≡ is_silent_for r) [ true ↦ refl | false ↦ refl ]
 
-pass : (v : Verdict) (c : Call) → is_accepted (answer_to c v) ≡ true → v ≡ Passes
-pass Passes c e = refl
-pass (Fails r) c e = absurd (false≢true (sym (refusal_refuses (type_of c.body) r) ∙ e))
+pass : (v : Verdict) (c : Call) → is_accepted (answer_to c v) ≡ true → v ≡ Ok tt
+pass (Ok u) c e = refl
+pass (Err r) c e = absurd (false≢true (sym (refusal_refuses (type_of c.body) r) ∙ e))
 
 -- where no check of a list fails, none with any key does
-pub passes : (n : ℕ) (ks : List Check) (c : Call) → first_failing ks c ≡ Passes → fails_for n ks c ≡ false
+pub passes : (n : ℕ) (ks : List Check) (c : Call) → first_failing ks c ≡ Ok tt → fails_for n ks c ≡ false
 passes n [] c e = refl
 passes n (k ∷ ks) c e = go (fails_in k c) e (passes n ks c)
   where
-    go : (f : Bool) → cond f (Fails k.reason) (first_failing ks c) ≡ Passes
-        → (first_failing ks c ≡ Passes → fails_for n ks c ≡ false)
+    go : (f : Bool) → cond f (Err k.reason) (first_failing ks c) ≡ Ok tt
+        → (first_failing ks c ≡ Ok tt → fails_for n ks c ≡ false)
         → cond (eqb n k.key) f (fails_for n ks c) ≡ false
     go true a below = fails_not a
     go false a below = elim (eqb n k.key) as (λ b. cond b false (fails_for n ks c) ≡ false) [ true ↦ refl | false ↦ below a ]

@@ -1,4 +1,5 @@
 -- What the checks of an accepted ON, CC or DK give is what its move asks for; and the lots that the history makes of the message are those of the move.
+use Rattle.std.specs.Prelude.{Option}
 use mathlib.Core.Path.{◌≡◌, refl, sym, ap, ◌∙◌}
 use mathlib.Core.Bool.{Bool, true, false, cond, and-false}
 use mathlib.Core.List.Memᴰ
@@ -12,7 +13,6 @@ use lib.ListN.{length, length-map}
 use borrow.Author.Tests.{eq-eqb, ne_eqb}
 use Rattle.lists.specs.Lists.{keep, any, all, sum_of}
 use Rattle.lists.proofs.Tests.{◌∈◌, cond_zero, all_in, any_none, sum_same, sum_zero}
-use Rattle.fields.specs.declared.Field.{Field}
 use Rattle.layout.specs.Details.{details}
 use Rattle.terminator.specs.Lots.{Lot, pools_of, lot_millions, formed_for}
 use Rattle.terminator.specs.Groups.{groups, groups_formed, groups_balanced}
@@ -40,18 +40,18 @@ use Rattle.book.proofs.Substituting.{gone_canceled, due_there, groups_even}
 
 -- ---- a message that lists nothing touches nothing
 
-touches_none : (tgt : Field) (h : Brought) → touches tgt [] h ≡ false
+touches_none : (tgt : Option ℕ) (h : Brought) → touches tgt [] h ≡ false
 touches_none tgt h = rw (any_none (is_listed []) (pools_of h.lot) (λ d. refl)) (and-false (is_target tgt h.id))
 
-gone_none : (tgt : Field) (v : Lot → ℕ) (u : ℕ) (hs : List Brought) → sum_of (trade_share u (gone tgt [] v)) hs ≡ 0
+gone_none : (tgt : Option ℕ) (v : Lot → ℕ) (u : ℕ) (hs : List Brought) → sum_of (trade_share u (gone tgt [] v)) hs ≡ 0
 gone_none tgt v u hs =
     sum_same (trade_share u (gone tgt [] v)) (λ h. 0) hs (λ h m. rw (touches_none tgt h, and-false (stands h)) (cond_zero (eqb h.trade u))) ∙ sum_zero hs
 
-take_none : (tgt : Field) (hs : List Brought) → map (take_off false tgt []) hs ≡ hs
+take_none : (tgt : Option ℕ) (hs : List Brought) → map (take_off false tgt []) hs ≡ hs
 take_none tgt [] = refl
 take_none tgt (h ∷ hs) = rw (take_none tgt hs, touches_none tgt h, add-zero h.offs, add-zero h.dks)
 
-exact_none : (tgt : Field) (rs : List Pool) → Exact tgt [] rs
+exact_none : (tgt : Option ℕ) (rs : List Pool) → Exact tgt [] rs
 exact_none tgt rs = record { live = refl; distinct = refl; whole = all_in _ rs (λ r m. rw (and-false (under tgt r))) }
 
 -- ---- the trade that an ON goes to does not depend on the trades' open pars but for those that it is given

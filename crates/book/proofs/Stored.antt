@@ -1,5 +1,6 @@
 -- The records of new lots are fine by themselves: a lot ends in an end, which has a kind and millions, and a face has eleven digits.
 -- Old records stay fine, since the last message ID only grows.
+use Rattle.std.specs.Prelude.{Option, Some, None}
 use Prim.Native.Nat.{ℕ, zero, suc, ◌+◌, ◌≤◌, ◌<◌}
 use mathlib.Core.Path.{◌≡◌, refl, ap, ◌∙◌}
 use mathlib.Core.List.Memᴰ
@@ -10,11 +11,11 @@ use lib.Dec.{eqb, leb, ltb}
 use borrow.Author.Tests.{leb-true, le-leb, lt-ltb, eqb-false}
 use Rattle.lists.specs.Lists.{all, between}
 use Rattle.lists.proofs.Tests.{◌∈◌, and_left, and_right, both}
-use Rattle.fields.specs.Fields.{read_number, is_number, value_of}
+use Rattle.fields.specs.Fields.{read_number}
 use Rattle.layout.specs.declared.Detail.{Detail}
 use Rattle.terminator.specs.declared.Terminator.{Terminator}
 use Rattle.terminator.specs.declared.Terminator.TheVariants.{Middle, BadMiddle, GoodEnd, OddEnd, BadEnd, Wrong}
-use Rattle.terminator.specs.Terminators.{positions, terminator_of, is_end, kind_of, millions_of, term}
+use Rattle.terminator.specs.Terminators.{positions, positions_of, terminator_of, is_end, kind_of, millions_of, term}
 use Rattle.terminator.specs.Lots.{Lot, pools_of, lots_from, lots, current_cents}
 use Rattle.terminator.proofs.Found.{cents_small}
 use Rattle.faces.specs.Faces.{is_new_lot, new_lots}
@@ -60,11 +61,11 @@ positions_give n h = go (eqb n 0) refl (leb n 99) refl h
 
 pub term_gives : (d : Detail) → is_end (term d) ≡ true → gives (term d) ≡ true
 unfolding terminator_of
-term_gives d = go (is_number (read_number d.terminator 1 3)) (value_of (read_number d.terminator 1 3))
+term_gives d = go (read_number d.terminator 1 3)
   where
-    go : (b : Bool) (n : ℕ) → is_end (cond b (positions n) Wrong) ≡ true → gives (cond b (positions n) Wrong) ≡ true
-    go true n e = positions_give n e
-    go false n e = absurd (false≢true e)
+    go : (f : Option ℕ) → is_end (positions_of f) ≡ true → gives (positions_of f) ≡ true
+    go (Some n) e = positions_give n e
+    go None e = absurd (false≢true e)
 
 -- ---- every lot ends in an end
 abbrev pub has_end : Lot → Bool

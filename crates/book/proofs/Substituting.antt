@@ -1,5 +1,6 @@
 -- A CC: each 6 lot is one whole live lot of the same millions (37), so the lots that it takes off have the millions of its 6 lots, and those of its new lots (21);
 -- and every group goes to the target's trade, since its 6 lots are among the target's.
+use Rattle.std.specs.Prelude.{Option}
 use mathlib.Core.Path.{◌≡◌, refl, sym, ap, ◌∙◌}
 use mathlib.Core.Bool.{Bool, true, false, cond, ◌&&◌, ◌||◌, false≢true, and-false}
 use mathlib.Core.List.Memᴰ
@@ -11,7 +12,6 @@ use lib.ListN.{length}
 use borrow.Author.Tests.{eq-eqb, eqb-true}
 use Rattle.lists.specs.Lists.{keep, any, all, sum_of}
 use Rattle.lists.proofs.Tests.{◌∈◌, and_left, and_right, both, all_out, all_right, any_in, any_none, any_append, any_or, keep_in, keep_first, sum_append, sum_same, sum_add, sum_zero}
-use Rattle.fields.specs.declared.Field.{Field}
 use Rattle.layout.specs.declared.Detail.{Detail}
 use Rattle.terminator.specs.Lots.{Lot, pools_of, lot_kind, lot_millions}
 use Rattle.terminator.specs.Groups.{Group, group_formed, group_balanced}
@@ -36,7 +36,7 @@ one_live r (s ∷ rs) k =
     ∙ rw (eq-eqb s.message r.message p.0, eq-eqb s.ordinal r.ordinal p.1)
 
 -- ---- touched by the fields of two lots
-touches_append : (tgt : Field) (fs gs : List Fields) (h : Brought) → touches tgt (fs ++ gs) h ≡ (touches tgt fs h || touches tgt gs h)
+touches_append : (tgt : Option ℕ) (fs gs : List Fields) (h : Brought) → touches tgt (fs ++ gs) h ≡ (touches tgt fs h || touches tgt gs h)
 touches_append tgt fs gs h =
     ap (λ (b : Bool). is_target tgt h.id && b) (of (pools_of h.lot))
     ∙ go (is_target tgt h.id) (any (is_listed fs) (pools_of h.lot)) (any (is_listed gs) (pools_of h.lot))
@@ -48,7 +48,7 @@ touches_append tgt fs gs h =
     go true b c = refl
     go false b c = refl
 
-module _ (n last : ℕ) (tgt : Field) (hs : List Brought) (lots : Lots n last hs) where
+module _ (n last : ℕ) (tgt : Option ℕ) (hs : List Brought) (lots : Lots n last hs) where
   -- the lots that a 6 lot takes off have its millions
   gone_one : (l : Lot) → any (is_taken tgt (lot_fields l)) (flat stands hs) ≡ true → one_by_record tgt (flat stands hs) l ≡ true → sum_of (gone tgt (lot_fields l) lot_millions) hs ≡ lot_millions l
   gone_one l some one = go (keep_first q F some)

@@ -1,5 +1,6 @@
 -- Taking lots off: the table's filter and the history's counters agree, because a standing lot is listed whole or not at all (37);
 -- and no lot is taken off twice, because a listed pool is live and a live pool is of one standing lot.
+use Rattle.std.specs.Prelude.{Option}
 use mathlib.Core.Path.{◌≡◌, refl, sym, ap, ◌∙◌}
 use mathlib.Core.Bool.{Bool, true, false, not, cond, ◌&&◌, ◌||◌, and-true, and-false}
 use mathlib.Core.List.Memᴰ
@@ -12,7 +13,6 @@ use lib.Dec.{eqb, eqb-suc-zero}
 use borrow.Author.Tests.{eq-eqb, eqb-true, ne_eqb}
 use Rattle.lists.specs.Lists.{keep, any, all, sum_of}
 use Rattle.lists.proofs.Tests.{◌∈◌, and_left, and_right, both, clash, un_true, implied, cond_zero, all_out, any_in, any_out, keep_const, keep_first, sum_same, sum_add, sum_map, sum_zero}
-use Rattle.fields.specs.declared.Field.{Field}
 use Rattle.layout.specs.declared.Detail.{Detail}
 use Rattle.terminator.specs.Lots.{Lot, pools_of, lot_weight}
 use Rattle.book.specs.declared.Pool.{Pool}
@@ -44,12 +44,12 @@ pub record Lots (n last : ℕ) (hs : List Brought) : Type 0 where
   pub pair : (g h : Brought) → g ∈ hs → h ∈ hs → g.id ≡ h.id → Pair g h
 
 -- what 37 gives
-pub record Exact (tgt : Field) (fs : List Fields) (rs : List Pool) : Type 0 where
+pub record Exact (tgt : Option ℕ) (fs : List Fields) (rs : List Pool) : Type 0 where
   pub live : all_live tgt fs rs ≡ true
   pub distinct : distinct fs ≡ true
   pub whole : whole_lots tgt fs rs ≡ true
 
-pub exact : (tgt : Field) (fs : List Fields) (rs : List Pool) → exact_by_record tgt fs rs ≡ true → Exact tgt fs rs
+pub exact : (tgt : Option ℕ) (fs : List Fields) (rs : List Pool) → exact_by_record tgt fs rs ≡ true → Exact tgt fs rs
 exact tgt fs rs e =
     let f = and_right (all_live tgt fs rs) (distinct fs && whole_lots tgt fs rs) e in
     record {
@@ -73,7 +73,7 @@ from_live hs r m =
     let (h, mh, sh, rh) = flat_in stands hs m in
     (h, mh, sh, Memᴰ.of_map (record_of h) (pools_of h.lot) rh)
 
-module _ (tgt : Field) (fs : List Fields) where
+module _ (tgt : Option ℕ) (fs : List Fields) where
   pub touches_target : (h : Brought) → touches tgt fs h ≡ true → is_target tgt h.id ≡ true
   touches_target h e = and_left (is_target tgt h.id) (any (is_listed fs) (pools_of h.lot)) e
 
@@ -91,7 +91,7 @@ module _ (tgt : Field) (fs : List Fields) where
   abbrev pub gone : (Lot → ℕ) → Brought → ℕ
   gone v h = cond (stands h && touches tgt fs h) (v h.lot) 0
 
-module _ (tgt : Field) (fs : List Fields) (hs : List Brought) where
+module _ (tgt : Option ℕ) (fs : List Fields) (hs : List Brought) where
   -- a standing lot is listed whole or not at all
   pub whole_or_none : whole_lots tgt fs (flat stands hs) ≡ true → (h : Brought) → h ∈ hs → stands h ≡ true
       → (b : Bool) → touches tgt fs h ≡ b → (r : Pool) → r ∈ laid h → is_taken tgt fs r ≡ b
@@ -224,7 +224,7 @@ module _ (tgt : Field) (fs : List Fields) (hs : List Brought) where
       go h m false e = rw and-false (cond_zero (eqb h.trade u))
 
 -- ---- the target's trade: every lot under the target has it
-module _ (n last : ℕ) (tgt : Field) (hs : List Brought) (lots : Lots n last hs) (some : any (under tgt) (flat stands hs) ≡ true) where
+module _ (n last : ℕ) (tgt : Option ℕ) (hs : List Brought) (lots : Lots n last hs) (some : any (under tgt) (flat stands hs) ≡ true) where
   under_lot : (g : Brought) × (g ∈ hs) × (is_target tgt g.id ≡ true) × (first_under (keep (under tgt) (flat stands hs)) ≡ g.trade)
   under_lot =
       let (r, mr, er, (rs, k)) = keep_first (under tgt) (flat stands hs) some in

@@ -1,4 +1,5 @@
 -- Matched fields and targets: the tests decide equality, so a pool that is listed once is one pool, and a target names one message.
+use Rattle.std.specs.Prelude.{Option, is_some, unwrap_or}
 use mathlib.Core.Path.{◌≡◌, refl, sym, ap, ◌∙◌}
 use mathlib.Core.Logic.{◌⊎◌, inl, inr}
 use mathlib.Core.Bool.{true, not}
@@ -8,8 +9,6 @@ use Prim.Native.Nat.{ℕ}
 use borrow.Author.Tests.{eqb-true, not-true}
 use Rattle.lists.specs.Lists.{keep, all}
 use Rattle.lists.proofs.Tests.{◌∈◌, and_left, and_right, both, clash, all_out, any_in, any_out, any_append, keep_in, same_refl}
-use Rattle.fields.specs.declared.Field.{Field}
-use Rattle.fields.specs.Fields.{is_number, value_of}
 use Rattle.terminator.specs.Lots.{Lot}
 use Rattle.book.specs.declared.Pool.{Pool}
 use Rattle.book.specs.Records.{Fields, fields_of, same_fields, has_fields, distinct}
@@ -75,14 +74,14 @@ fields_of_lots_append (x ∷ xs) ys = rw (fields_of_lots_append xs ys) (sym (app
 
 -- ---- targets
 
-pub target_one : (tgt : Field) (i j : ℕ) → is_target tgt i ≡ true → is_target tgt j ≡ true → i ≡ j
-target_one tgt i j p q = eqb-true i (value_of tgt) (and_right (is_number tgt) _ p) ∙ sym (eqb-true j (value_of tgt) (and_right (is_number tgt) _ q))
+pub target_one : (tgt : Option ℕ) (i j : ℕ) → is_target tgt i ≡ true → is_target tgt j ≡ true → i ≡ j
+target_one tgt i j p q = eqb-true i (unwrap_or tgt 0) (and_right (is_some tgt) _ p) ∙ sym (eqb-true j (unwrap_or tgt 0) (and_right (is_some tgt) _ q))
 
 -- the records under a target have one message ID
-pub under_one : (tgt : Field) (q r : Pool) → under tgt q ≡ true → under tgt r ≡ true → q.message ≡ r.message
+pub under_one : (tgt : Option ℕ) (q r : Pool) → under tgt q ≡ true → under tgt r ≡ true → q.message ≡ r.message
 under_one tgt q r a b = target_one tgt q.message r.message a b
 
-pub under_message : (tgt : Field) (q r : Pool) → under tgt q ≡ true → q.message ≡ r.message → under tgt r ≡ true
+pub under_message : (tgt : Option ℕ) (q r : Pool) → under tgt q ≡ true → q.message ≡ r.message → under tgt r ≡ true
 under_message tgt q r a e = rw e at a
 
 -- on records in order they have one trade, the target's

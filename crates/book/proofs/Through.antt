@@ -6,8 +6,8 @@ use mathlib.Core.List.{List, [], ◌∷◌}
 use mathlib.Core.Bool.{Bool}
 use Rattle.book.specs.declared.Book.{Book}
 use Rattle.book.specs.declared.Pool.{Pool}
-use Rattle.book.specs.declared.Verdict.{Verdict}
-use Rattle.book.specs.declared.Verdict.TheVariants.{Passes, Fails}
+use Rattle.book.specs.Reasons.{Verdict}
+use Rattle.std.specs.Prelude.{Ok, Err}
 use Rattle.book.specs.Soundness.{live_of, Held, held_in}
 use Rattle.book.specs.Checks.{Asked, call, Test, of_body, of_values, of_line, of_asked, of_live, of_table, fails, Check, checks, first_failing, answer_to, answer_of}
 use Rattle.book.specs.Step.{trades_moved, live_moved, book_after, output_after}
@@ -32,8 +32,8 @@ module _ (b : Book) (t u : List Pool) (body : List ℕ) (asked : Asked) where
   Agree (p ∷ ps) = (p b (held_in b t) body ≡ p b (held_in b u) body) × Agree ps
 
   to_alike : (v : Verdict) → answer_to (call b t body asked) v ≡ answer_to (call b u body asked) v
-  to_alike Passes = refl
-  to_alike (Fails r) = refl
+  to_alike (Ok u) = refl
+  to_alike (Err r) = refl
 
   module _ (lives : live_of b t ≡ live_of b u) where
     test_alike : (x : Test) (ps : List (Book → Held → List ℕ → Bool)) → Agree (with_whole x ps) → (fails x (call b t body asked) ≡ fails x (call b u body asked)) × Agree ps

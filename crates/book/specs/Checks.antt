@@ -1,8 +1,8 @@
 -- The checks of a frame call in their order (01, "Who causes which number"), the first that fails, and the answer that follows from it.
-use Rattle.std.specs.Prelude.{ℕ, ◌+◌, List, [], ◌∷◌, ◌++◌, map, Bool, true, false, cond, not, ◌&&◌, ◌||◌, length, get_or, eqb, leb, ltb}
+use Rattle.std.specs.Prelude.{Option, is_some, unwrap_or}
+use Rattle.std.specs.Prelude.{Ok, Err, ℕ, ◌+◌, List, [], ◌∷◌, ◌++◌, map, Bool, true, false, cond, not, ◌&&◌, ◌||◌, length, get_or, eqb, leb, ltb}
 use Rattle.lists.specs.Lists.{same, keep, any, all}
-use Rattle.fields.specs.declared.Field.{Field}
-use Rattle.fields.specs.Fields.{is_number, value_of, holds, all_blank}
+use Rattle.fields.specs.Fields.{holds, all_blank}
 use Rattle.output.specs.Output.{blanks}
 use Rattle.layout.specs.declared.Column.{Column}
 use Rattle.layout.specs.declared.Detail.{Detail}
@@ -30,11 +30,9 @@ use Rattle.book.specs.declared.Pool.{Pool}
 use Rattle.book.specs.declared.Caller.{Caller}
 use Rattle.book.specs.declared.Reason.{Reason}
 use Rattle.book.specs.declared.Reason.TheVariants as by
-use Rattle.book.specs.declared.Verdict.{Verdict}
-use Rattle.book.specs.declared.Verdict.TheVariants.{Passes, Fails}
 use Rattle.book.specs.declared.Answer.{Answer}
 use Rattle.book.specs.declared.Answer.TheVariants.{Accepted}
-use Rattle.book.specs.Reasons.{silent, told, refusal}
+use Rattle.book.specs.Reasons.{Verdict, silent, told, refusal}
 use Rattle.book.specs.Dues.{Due, due, due_weight}
 use Rattle.book.specs.Records.{Fields, fields_of, live_fields, has_fields, distinct, kind_number, LiveLot, live_pools, live_lots, trade_weight}
 use Rattle.book.specs.Messages.{type_of, ftba, fsti, is_stipulated, id_in, target_of, under, listed, brought}
@@ -86,7 +84,7 @@ output_short asked = ltb asked.room room_least
 
 -- ---- 10 to 25: the line and the sender's system
 -- not digits, or a number that fails a test
-abbrev pub not_number : (ℕ → Bool) → Field → Bool
+abbrev pub not_number : (ℕ → Bool) → Option ℕ → Bool
 not_number p f = not (holds p f)
 
 -- 10: a body that is not a header and 1 to 250 whole details
@@ -94,15 +92,15 @@ abbrev pub length_wrong : List ℕ → Bool
 length_wrong body = not (length_fits body)
 
 -- not digits, or a number that the line refuses
-abbrev pub is_no_sequence : Field → Bool
-is_no_sequence f = not (is_number f) || is_refused (value_of f)
+abbrev pub is_no_sequence : Option ℕ → Bool
+is_no_sequence f = not (is_some f) || is_refused (unwrap_or f 0)
 
 -- 11: a sequence that is no number, or one that the line never takes
 abbrev pub sequence_fails : List ℕ → Bool
 sequence_fails body = is_no_sequence (number_in body columns.sequence)
 
 abbrev pub arrived : List ℕ → Inbound
-arrived body = inbound (value_of (number_in body columns.sequence))
+arrived body = inbound (unwrap_or (number_in body columns.sequence) 0)
 
 abbrev pub is_duplicate : Arrival → Bool
 is_duplicate Refused = false
@@ -283,7 +281,7 @@ abbrev pub new_pools_repeat : List ℕ → Bool
 new_pools_repeat body = not (distinct (map fields_of (new_pools (details body))))
 
 -- a live record that a message takes off: under its target, with matched fields that it lists
-abbrev pub is_taken : Field → List Fields → Pool → Bool
+abbrev pub is_taken : Option ℕ → List Fields → Pool → Bool
 is_taken tgt fs r = under tgt r && has_fields (live_fields r) fs
 
 abbrev pub taken_by : List ℕ → List Pool → List Pool
@@ -293,7 +291,7 @@ abbrev pub taken : Call → List Pool
 taken c = taken_by c.body (live c)
 
 -- the target's live lots
-abbrev pub target_lots : Field → List Pool → List LiveLot
+abbrev pub target_lots : Option ℕ → List Pool → List LiveLot
 target_lots tgt rs = live_lots (keep (under tgt) rs)
 
 -- the matched fields of a live lot's pools, and of several lots'
@@ -313,7 +311,7 @@ abbrev pub is_listed_in : List Fields → LiveLot → Bool
 is_listed_in fs l = any (λ (g : Fields). has_fields g fs) (live_lot_fields l)
 
 -- 37: of each live lot that the message touches it lists every pool, once, and it lists nothing else
-abbrev pub exact_lots : Field → List Fields → List Pool → Bool
+abbrev pub exact_lots : Option ℕ → List Fields → List Pool → Bool
 exact_lots tgt fs rs = each_once fs (fields_of_live (keep (is_listed_in fs) (target_lots tgt rs)))
 
 -- 37 of a CC: a 6 lot is one live lot of the target, of the same kind and millions
@@ -325,7 +323,7 @@ is_lot l live =
     each_once (lot_fields l) (live_lot_fields live)
     && (eqb live.first.kind (kind_number (lot_kind l)) && eqb live.first.millions (lot_millions l))
 
-abbrev pub one_lot : Field → List Pool → Lot → Bool
+abbrev pub one_lot : Option ℕ → List Pool → Lot → Bool
 one_lot tgt rs l = any (is_lot l) (target_lots tgt rs)
 
 abbrev pub canceled_lots : List Detail → List Lot
@@ -455,13 +453,13 @@ abbrev pub fails_in : Check → Call → Bool
 fails_in k c = k.types (type_of c.body) && fails k.test c
 
 abbrev pub first_failing : List Check → Call → Verdict
-first_failing [] c = Passes
-first_failing (k ∷ ks) c = cond (fails_in k c) (Fails k.reason) (first_failing ks c)
+first_failing [] c = Ok tt
+first_failing (k ∷ ks) c = cond (fails_in k c) (Err k.reason) (first_failing ks c)
 
 -- it decides; where none fails, the message gets the next ID
 abbrev pub answer_to : Call → Verdict → Answer
-answer_to c Passes = Accepted (c.book.values.lastMessageId + 1)
-answer_to c (Fails r) = refusal (type_of c.body) r
+answer_to c (Ok u) = Accepted (c.book.values.lastMessageId + 1)
+answer_to c (Err r) = refusal (type_of c.body) r
 
 unfoldable pub answer_of : Call → Answer
 answer_of c = answer_to c (first_failing checks c)

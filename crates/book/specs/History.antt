@@ -1,8 +1,8 @@
 -- The history (01, "The book"): what was brought and taken off, read from the messages alone. It is fed opening's values, then each call's body
 -- and whether it was accepted; nothing here has a book or a table in its type.
+use Rattle.std.specs.Prelude.{Option}
 use Rattle.std.specs.Prelude.{ℕ, ◌+◌, ◌-◌, ◌*◌, List, [], ◌∷◌, ◌++◌, map, Bool, true, false, cond, ◌&&◌, eqb}
 use Rattle.lists.specs.Lists.{any, keep, sum_of}
-use Rattle.fields.specs.declared.Field.{Field}
 use Rattle.fields.specs.Fields.{holds}
 use Rattle.layout.specs.declared.Detail.{Detail}
 use Rattle.layout.specs.Details.{details}
@@ -38,11 +38,11 @@ abbrev pub at_opening : Values → History
 at_opening v = record { lastMessageId = v.lastMessageId; lots = [] }
 
 -- ---- taking off
-abbrev pub is_target : Field → ℕ → Bool
+abbrev pub is_target : Option ℕ → ℕ → Bool
 is_target tgt id = holds (eqb id) tgt
 
 -- a lot under the target with a pool whose matched fields are listed
-abbrev pub touches : Field → List Fields → Brought → Bool
+abbrev pub touches : Option ℕ → List Fields → Brought → Bool
 touches tgt fs h = is_target tgt h.id && any (λ (d : Detail). has_fields (fields_of d) fs) (pools_of h.lot)
 
 abbrev pub once : Bool → ℕ
@@ -50,7 +50,7 @@ once true = 1
 once false = 0
 
 -- a lot after a message: taken off once more where it is touched, even one already off
-abbrev pub take_off : Bool → Field → List Fields → Brought → Brought
+abbrev pub take_off : Bool → Option ℕ → List Fields → Brought → Brought
 take_off by_dk tgt fs h =
     record {
       id = h.id;
@@ -103,7 +103,7 @@ abbrev pub fields_of_lots : List Lot → List Fields
 fields_of_lots [] = []
 fields_of_lots (l ∷ ls) = map fields_of (pools_of l) ++ fields_of_lots ls
 
-abbrev pub due_by_groups : Field → List Brought → List Group → List Due
+abbrev pub due_by_groups : Option ℕ → List Brought → List Group → List Due
 due_by_groups tgt hs [] = []
 due_by_groups tgt hs (g ∷ gs) =
     map (due (trade_of_first (keep (touches tgt (fields_of_lots g.canceled)) hs))) g.replacement ++ due_by_groups tgt hs gs

@@ -1,7 +1,7 @@
 -- What a body says to the book (01, "Columns" and "The book"): its type, sequence, target and trade ID, the pools that it lists and the lots that it brings.
+use Rattle.std.specs.Prelude.{Option}
 use Rattle.std.specs.Prelude.{ℕ, List, [], ◌∷◌, map, Bool, cond, eqb}
 use Rattle.lists.specs.Lists.{same, keep}
-use Rattle.fields.specs.declared.Field.{Field}
 use Rattle.fields.specs.Fields.{holds}
 use Rattle.layout.specs.declared.Detail.{Detail}
 use Rattle.layout.specs.Columns as columns
@@ -56,10 +56,10 @@ abbrev pub id_in : List ℕ → TradeId
 id_in body = trade_id_of (bytes_in body columns.special)
 
 -- the target: eleven digits, or no message at all
-abbrev pub target_of : List ℕ → Field
+abbrev pub target_of : List ℕ → Option ℕ
 target_of body = number_in body columns.target
 
-abbrev pub under : Field → Pool → Bool
+abbrev pub under : Option ℕ → Pool → Bool
 under tgt r = holds (eqb r.message) tgt
 
 -- the pools that a message takes off: all of a DK's, a CC's canceled ones

@@ -1,11 +1,15 @@
 -- What a refusal's reason says (01, "Who causes which number"): its number, whether it is silent, and whose it is; and what an answer says by it.
-use Rattle.std.specs.Prelude.{ℕ, Bool, true, false, cond, not, ◌&&◌}
+use Rattle.std.specs.Prelude.{Result, ⊤, ℕ, Bool, true, false, cond, not, ◌&&◌}
 use Rattle.message_type.specs.declared.MessageType.{MessageType}
 use Rattle.message_type.specs.Questions.{answers_as_dk}
 use Rattle.book.specs.declared.Reason.{Reason}
 use Rattle.book.specs.declared.Reason.TheVariants.{Operator, Line, Sender, Trader}
 use Rattle.book.specs.declared.Answer.{Answer}
 use Rattle.book.specs.declared.Answer.TheVariants.{Accepted, Rejected, Dked}
+
+-- what a list of checks says: all pass, or the first that fails, by its reason
+abbrev pub Verdict : Type 0
+Verdict = Result ⊤ Reason
 
 -- a refusal that moves nothing and writes nothing, and one that an AA tells
 abbrev pub silent : Bool

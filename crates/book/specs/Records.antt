@@ -1,25 +1,24 @@
 -- Live pools (01, "The book"): records of a table, the lots that they make up, what a trade's lots weigh, and its standing millions.
 use Rattle.std.specs.Prelude.{ℕ, ◌+◌, ◌*◌, List, [], ◌∷◌, ◌++◌, map, Bool, true, cond, not, ◌&&◌, replicate, eqb}
 use Rattle.lists.specs.Lists.{same, keep, any, sum_of}
+use Rattle.layout.specs.declared.Matched.{Matched}
 use Rattle.layout.specs.declared.Detail.{Detail}
 use Rattle.layout.specs.Columns.{lot_id, pool_number, original_face}
-use Rattle.terminator.specs.declared.Kind.{Kind}
 use Rattle.terminator.specs.declared.Kind.TheVariants.{Good, Odd, Bad}
+pub use Rattle.terminator.specs.Terminators.{kind_number}
 use Rattle.terminator.specs.Lots.{Lot, pools_of, lot_kind, lot_millions, current_cents, million_cents}
 use Rattle.book.specs.declared.Pool.{Pool}
 use Rattle.book.specs.Dues.{Due}
 
 -- the matched fields of a pool: Lot-ID, pool number and original face, as bytes
-pub record Fields : Type 0 where
-  pub lot : List ℕ
-  pub pool : List ℕ
-  pub original : List ℕ
+abbrev pub Fields : Type 0
+Fields = Matched
 
 abbrev pub fields_of : Detail → Fields
-fields_of d = record { lot = d.lot; pool = d.pool; original = d.original }
+fields_of d = d.matched
 
 abbrev pub live_fields : Pool → Fields
-live_fields r = record { lot = r.lot; pool = r.pool; original = r.original }
+live_fields r = r.matched
 
 -- whether all three are equal
 abbrev pub same_fields : Fields → Fields → Bool
@@ -35,18 +34,13 @@ distinct (f ∷ fs) = not (has_fields f fs) && distinct fs
 
 -- the kinds as a record has them
 abbrev pub kind_good : ℕ
-kind_good = 1
+kind_good = kind_number Good
 
 abbrev pub kind_odd : ℕ
-kind_odd = 2
+kind_odd = kind_number Odd
 
 abbrev pub kind_bad : ℕ
-kind_bad = 3
-
-abbrev pub kind_number : Kind → ℕ
-kind_number Good = kind_good
-kind_number Odd = kind_odd
-kind_number Bad = kind_bad
+kind_bad = kind_number Bad
 
 -- the record of a new pool: under a message ID, its lot's ordinal and its trade
 abbrev pub pool_of : ℕ → ℕ → ℕ → Lot → Detail → Pool
@@ -55,9 +49,7 @@ pool_of message ordinal trade l d =
       message = message;
       ordinal = ordinal;
       trade = trade;
-      lot = d.lot;
-      pool = d.pool;
-      original = d.original;
+      matched = d.matched;
       current = current_cents d;
       kind = kind_number (lot_kind l);
       millions = lot_millions l;
@@ -75,9 +67,7 @@ no_pool =
       message = 0;
       ordinal = 0;
       trade = 0;
-      lot = replicate lot_id.width 0;
-      pool = replicate pool_number.width 0;
-      original = replicate original_face.width 0;
+      matched = record { lot = replicate lot_id.width 0; pool = replicate pool_number.width 0; original = replicate original_face.width 0 };
       current = 0;
       kind = 0;
       millions = 0;

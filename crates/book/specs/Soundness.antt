@@ -55,7 +55,7 @@ fields_once (r ∷ rs) = not (any (λ (s : Pool). eqb r.message s.message && sam
 abbrev pub is_none : Pool → Bool
 is_none r =
     eqb r.message 0 && (eqb r.ordinal 0 && (eqb r.trade 0
-    && (same r.lot no_pool.lot && (same r.pool no_pool.pool && (same r.original no_pool.original
+    && (same r.matched.lot no_pool.matched.lot && (same r.matched.pool no_pool.matched.pool && (same r.matched.original no_pool.matched.original
     && (eqb r.current 0 && (eqb r.kind 0 && eqb r.millions 0)))))))
 
 -- open par is par less what the trade's lots weigh

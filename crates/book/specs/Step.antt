@@ -9,7 +9,8 @@ use Rattle.sequence.specs.declared.Line.{Line}
 use Rattle.sequence.specs.declared.Outbound.{Outbound}
 use Rattle.sequence.specs.Sequence.{arrival_of, line_after, next_outbound}
 use Rattle.acknowledgment.specs.declared.Acknowledged.{Acknowledged}
-use Rattle.acknowledgment.specs.Frames.{aa_bytes, tx_bytes, tx_length}
+use Rattle.acknowledgment.specs.declared.Stamp.{Stamp}
+use Rattle.acknowledgment.specs.Frames.{next_stamp, aa_bytes, tx_bytes, tx_length}
 use Rattle.tally.specs.declared.Outcome.{Outcome}
 use Rattle.tally.specs.declared.Outcome.TheVariants as outcome
 use Rattle.tally.specs.Tally.{raised}
@@ -125,10 +126,14 @@ acknowledged body a caller =
       original = bytes_in body columns.sequence;
     }
 
+-- what the last frame that went out was stamped with, where its number is known
+abbrev pub stamp_at : Book → Outbound → Stamp
+stamp_at book number = record { number = number; subscriber = book.values.lent.subscriber; connection = book.values.connection.id }
+
 abbrev pub with_tx : Book → List ℕ → List ℕ → List ℕ
 with_tx book body out =
     cond (gap_at book body)
-    (pasted out 0 (tx_bytes (next_outbound book.values.connection.outbound) book.values.lent.subscriber book.values.connection.id book.values.connection.line.expected (arrived body)))
+    (pasted out 0 (tx_bytes (next_stamp (stamp_at book book.values.connection.outbound)) book.values.connection.line.expected (arrived body)))
     out
 
 abbrev pub aa_at : Book → List ℕ → ℕ
@@ -138,7 +143,7 @@ aa_at book body = cond (gap_at book body) tx_length 0
 unfoldable pub output_for : Book → List ℕ → Answer → Caller → List ℕ → List ℕ
 output_for book body a caller out =
     cond (is_silent a) out
-    (pasted (with_tx book body out) (aa_at book body) (aa_bytes (next_outbound (before_aa book body)) book.values.lent.subscriber book.values.connection.id (acknowledged body a caller)))
+    (pasted (with_tx book body out) (aa_at book body) (aa_bytes (next_stamp (stamp_at book (before_aa book body))) (acknowledged body a caller)))
 
 unfoldable pub output_after : Call → List ℕ → List ℕ
 output_after c out = output_for c.book c.body (answer_of c) c.asked.caller out

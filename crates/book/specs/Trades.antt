@@ -1,7 +1,7 @@
 -- Trades (01, "The book"): the one that an ID names, whose terms agree with a message's, and where an ON goes.
+use Rattle.std.specs.Prelude.{Option}
 use Rattle.std.specs.Prelude.{ℕ, ◌+◌, List, [], ◌∷◌, map, Bool, false, cond, ◌&&◌, length, take, eqb, leb}
 use Rattle.lists.specs.Lists.{same, part, sum_of}
-use Rattle.fields.specs.declared.Field.{Field}
 use Rattle.fields.specs.Fields.{holds}
 use Rattle.layout.specs.Columns as columns
 use Rattle.layout.specs.Columns.{bytes_in, number_in}
@@ -28,10 +28,10 @@ abbrev pub side_of : MessageType → Trade → List ℕ
 side_of m t = cond (buyer_submits m) t.buyer t.seller
 
 -- a field is this number, or a price that agrees with it
-abbrev pub number_is : Field → ℕ → Bool
+abbrev pub number_is : Option ℕ → ℕ → Bool
 number_is f k = holds (λ (n : ℕ). eqb n k) f
 
-abbrev pub price_is : Field → ℕ → Bool
+abbrev pub price_is : Option ℕ → ℕ → Bool
 price_is f k = holds (λ (p : ℕ). prices_agree p k) f
 
 -- terms agree when submitter, contra, CUSIP and settlement are equal and the prices are, but for their last three decimals

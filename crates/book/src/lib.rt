@@ -1,7 +1,18 @@
 // The allocation book: what opening lends, what it keeps, the record of a live pool, and the answers that a frame gets.
 #![tactic(auto)]
 
+ghost use Rattle.std.specs.Prelude.{◌≡◌, ◌≤◌, length};
+ghost use Rattle.trade_id.specs.SpecialInstructions.{id_length_max};
+ghost use Rattle.book.specs.Trades.{trade_name, trades_of};
+ghost use Rattle.book.specs.Opening.{holidays_of};
+ghost use Rattle.book.specs.Reasons.{number_of, is_silent_for, is_traders, refusal, code_of, id_of, is_accepted, is_silent};
+ghost use Rattle.book.specs.Step.{outcome_of};
+
+use layout::Matched;
+use message_type::MessageType;
 use sequence::{Line, Outbound};
+use tally::Outcome;
+use terminator::Kind;
 
 // The most trades and holidays that opening lends, and records that a table has.
 pub const TRADES_MAX: usize = 64;
@@ -35,6 +46,16 @@ pub struct Trade {
     pub price: u64,
     pub par: u64,
     pub openPar: u64,
+}
+
+impl Trade {
+    // The bytes of its ID, also where length says more than there are.
+    pub fn name(&self) -> &[u8]
+        ensures bytes { result.now ≡ trade_name self.now }
+        ensures short { length result.now ≤ id_length_max }
+    {
+        &self.id[..self.length.min(ID_MAX)]
+    }
 }
 
 // GDMM ceiling, variance in cents a million, pools a million, least face in dollars.
@@ -73,6 +94,22 @@ pub struct Values {
     pub connection: Connection,
 }
 
+impl Values {
+    // The trades that are opened.
+    pub fn opened_trades(&self) -> &[Trade]
+        ensures { result.now ≡ trades_of self.now }
+    {
+        &self.trades[..self.lent.tradeCount.min(TRADES_MAX)]
+    }
+
+    // The holidays that are opened.
+    pub fn opened_holidays(&self) -> &[u32]
+        ensures { result.now ≡ holidays_of self.now }
+    {
+        &self.lent.holidays[..self.lent.holidayCount.min(HOLIDAYS_MAX)]
+    }
+}
+
 // The book: opening's values, which move with each call, and the number of live pools in the table.
 #[derive(Clone, Copy)]
 pub struct Book {
@@ -95,13 +132,18 @@ pub struct Pool {
     pub message: u64,
     pub ordinal: u64,
     pub trade: u64,
-    pub lot: [u8; 6],
-    pub pool: [u8; 7],
-    pub original: [u8; 9],
+    pub matched: Matched,
     pub current: u64,
     pub kind: u64,
     pub millions: u64,
 }
+
+// The kinds of a lot as a record has them: a record that is lent may have any other number.
+pub const KIND_GOOD: u64 = Kind::Good as u64;
+
+pub const KIND_ODD: u64 = Kind::Odd as u64;
+
+pub const KIND_BAD: u64 = Kind::Bad as u64;
 
 // Whether a refusal moves nothing and writes nothing, or is told by an AA.
 pub const SILENT: bool = true;
@@ -117,12 +159,41 @@ pub enum Reason {
     Trader(u64, bool),
 }
 
-// What a list of checks says: all pass, or the first that fails.
-#[derive(Clone, Copy)]
-pub enum Verdict {
-    Passes,
-    Fails(Reason),
+impl Reason {
+    // The paper's number of a reason.
+    pub fn number(self) -> u64
+        ensures { result ≡ number_of self }
+    {
+        match self {
+            Reason::Operator(number, _)
+            | Reason::Line(number, _)
+            | Reason::Sender(number, _)
+            | Reason::Trader(number, _) => number,
+        }
+    }
+
+    // Whether it moves nothing and writes nothing.
+    pub fn is_silent(self) -> bool
+        ensures { result ≡ is_silent_for self }
+    {
+        match self {
+            Reason::Operator(_, silent)
+            | Reason::Line(_, silent)
+            | Reason::Sender(_, silent)
+            | Reason::Trader(_, silent) => silent,
+        }
+    }
+
+    // Whether the trader causes it.
+    pub fn is_traders(self) -> bool
+        ensures { result ≡ is_traders self }
+    {
+        matches!(self, Reason::Trader(..))
+    }
 }
+
+// What a list of checks says: all pass, or the first that fails.
+pub type Verdict = Result<(), Reason>;
 
 // What a frame gets.
 #[derive(Clone, Copy)]
@@ -130,4 +201,65 @@ pub enum Answer {
     Accepted(u64),
     Rejected(Reason),
     Dked(Reason),
+}
+
+impl Answer {
+    // A trader's number is DKed, but on a DK rejected; every other is rejected.
+    pub fn refusal(kind: MessageType, reason: Reason) -> Answer
+        ensures { result ≡ refusal kind reason }
+    {
+        if reason.is_traders() & !kind.answers_as_dk() {
+            Answer::Dked(reason)
+        } else {
+            Answer::Rejected(reason)
+        }
+    }
+
+    // The code of an AA: 0 where the message is accepted.
+    pub fn code(self) -> u64
+        ensures { result ≡ code_of self }
+    {
+        match self {
+            Answer::Accepted(_) => 0,
+            Answer::Rejected(reason) | Answer::Dked(reason) => reason.number(),
+        }
+    }
+
+    // The message ID of an AA.
+    pub fn id(self) -> u64
+        ensures { result ≡ id_of self }
+    {
+        match self {
+            Answer::Accepted(id) => id,
+            _ => 0,
+        }
+    }
+
+    // Whether it moves nothing and writes nothing.
+    pub fn is_silent(self) -> bool
+        ensures { result ≡ is_silent self }
+    {
+        match self {
+            Answer::Accepted(_) => false,
+            Answer::Rejected(reason) | Answer::Dked(reason) => reason.is_silent(),
+        }
+    }
+
+    // Whether it is that of an accepted message.
+    pub fn is_accepted(self) -> bool
+        ensures { result ≡ is_accepted self }
+    {
+        matches!(self, Answer::Accepted(_))
+    }
+
+    // The column of the tally that it belongs to.
+    pub fn outcome(self) -> Outcome
+        ensures { result ≡ outcome_of self }
+    {
+        match self {
+            Answer::Accepted(_) => Outcome::Accepted,
+            Answer::Rejected(_) => Outcome::Rejected,
+            Answer::Dked(_) => Outcome::Dked,
+        }
+    }
 }

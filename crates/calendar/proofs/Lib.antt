@@ -1,3 +1,1 @@
 pub mod Days
-pub mod Holidays
-pub mod Business

@@ -1,4 +1,5 @@
 -- The rows after a frame call: the numbers of the call's answer raise what that answer raises.
+use Rattle.std.specs.Prelude.{Err, Ok}
 use Prim.Native.Nat.{ℕ, ◌+◌}
 use mathlib.Core.Path.{◌≡◌, refl, ap, ◌∙◌}
 use mathlib.Core.List.{List, ◌∷◌, ◌++◌}
@@ -12,17 +13,15 @@ use Rattle.tally.specs.declared.Outcome.TheVariants as outcome
 use Rattle.tally.specs.Tally.{raised}
 use Rattle.book.specs.declared.Reason.{Reason}
 use Rattle.book.specs.declared.Answer.TheVariants.{Rejected, Dked}
-use Rattle.book.specs.declared.Verdict.{Verdict}
-use Rattle.book.specs.declared.Verdict.TheVariants.{Passes, Fails}
+use Rattle.book.specs.Reasons.{Verdict}
 use Rattle.book.specs.Messages.{type_of}
 use Rattle.book.specs.Reasons.{number_of, is_silent_for, is_traders}
 use Rattle.book.specs.Checks.{Call, Check, soundness_checks, sender_checks, terms_checks, moves_checks, checks, first_failing, answer_to, answer_of}
 use Rattle.book.specs.Step.{tally_after}
 use Rattle.book.proofs.Firsts.{first_among}
 use Rattle.message_type.specs.Questions.{answers_as_dk}
-use Rattle.exports_numbers.specs.declared.Heard.{Heard}
 use Rattle.exports_numbers.specs.Said.{said_of, is_told, heard, heard_as, heard_in}
-use Rattle.calls_words.specs.Tally.{rows_after}
+use Rattle.calls_words.specs.Tally.{raised_by, rows_after}
 
 -- a check's number is told just where its reason is not silent
 abbrev pub tells : Reason → Bool
@@ -39,24 +38,20 @@ told_is r e = go (is_silent_for r) e
     go true h = not-true (is_told (number_of r)) h
     go false h = h
 
-swapped : (s : Bool) (x y : List (List ℕ)) → cond (not s) x y ≡ cond s y x
-swapped true x y = refl
-swapped false x y = refl
-
 heard_two : (x y : ℕ) (rest : List ℕ) → heard_in (x ∷ y ∷ rest) ≡ heard_as x y
 unfolding heard_in
 heard_two x y rest = rw (le-ltb (length (x ∷ y ∷ rest)) 2 (omega arith))
 
 module _ (body : List ℕ) (rows : List (List ℕ)) where
-  abbrev raised_by : Heard → List (List ℕ)
-  raised_by h = cond h.told (raised rows (type_of body) h.outcome) rows
-
   -- what a reason's numbers raise, rejected or DKed
   tells_raise : (x : ℕ) (r : Reason) (rest : List ℕ) (o : Outcome) → heard_as x (number_of r) ≡ heard (is_told (number_of r)) o → tells r ≡ true
-      → raised_by (heard_in (x ∷ number_of r ∷ rest)) ≡ cond (is_silent_for r) rows (raised rows (type_of body) o)
+      → raised_by body rows (heard_in (x ∷ number_of r ∷ rest)) ≡ cond (is_silent_for r) rows (raised rows (type_of body) o)
   tells_raise x r rest o e t =
-      ap raised_by (heard_two x (number_of r) rest ∙ e) ∙ ap (λ (b : Bool). cond b (raised rows (type_of body) o) rows) (told_is r t)
-      ∙ swapped (is_silent_for r) (raised rows (type_of body) o) rows
+      ap (raised_by body rows) (heard_two x (number_of r) rest ∙ e ∙ ap (λ (b : Bool). heard b o) (told_is r t)) ∙ quiet (is_silent_for r)
+    where
+      quiet : (s : Bool) → raised_by body rows (heard (not s) o) ≡ cond s rows (raised rows (type_of body) o)
+      quiet true = refl
+      quiet false = refl
 
   -- so do the numbers of a rejection for it
   pub counted_rejected : (r : Reason) (rest : List ℕ) → tells r ≡ true → length rows ≡ 4 → rows_after body (said_of (Rejected r) ++ rest) rows ≡ tally_after body (Rejected r) rows
@@ -69,10 +64,10 @@ module _ (body : List ℕ) (rows : List (List ℕ)) where
   counted c rest h = rw (eq-eqb (length rows) 4 h) (go (first_failing checks c) refl)
     where
       refused : (r : Reason) → tells r ≡ true → (b : Bool)
-          → raised_by (heard_in (said_of (cond b (Dked r) (Rejected r)) ++ rest)) ≡ tally_after body (cond b (Dked r) (Rejected r)) rows
+          → raised_by body rows (heard_in (said_of (cond b (Dked r) (Rejected r)) ++ rest)) ≡ tally_after body (cond b (Dked r) (Rejected r)) rows
       refused r t true = tells_raise 2 r rest outcome.Dked refl t
       refused r t false = tells_raise 1 r rest outcome.Rejected refl t
 
-      go : (v : Verdict) → first_failing checks c ≡ v → raised_by (heard_in (said_of (answer_to c v) ++ rest)) ≡ tally_after body (answer_to c v) rows
-      go Passes e = ap raised_by (heard_two 0 (c.book.values.lastMessageId + 1) rest)
-      go (Fails r) e = refused r (first_among tells c checks r tells_all e) (is_traders r && not (answers_as_dk (type_of c.body)))
+      go : (v : Verdict) → first_failing checks c ≡ v → raised_by body rows (heard_in (said_of (answer_to c v) ++ rest)) ≡ tally_after body (answer_to c v) rows
+      go (Ok u) e = ap (raised_by body rows) (heard_two 0 (c.book.values.lastMessageId + 1) rest)
+      go (Err r) e = refused r (first_among tells c checks r tells_all e) (is_traders r && not (answers_as_dk (type_of c.body)))

@@ -1,13 +1,15 @@
--- 37: the marks of the rows that were found decide it for a CC and for a DK, and mark the records that the message takes off.
+-- 37: the marks of the places that were found decide it for a CC and for a DK, and mark the records that the message takes off.
 use Prim.Native.Nat.{ℕ, ◌+◌, ◌-◌, ◌≤◌, ◌<◌}
 use mathlib.Core.Path.{◌≡◌, refl, sym, ap, ◌∙◌}
-use mathlib.Core.List.{List, [], ◌∷◌, map}
-use mathlib.Core.Bool.{Bool, true, false, cond, not, ◌&&◌, ◌||◌, or-true, false≢true}
+use mathlib.Core.List.{List, map}
+use mathlib.Core.Bool.{Bool, true, false, cond, not, ◌&&◌, ◌||◌, or-true, and_assoc, false≢true}
 use native.Mathlib.Omega.{arith}
 use lib.Dec.{eqb}
-use lib.ListN.{length, get_or, take, replicate}
-use borrow.Author.Tests.{eq-eqb, eqb-true, not-true, not-false}
-use Rattle.lists.specs.Lists.{tab, keep, all, fold}
+use lib.ListN.{length, get_or, take}
+use lib.Seq.{length-take-le}
+use borrow.Author.Tests.{eq-eqb, eqb-true}
+use Rattle.std.specs.Prelude.{Option, Some, None}
+use Rattle.lists.specs.Lists.{tab, keep, all}
 use Rattle.lists.proofs.Tests.{◌∈◌, and_left, implied, keep_in}
 use Rattle.layout.specs.declared.Detail.{Detail}
 use Rattle.layout.specs.Details.{details, pool_count}
@@ -26,37 +28,28 @@ use Rattle.message_type.specs.Questions.{is_cc, lists_lots, lists_all}
 use Rattle.book.proofs.ByRecord.{all_live, whole_lots, one_by_record, listed_by_record}
 use Rattle.book.proofs.LiveLots.{listed_by_record_law}
 use Rattle.book.proofs.ListLaws.{implies}
-use Rattle.rows.specs.Rows.{record_at, table_of}
 use Rattle.rows_find.specs.declared.Run.{Run}
-use Rattle.rows_find.specs.declared.Places.{Places}
-use Rattle.rows_find.specs.Finding.{lists, Finds}
+use Rattle.rows_find.specs.Finding.{lists, Placed, Finds}
 use Rattle.rows_find.proofs.Ascending.{run_rises}
-use Rattle.rows_find.proofs.Seeking.{found_live}
-use Rattle.check_listed.specs.declared.Listed.{Listed}
-use Rattle.check_listed.specs.declared.Alike.{Alike}
-use Rattle.check_listed.specs.Marks.{Rows, entries_from, mark_all, unmarked, even_at, marks_even}
-use Rattle.check_listed.specs.Lots.{numbers_of, alike_pool, alike_all, none_alike}
-use Rattle.check_listed.specs.Listing.{Findable, row_in, marks_in, Decides, Judgeable, judged_by}
+use Rattle.rows_find.proofs.Seeking.{record_at, found_live}
+use Rattle.check_listed.specs.Marks.{Marked, Places, entries_from, mark_all, unmarked, even_at, marks_even, no_marks}
+use Rattle.check_listed.specs.Lots.{record_of, alike_all}
+use Rattle.check_listed.specs.Listing.{Findable, marks_in, marks_taken, Takes}
 use Rattle.check_listed.proofs.Indexed.{all_each, each_all}
-use Rattle.check_listed.proofs.Marking.{mark_at}
+use Rattle.check_listed.proofs.Marking.{mark_at, length_marks}
+use Rattle.check_listed.proofs.Exact.{unmarked_length}
 use Rattle.check_listed.proofs.Evenness.{Even}
 use Rattle.check_listed.proofs.Likeness.{lot_alike, alike_pass}
 use Rattle.check_listed.proofs.Whole.{Stands, dk_fine, dk_taken, dk_even}
-use Rattle.check_listed.proofs.Canceled.{Numbers, cc_fine, cc_taken, cc_even}
-use Rattle.check_listed.proofs.Placed.{run, rows_are, order_at, once_at, row_at_law, run_bound, run_inside, row_of, rows_placed, pools_stand}
+use Rattle.check_listed.proofs.Canceled.{Recorded, cc_fine, cc_taken, cc_even}
+use Rattle.check_listed.proofs.Placed.{run, places_are, order_at, once_at, record_at_law, run_bound, run_inside, record_place, cells_placed, pools_stand}
 
-alike_fold : (numbers : Detail → List ℕ) (s : Alike) (ds : List Detail) → alike_all numbers s ds ≡ fold (λ (s : Alike) (d : Detail). alike_pool s d (numbers d)) s ds
-alike_fold numbers s [] = refl
-alike_fold numbers s (d ∷ ds) = alike_fold numbers (alike_pool s d (numbers d)) ds
-
--- the numbers of a canceled pool's row are those of its record
-numbers_are : (ns ks : List (List ℕ)) (row : Detail → ℕ) → Numbers (record_at ns ks) row (λ (d : Detail). numbers_of ns (row d) d)
-numbers_are ns ks row =
+-- what is read of a canceled pool's record is that record
+recorded : (ps : List Pool) (place : Detail → ℕ) → Recorded (record_at ps) place (λ (d : Detail). record_of ps (place d) d)
+recorded ps place =
     record {
-      ordinal = λ d e. ap (λ (b : Bool). get_or {A = ℕ} (cond b (get_or ns (row d) []) (replicate 6 0)) 1 0) e;
-      kind = λ d e. ap (λ (b : Bool). get_or {A = ℕ} (cond b (get_or ns (row d) []) (replicate 6 0)) 4 0) e;
-      millions = λ d e. ap (λ (b : Bool). get_or {A = ℕ} (cond b (get_or ns (row d) []) (replicate 6 0)) 5 0) e;
-      none = λ d e. ap (λ (b : Bool). get_or {A = ℕ} (cond b (get_or ns (row d) []) (replicate 6 0)) 1 0) e;
+      some = λ d e. ap (λ (b : Bool). cond b (Some (get_or ps (place d) no_pool)) None) e;
+      none = λ d e. ap (λ (b : Bool). cond b (Some (get_or ps (place d) no_pool)) None) e;
     }
 
 -- tests put together
@@ -68,84 +61,89 @@ cc_tests : (l d w o f e a : Bool) → l ≡ true → f ≡ d → (f ≡ true →
 cc_tests l d w o true e a p q h = rw (p, sym q) (h refl)
 cc_tests l d w o false e a p q h = rw (p, sym q)
 
-module _ (body : List ℕ) (ns ks : List (List ℕ)) (live : ℕ) (given : Findable body ns ks live) where
+-- a CC lists lots
+pub cc_lists : (t : MessageType) → is_cc t ≡ true → lists_lots t ≡ true
+cc_lists On e = absurd (false≢true e)
+cc_lists Cc e = refl
+cc_lists Dk e = refl
+cc_lists Cx e = absurd (false≢true e)
+cc_lists Other e = absurd (false≢true e)
+
+module _ (body : List ℕ) (ps : List Pool) (live : ℕ) (given : Findable body ps live) where
   abbrev live_rs : List Pool
-  live_rs = take live (table_of ns ks)
+  live_rs = take live ps
 
   abbrev target_run : Run
-  target_run = run body ns ks live given.within given.ordered given.once
+  target_run = run body ps live given.within given.ordered given.once
 
   by_record : listed_fine body live_rs ≡ listed_by_record body live_rs
   by_record = listed_by_record_law body live_rs given.ordered given.once given.formed
 
-  -- not found
-  pub none_found : (p : Places) → Finds body ks target_run p → p.found ≡ false → (ms : List ℕ) → Decides body ns ks live (record { fine = false; marks = ms })
-  none_found p w e ms =
-      let none : false ≡ listed_by_record body live_rs = rw (sym (found_live body ns ks live given.within given.ordered p w) ∙ e) in
-      record {
-        fine = λ c. none ∙ sym by_record;
-        marks = λ c f. absurd (false≢true f);
-        whole = λ c f. absurd (false≢true f);
-      }
+  -- a listed pool is not live under the target
+  pub takes_not_found : lists_lots (type_of body) ≡ true → Finds body ps target_run None → Takes body live_rs None
+  takes_not_found c w =
+      let none : false ≡ listed_by_record body live_rs = rw (sym (found_live body ps live given.within given.ordered None w)) in
+      record { fine = rw c (none ∙ sym by_record); taken = tt }
 
-  -- found
-  module _ (p : Places) (finds : Finds body ks target_run p) (found : p.found ≡ true) where
+  -- all are
+  module _ (cells : List ℕ) (finds : Finds body ps target_run (Some cells)) where
     abbrev f : ℕ → Pool
-    f = record_at ns ks
+    f = record_at ps
 
-    abbrev row : Detail → ℕ
-    row = row_of body ns ks live given.within given.ordered given.once
+    abbrev place : Detail → ℕ
+    place = record_place body ps live given.within given.ordered given.once
 
-    pub placed : Rows row body p.at
-    placed = rows_placed body ns ks live given.within given.ordered given.once p finds found
+    pub cells_there : Places place body cells
+    cells_there = cells_placed body ps live given.within given.ordered given.once cells finds.placed
 
     small : live ≤ records_max
     small = omega (arith, given.within, given.few)
 
     order : in_order (tab f live 0) ≡ true
-    order = order_at body ns ks live given.within given.ordered given.once
+    order = order_at body ps live given.within given.ordered given.once
 
     once : fields_once (tab f live 0) ≡ true
-    once = once_at body ns ks live given.within given.ordered given.once
+    once = once_at body ps live given.within given.ordered given.once
 
     inside : (i : ℕ) → i < live → under (target_of body) (f i) ≡ true → (target_run.start ≤ i) × (i < target_run.stop)
-    inside = run_inside body ns ks live given.within given.ordered given.once
+    inside = run_inside body ps live given.within given.ordered given.once
 
     bound : target_run.stop ≤ live
-    bound = run_bound body ns ks live given.within given.ordered given.once
+    bound = run_bound body ps live given.within given.ordered given.once
 
-    stands : (d : Detail) → d ∈ details body → lists (type_of body) d ≡ true → Stands (target_of body) f live row d
-    stands = pools_stand body ns ks live given.within given.ordered given.once p finds found
+    stands : (d : Detail) → d ∈ details body → lists (type_of body) d ≡ true → Stands (target_of body) f live place d
+    stands = pools_stand body ps live given.within given.ordered given.once cells finds.placed
 
     -- the test of even marks
-    module _ (m : Listed) where
+    module _ (m : Marked) where
       abbrev EvenMarks : Type 0
       EvenMarks = Even (target_of body) f live order once target_run.start target_run.stop (mark_at m)
 
-      even_out : marks_even ns m.marks target_run.start target_run.stop ≡ true → EvenMarks
+      even_out : marks_even ps m.marks target_run.start target_run.stop ≡ true → EvenMarks
       unfolding marks_even
       even_out e i h l s =
           eqb-true (mark_at m i) (mark_at m (i + 1))
           (implied (same_lot (f i) (f (i + 1))) (eqb (mark_at m i) (mark_at m (i + 1)))
-          (all_each (λ (j : ℕ). j) (even_at ns m.marks) (target_run.stop - 1 - target_run.start) target_run.start e i h (omega arith)) s)
+          (all_each (λ (j : ℕ). j) (even_at ps m.marks) (target_run.stop - 1 - target_run.start) target_run.start e i h (omega arith)) s)
 
-      even_in : EvenMarks → marks_even ns m.marks target_run.start target_run.stop ≡ true
+      even_in : EvenMarks → marks_even ps m.marks target_run.start target_run.stop ≡ true
       unfolding marks_even
       even_in e =
-          each_all (λ (j : ℕ). j) (even_at ns m.marks) (target_run.stop - 1 - target_run.start) target_run.start
-          (λ i h l. implies (same_lot (f i) (f (i + 1))) (eqb (mark_at m i) (mark_at m (i + 1))) (λ s. eq-eqb (mark_at m i) (mark_at m (i + 1)) (e i h (omega arith) s)))
+          each_all (λ (j : ℕ). j) (even_at ps m.marks) (target_run.stop - 1 - target_run.start) target_run.start
+          (λ i h l. implies (same_lot (f i) (f (i + 1))) (eqb (mark_at m i) (mark_at m (i + 1)))
+          (λ s. eq-eqb (mark_at m i) (mark_at m (i + 1)) (e i h (omega arith) s)))
 
-    abbrev numbers : Detail → List ℕ
-    numbers d = numbers_of ns (row d) d
+    abbrev its : Detail → Option Pool
+    its d = record_of ps (place d) d
 
-    abbrev marks_for : Bool → Listed
-    marks_for cc' = mark_all unmarked (entries_from cc' row 1 (details body))
+    abbrev marks_for : Bool → Marked
+    marks_for cc' = mark_all unmarked (entries_from cc' place 1 (details body))
 
     abbrev even_for : Bool → Bool
-    even_for cc' = marks_even ns (marks_for cc').marks target_run.start target_run.stop
+    even_for cc' = marks_even ps (marks_for cc').marks target_run.start target_run.stop
 
     abbrev alike_lots : Bool
-    alike_lots = (alike_all numbers none_alike (details body)).fine
+    alike_lots = (alike_all its (details body)).fine
 
     -- what is to be shown of each type
     abbrev fields_for : MessageType → List Fields
@@ -159,48 +157,56 @@ module _ (body : List ℕ) (ns ks : List (List ℕ)) (live : ℕ) (given : Finda
         (((marks_for (is_cc t)).fine && (even_for (is_cc t) && (not (is_cc t) || alike_lots)))
         ≡ ((all_live (target_of body) (fields_for t) live_rs && (distinct (fields_for t) && whole_lots (target_of body) (fields_for t) live_rs))
         && (not (is_cc t) || all (one_by_record (target_of body) live_rs) (canceled_lots (details body)))))
-        × ((marks_for (is_cc t)).fine ≡ true → (i : ℕ) → i < live → eqb (mark_at (marks_for (is_cc t)) i) 0 ≡ not (is_taken (target_of body) (fields_for t) (get_or live_rs i no_pool)))
+        × ((marks_for (is_cc t)).fine ≡ true → (i : ℕ) → i < live → eqb (mark_at (marks_for (is_cc t)) i) 0 ≡ not
+        (is_taken (target_of body) (fields_for t) (get_or live_rs i no_pool)))
 
-    rows_tab : live_rs ≡ tab f live 0
-    rows_tab = rows_are body ns ks live given.within given.ordered given.once
+    records_tab : live_rs ≡ tab f live 0
+    records_tab = places_are body ps live given.within given.ordered given.once
 
-    taken_there : (fs : List Fields) (i : ℕ) → i < live → not (is_taken (target_of body) fs (f i)) ≡ not (is_taken (target_of body) fs (get_or live_rs i no_pool))
-    taken_there fs i h = ap (λ (r : Pool). not (is_taken (target_of body) fs r)) (sym (row_at_law body ns ks live given.within given.ordered given.once i h))
+    taken_there : (fs : List Fields) (i : ℕ) → i < live
+        → not (is_taken (target_of body) fs (f i)) ≡ not (is_taken (target_of body) fs (get_or live_rs i no_pool))
+    taken_there fs i h = ap (λ (r : Pool). not (is_taken (target_of body) fs r)) (sym (record_at_law body ps live given.within given.ordered given.once i h))
 
     shown_dk : type_of body ≡ Dk → live_for Dk → Shown Dk
     shown_dk t l = (
-      dk_tests (all_live (target_of body) (fields_for Dk) live_rs) (distinct (fields_for Dk)) (whole_lots (target_of body) (fields_for Dk) live_rs) (marks_for false).fine (even_for false) alike_lots
+      dk_tests (all_live (target_of body) (fields_for Dk) live_rs) (distinct (fields_for Dk)) (whole_lots (target_of body) (fields_for Dk) live_rs)
+          (marks_for false).fine (even_for false) alike_lots
           (all (one_by_record (target_of body) live_rs) (canceled_lots (details body))) l
-          (dk_fine (target_of body) f live order once small row (details body) each)
-          (λ e. dk_even (target_of body) f live order once small row (details body) each e target_run.start target_run.stop inside bound (even_for false) (even_out (marks_for false)) (even_in (marks_for false))
-          ∙ ap (whole_lots (target_of body) (fields_for Dk)) (sym rows_tab)),
-      λ e i h. dk_taken (target_of body) f live order once small row (details body) each e i h ∙ taken_there (fields_for Dk) i h,
+          (dk_fine (target_of body) f live order once small place (details body) each)
+          (λ e. dk_even (target_of body) f live order once small place (details body) each e target_run.start target_run.stop inside bound (even_for false)
+          (even_out (marks_for false)) (even_in (marks_for false))
+          ∙ ap (whole_lots (target_of body) (fields_for Dk)) (sym records_tab)),
+      λ e i h. dk_taken (target_of body) f live order once small place (details body) each e i h ∙ taken_there (fields_for Dk) i h,
     )
       where
-        each : (d : Detail) → d ∈ details body → Stands (target_of body) f live row d
+        each : (d : Detail) → d ∈ details body → Stands (target_of body) f live place d
         each d m = stands d m (ap (λ (u : MessageType). lists u d) t)
 
     shown_cc : type_of body ≡ Cc → live_for Cc → Shown Cc
     shown_cc t l = (
-      cc_tests (all_live (target_of body) (fields_for Cc) live_rs) (distinct (fields_for Cc)) (whole_lots (target_of body) (fields_for Cc) live_rs) (all (one_by_record (target_of body) live_rs) (canceled_lots (details body)))
+      cc_tests (all_live (target_of body) (fields_for Cc) live_rs) (distinct (fields_for Cc)) (whole_lots (target_of body) (fields_for Cc) live_rs)
+          (all (one_by_record (target_of body) live_rs) (canceled_lots (details body)))
           (marks_for true).fine (even_for true) alike_lots l
-          (cc_fine (target_of body) f live order once small row (details body) formed each)
+          (cc_fine (target_of body) f live order once small place (details body) formed each)
           (λ e. ap (λ (b : Bool). even_for true && b) lots_alike
-          ∙ cc_even (target_of body) f live order once small row (details body) formed each numbers (numbers_are ns ks row) e target_run.start target_run.stop inside bound (even_for true) (even_out (marks_for true)) (even_in (marks_for true))
-          ∙ ap (λ (xs : List Pool). whole_lots (target_of body) (fields_for Cc) xs && all (one_by_record (target_of body) xs) (canceled_lots (details body))) (sym rows_tab)),
-      λ e i h. cc_taken (target_of body) f live order once small row (details body) formed each numbers (numbers_are ns ks row) e i h ∙ taken_there (fields_for Cc) i h,
+          ∙ cc_even (target_of body) f live order once small place (details body) formed each its
+          (recorded ps place) e target_run.start target_run.stop inside bound (even_for true) (even_out (marks_for true)) (even_in (marks_for true))
+          ∙ ap (λ (xs : List Pool). whole_lots (target_of body) (fields_for Cc) xs && all (one_by_record (target_of body) xs) (canceled_lots (details body)))
+          (sym records_tab)),
+      λ e i h. cc_taken (target_of body) f live order once small place (details body) formed each its (recorded ps place) e i h
+          ∙ taken_there (fields_for Cc) i h,
     )
       where
         formed : formed_for true (details body) ≡ true
         formed = given.formed (ap is_cc t)
 
-        each : (d : Detail) → d ∈ keep is_canceled (details body) → Stands (target_of body) f live row d
+        each : (d : Detail) → d ∈ keep is_canceled (details body) → Stands (target_of body) f live place d
         each d m =
             let (a, b) = keep_in is_canceled (details body) m in
             stands d a (ap (λ (u : MessageType). lists u d) t ∙ b)
 
-        lots_alike : alike_lots ≡ all (lot_alike numbers) (lots (details body))
-        lots_alike = ap (λ (s : Alike). s.fine) (alike_fold numbers none_alike (details body)) ∙ alike_pass numbers true (details body) formed
+        lots_alike : alike_lots ≡ all (lot_alike its) (lots (details body))
+        lots_alike = alike_pass its true (details body) formed
 
     shown : (t : MessageType) → type_of body ≡ t → lists_lots t ≡ true → live_for t → Shown t
     shown On e c l = absurd (false≢true c)
@@ -211,58 +217,96 @@ module _ (body : List ℕ) (ns ks : List (List ℕ)) (live : ℕ) (given : Finda
 
     all_live_law : live_for (type_of body)
     unfolding listed
-    all_live_law = sym (found_live body ns ks live given.within given.ordered p finds) ∙ found
+    all_live_law = sym (found_live body ps live given.within given.ordered (Some cells) finds)
 
-    pub decided : (r : Listed) → r ≡ judged_by (is_cc (type_of body)) row ns target_run.start target_run.stop (details body) → Decides body ns ks live r
-    unfolding judged_by listed marks_in
-    decided r e =
-        record {
-          fine = λ c. ap (λ (s : Listed). s.fine) e ∙ (shown (type_of body) refl c all_live_law).0 ∙ sym by_record;
-          marks = λ c g i h.
-              ap (λ (s : Listed). eqb (mark_at s i) 0) e
-              ∙ (shown (type_of body) refl c all_live_law).1 (and_left (marks_for (is_cc (type_of body))).fine (even_for (is_cc (type_of body)) && (not (is_cc (type_of body)) || alike_lots)) (sym (ap (λ (s : Listed). s.fine) e) ∙ g)) i h;
-          whole = λ c g. ap (λ (s : Listed). s.marks) e ∙ ap (λ (xs : List Pool). (mark_all unmarked (entries_from (is_cc (type_of body)) (row_in body xs) 1 (details body))).marks) (sym rows_tab);
-        }
+    -- ---- the judgment of the code: m the marks, e whether they are even, a whether the lots are alike
+    module _ (c : lists_lots (type_of body) ≡ true) (m : Marked) (em : m ≡ marks_for (is_cc (type_of body))) (e a : Bool)
+        (ee : e ≡ marks_even ps m.marks target_run.start target_run.stop) (ea : a ≡ (not (is_cc (type_of body)) || alike_lots)) where
+      same_marks : e ≡ even_for (is_cc (type_of body))
+      same_marks = ee ∙ ap (λ (s : Marked). marks_even ps s.marks target_run.start target_run.stop) em
+
+      judged : ((m.fine && e) && a) ≡ listed_fine body live_rs
+      unfolding listed
+      judged =
+          and_assoc m.fine e a ∙ ap (λ (s : Marked). s.fine && (e && a)) em ∙ ap (λ (b : Bool). (marks_for (is_cc (type_of body))).fine && (b && a)) same_marks
+          ∙ ap (λ (b : Bool). (marks_for (is_cc (type_of body))).fine && (even_for (is_cc (type_of body)) && b)) ea
+          ∙ (shown (type_of body) refl c all_live_law).0 ∙ sym by_record
+
+      fine_is : (r : Bool) → ((m.fine && e) && a) ≡ r → r ≡ (not (lists_lots (type_of body)) || listed_fine body live_rs)
+      fine_is r n = rw c (sym n ∙ judged)
+
+      takes_not : ((m.fine && e) && a) ≡ false → Takes body live_rs None
+      takes_not n = record { fine = fine_is false n; taken = tt }
+
+      takes_some : length m.marks ≡ records_max → ((m.fine && e) && a) ≡ true → Takes body live_rs (Some m.marks)
+      unfolding listed marks_in marks_taken
+      takes_some l n =
+          let size : length live_rs ≡ live = length-take-le live ps given.within in
+          let f : (marks_for (is_cc (type_of body))).fine ≡ true = sym (ap (λ (s : Marked). s.fine) em) ∙ and_left m.fine e (and_left (m.fine && e) a n) in
+          record {
+            fine = fine_is true n;
+            taken =
+                record {
+                  size = l;
+                  marked = λ i h. ap (λ (s : Marked). eqb (mark_at s i) 0) em ∙ (shown (type_of body) refl c all_live_law).1 f i (omega (arith, size, h));
+                  whole = rw c (ap (λ (s : Marked). s.marks) em);
+                };
+          }
 
   -- ---- the code's run
   module _ (its : Run) (is : its ≡ target_run) where
-    pub run_fits : (its.start ≤ its.stop) × (its.stop ≤ length ks)
+    pub run_fits : (its.start ≤ its.stop) × (its.stop ≤ length ps) × (its.stop ≤ records_max)
     run_fits =
-        let b = run_bound body ns ks live given.within given.ordered given.once in
+        let b = run_bound body ps live given.within given.ordered given.once in
         let e = ap (λ (x : Run). x.stop) is in
         let s = ap (λ (x : Run). x.start) is in
-        (omega (arith, run_rises (target_of body) live_rs, e, s), omega (arith, b, e, given.rows, given.within))
+        (omega (arith, run_rises (target_of body) live_rs, e, s), omega (arith, b, e, given.within), omega (arith, b, e, given.within, given.few))
 
-    module _ (p : Places) (found : Finds body ks its p) where
-      there : Finds body ks target_run p
-      there = rw is at found
+    module _ (cells : List ℕ) (placed : Placed body ps its cells) where
+      -- each cell is a place of the table, or 0
+      pub cells_fit : (i : ℕ) → i < pool_count body → get_or cells i 0 < records_max
+      cells_fit i h = cell (lists (type_of body) (pool_of body i)) refl
+        where
+          cell : (b : Bool) → lists (type_of body) (pool_of body i) ≡ b → get_or cells i 0 < records_max
+          cell true l = omega (arith, (placed.places i h l).1, run_fits.2)
+          cell false l = omega (arith, placed.others i h l)
 
-      pub search_none : not p.found ≡ true → (ms : List ℕ) → Decides body ns ks live (record { fine = false; marks = ms })
-      search_none e ms = none_found p there (not-true p.found e) ms
+      pub canceled_fit : is_cc (type_of body) ≡ true → (i : ℕ) → i < pool_count body → is_canceled (pool_of body i) ≡ true → get_or cells i 0 < length ps
+      canceled_fit c i h d = omega (arith, (placed.places i h its_listed).1, run_fits.1)
+        where
+          its_listed : lists (type_of body) (pool_of body i) ≡ true
+          its_listed = rw (cc_lists (type_of body) c, d) (or-true (lists_all (type_of body)))
 
-      module _ (some : not p.found ≡ false) (t : MessageType) (et : t ≡ type_of body) (cc : Bool) (ec : cc ≡ is_cc t) where
-        pub search_judged : Judgeable cc body ns p.at its.start its.stop
-        search_judged =
-            record {
-              rises = run_fits.0;
-              within = omega (arith, run_fits.1, given.rows);
-              few = omega (arith, run_fits.1, given.rows, given.few);
-              cells = λ i h. cell i h (lists (type_of body) (pool_of body i)) refl;
-              canceled = λ c i h d. omega (arith, (found.rows (not-false p.found some) i h (its_listed c i d)).1, run_fits.1, given.rows);
-            }
-          where
-            cell : (i : ℕ) → i < pool_count body → (b : Bool) → lists (type_of body) (pool_of body i) ≡ b → get_or p.at i 0 < records_max
-            cell i h true l = omega (arith, (found.rows (not-false p.found some) i h l).1, run_fits.1, given.rows, given.few)
-            cell i h false l = omega (arith, found.others i h l)
+  -- what the code finds of a CC or DK: its marks and whether none was there before, whether they are even, and whether a CC's lots are alike
+  module _ (its : Run) (is : its ≡ target_run) (cells : List ℕ) (found : Finds body ps its (Some cells)) (c : lists_lots (type_of body) ≡ true) (cc : Bool)
+      (ec : cc ≡ is_cc (type_of body)) (fine : Bool) (ms : List ℕ)
+      (em : (place : Detail → ℕ) → Places place body cells
+      → ◌≡◌ {A = Marked} (record { fine = fine; marks = ms }) (mark_all (record { fine = true; marks = no_marks }) (entries_from cc place 1 (details body))))
+      (e a : Bool) (ee : e ≡ marks_even ps ms its.start its.stop)
+      (ea : (place : Detail → ℕ) → Places place body cells → a ≡ (not cc || (alike_all (λ (d : Detail). record_of ps (place d) d) (details body)).fine)) where
+    there : Finds body ps target_run (Some cells)
+    there = rw is at found
 
-            its_listed : cc ≡ true → (i : ℕ) → is_canceled (pool_of body i) ≡ true → lists (type_of body) (pool_of body i) ≡ true
-            its_listed c i d = rw (ap is_cc (sym et) ∙ sym ec ∙ c, d) (or-true (lists_all (type_of body)))
+    abbrev m : Marked
+    m = record { fine = fine; marks = ms }
 
-        pub search_decided : (r : Listed) → ((row : Detail → ℕ) → Rows row body p.at → r ≡ judged_by cc row ns its.start its.stop (details body)) → Decides body ns ks live r
-        search_decided r h =
-            let f = not-false p.found some in
-            let row = row_of body ns ks live given.within given.ordered given.once in
-            decided p there f r
-            (h row (placed p there f)
-            ∙ ap (λ (x : Run). judged_by cc row ns x.start x.stop (details body)) is
-            ∙ ap (λ (b : Bool). judged_by b row ns target_run.start target_run.stop (details body)) (ec ∙ ap is_cc et))
+    marks_are : m ≡ marks_for cells there (is_cc (type_of body))
+    unfolding unmarked
+    marks_are = rw ec at (em (place cells there) (cells_there cells there))
+
+    even_is : e ≡ marks_even ps ms target_run.start target_run.stop
+    even_is = rw is at ee
+
+    alike_is : a ≡ (not (is_cc (type_of body)) || alike_lots cells there)
+    alike_is = rw ec at (ea (place cells there) (cells_there cells there))
+
+    size : length ms ≡ records_max
+    size =
+        ap (λ (s : Marked). length s.marks) marks_are
+        ∙ length_marks unmarked (entries_from (is_cc (type_of body)) (place cells there) 1 (details body)) ∙ unmarked_length
+
+    pub judged_some : ((fine && e) && a) ≡ true → Takes body live_rs (Some ms)
+    judged_some n = takes_some cells there c m marks_are e a even_is alike_is size n
+
+    pub judged_not : ((fine && e) && a) ≡ false → Takes body live_rs None
+    judged_not n = takes_not cells there c m marks_are e a even_is alike_is n

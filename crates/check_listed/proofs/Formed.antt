@@ -32,7 +32,8 @@ some_left d ds e g ms p = absurd (false≢true (sym e ∙ (rw p at g)))
 -- ---- a state that is held at each pool: after the last end, it is that of the lots
 module _ {S A : Type 0} (step : S → Detail → S) (hold : List Detail → A → S) (take_lot : A → Lot → A)
     (middle : (ms : List Detail) (a : A) (d : Detail) → is_end (term d) ≡ false → step (hold ms a) d ≡ hold (ms ++ (d ∷ [])) a)
-    (last : (ms : List Detail) (a : A) (d : Detail) → is_end (term d) ≡ true → step (hold ms a) d ≡ hold [] (take_lot a (record { middles = ms; last = d }))) where
+    (last : (ms : List Detail) (a : A) (d : Detail) → is_end (term d) ≡ true
+    → step (hold ms a) d ≡ hold [] (take_lot a (record { middles = ms; last = d }))) where
   whole_from : (first : ℕ → Bool) (ms : List Detail) (a : A) (ds : List Detail) → (ds ≡ [] → ms ≡ []) → lots_formed first ds ≡ true
       → fold step (hold ms a) ds ≡ hold [] (fold take_lot a (lots_from ms ds))
   whole_from first ms a [] w f = ap (λ (l : List Detail). hold l a) (w refl)
@@ -44,9 +45,11 @@ module _ {S A : Type 0} (step : S → Detail → S) (hold : List Detail → A �
       below = formed_below first d ds f
 
       go : (b : Bool) → is_end (term d) ≡ b
-          → fold step (hold [] (take_lot a (record { middles = ms; last = d }))) ds ≡ hold [] (fold take_lot (take_lot a (record { middles = ms; last = d })) (lots_from [] ds))
+          → fold step (hold [] (take_lot a (record { middles = ms; last = d }))) ds
+          ≡ hold [] (fold take_lot (take_lot a (record { middles = ms; last = d })) (lots_from [] ds))
           → (is_end (term d) ≡ false → fold step (hold (ms ++ (d ∷ [])) a) ds ≡ hold [] (fold take_lot a (lots_from (ms ++ (d ∷ [])) ds)))
-          → fold step (step (hold ms a) d) ds ≡ hold [] (fold take_lot a (cond b (record { middles = ms; last = d } ∷ lots_from [] ds) (lots_from (ms ++ (d ∷ [])) ds)))
+          → fold step (step (hold ms a) d) ds
+          ≡ hold [] (fold take_lot a (cond b (record { middles = ms; last = d } ∷ lots_from [] ds) (lots_from (ms ++ (d ∷ [])) ds)))
       go true e h k = ap (λ (s : S). fold step s ds) (last ms a d e) ∙ h
       go false e h k = ap (λ (s : S). fold step s ds) (middle ms a d e) ∙ k e
 
@@ -62,11 +65,13 @@ next (d ∷ ds) m = eqb (one m) (one d)
 abbrev even_lot : Lot → Bool
 even_lot l = all (λ (m : Detail). eqb (one m) (one l.last)) l.middles
 
-even_from : (first : ℕ → Bool) (ms ds : List Detail) → (ds ≡ [] → ms ≡ []) → all (next ds) ms ≡ true → lots_formed first ds ≡ true → all even_lot (lots_from ms ds) ≡ true
+even_from : (first : ℕ → Bool) (ms ds : List Detail) → (ds ≡ [] → ms ≡ []) → all (next ds) ms ≡ true → lots_formed first ds ≡ true
+    → all even_lot (lots_from ms ds) ≡ true
 even_from first ms [] w h f = refl
 even_from first ms (d ∷ ds) w h f =
     go (is_end (term d)) refl (even_from first [] ds (λ p. refl) refl (formed_below first d ds f))
-    (λ e. even_from first (ms ++ (d ∷ [])) ds (some_left d ds e (formed_on first d ds f) (ms ++ (d ∷ []))) (on ds e (formed_on first d ds f)) (formed_below first d ds f))
+    (λ e. even_from first (ms ++ (d ∷ [])) ds (some_left d ds e (formed_on first d ds f) (ms ++ (d ∷ []))) (on ds e (formed_on first d ds f))
+    (formed_below first d ds f))
   where
     on : (es : List Detail) → is_end (term d) ≡ false → goes_on d es ≡ true → all (next es) (ms ++ (d ∷ [])) ≡ true
     on [] e g = absurd (false≢true (sym e ∙ g))
@@ -76,13 +81,15 @@ even_from first ms (d ∷ ds) w h f =
         (all_implied (next (d ∷ ds)) (next (x ∷ xs)) (λ m k. eq-eqb (one m) (one x) (eqb-true (one m) (one d) k ∙ eqb-true (one d) (one x) q)) ms h)
         (rw q)
 
-    go : (b : Bool) → is_end (term d) ≡ b → all even_lot (lots_from [] ds) ≡ true → (is_end (term d) ≡ false → all even_lot (lots_from (ms ++ (d ∷ [])) ds) ≡ true)
+    go : (b : Bool) → is_end (term d) ≡ b → all even_lot (lots_from [] ds) ≡ true
+        → (is_end (term d) ≡ false → all even_lot (lots_from (ms ++ (d ∷ [])) ds) ≡ true)
         → all even_lot (cond b (record { middles = ms; last = d } ∷ lots_from [] ds) (lots_from (ms ++ (d ∷ [])) ds)) ≡ true
     go true e k j = both (all (λ (m : Detail). eqb (one m) (one d)) ms) (all even_lot (lots_from [] ds)) h k
     go false e k j = j e
 
 -- a lot's pools are canceled all or none
-pub canceled_alike : (cc : Bool) (ds : List Detail) → formed_for cc ds ≡ true → (l : Lot) → l ∈ lots ds → (d : Detail) → d ∈ pools_of l → is_canceled d ≡ lot_canceled l
+pub canceled_alike : (cc : Bool) (ds : List Detail) → formed_for cc ds ≡ true → (l : Lot) → l ∈ lots ds → (d : Detail) → d ∈ pools_of l
+    → is_canceled d ≡ lot_canceled l
 unfolding formed_for lots
 canceled_alike cc ds f l m d k = ap (λ (n : ℕ). eqb n digit_canceled) (by (Memᴰ.append_cases l.middles k))
   where
@@ -97,5 +104,6 @@ canceled_alike cc ds f l m d k = ap (λ (n : ℕ). eqb n digit_canceled) (by (Me
         of (inl p) = ap one p
         of (inr p) = absurd (Memᴰ.not-nil p)
 
-pub canceled_pools : (cc : Bool) (ds : List Detail) → formed_for cc ds ≡ true → (l : Lot) → l ∈ lots ds → keep is_canceled (pools_of l) ≡ cond (lot_canceled l) (pools_of l) []
+pub canceled_pools : (cc : Bool) (ds : List Detail) → formed_for cc ds ≡ true → (l : Lot) → l ∈ lots ds
+    → keep is_canceled (pools_of l) ≡ cond (lot_canceled l) (pools_of l) []
 canceled_pools cc ds f l m = keep_const is_canceled (lot_canceled l) (pools_of l) (canceled_alike cc ds f l m)

@@ -46,7 +46,8 @@ module _ (f : ℕ → Pool) where
   follows_near zero i e k h l = absurd (omega arith)
   follows_near (suc zero) i e k h l = absurd (omega arith)
   follows_near (suc (suc n)) i e k h l =
-      go (ℕ_discrete k i) (λ (g : i + 1 ≤ k). follows_near (suc n) (i + 1) (and_right (follows (f i) (f (i + 1))) (in_order (tab f (suc n) (i + 1))) e) k g (omega arith))
+      go (ℕ_discrete k i) (λ (g : i + 1 ≤ k). follows_near (suc n) (i + 1) (and_right (follows (f i) (f (i + 1))) (in_order (tab f (suc n) (i + 1))) e) k g
+      (omega arith))
     where
       go : Dec (k ≡ i) → (i + 1 ≤ k → follows (f k) (f (k + 1)) ≡ true) → follows (f k) (f (k + 1)) ≡ true
       go (yes p) below = rw p (and_left (follows (f i) (f (i + 1))) (in_order (tab f (suc n) (i + 1))) e)
@@ -56,19 +57,22 @@ module _ (f : ℕ → Pool) where
   follows_far n e i zero l = follows_near n 0 e i (omega arith) (omega arith)
   follows_far n e i (suc d) l =
       let s : i + suc (suc d) ≡ (i + suc d) + 1 = omega arith in
-      rw s (follows_trans (f i) (f (i + suc d)) (f (i + suc d + 1)) (follows_far n e i d (omega arith)) (follows_near n 0 e (i + suc d) (omega arith) (omega arith)))
+      rw s (follows_trans (f i) (f (i + suc d)) (f (i + suc d + 1)) (follows_far n e i d (omega arith))
+      (follows_near n 0 e (i + suc d) (omega arith) (omega arith)))
 
   once_apart : (n i : ℕ) → fields_once (tab f n i) ≡ true → (k j : ℕ) → i ≤ k → k < j → j < i + n
       → (eqb (f k).message (f j).message && same_fields (live_fields (f k)) (live_fields (f j))) ≡ true → ⊥
   once_apart zero i e k j h l g c = omega arith
-  once_apart (suc n) i e k j h l g c = go (ℕ_discrete k i) (λ (q : i + 1 ≤ k). once_apart n (i + 1) (and_right (not here) (fields_once (tab f n (i + 1))) e) k j q l (omega arith) c)
+  once_apart (suc n) i e k j h l g c =
+      go (ℕ_discrete k i) (λ (q : i + 1 ≤ k). once_apart n (i + 1) (and_right (not here) (fields_once (tab f n (i + 1))) e) k j q l (omega arith) c)
     where
       here : Bool
       here = any (λ (s : Pool). eqb (f i).message s.message && same_fields (live_fields (f i)) (live_fields s)) (tab f n (i + 1))
 
       go : Dec (k ≡ i) → (i + 1 ≤ k → ⊥) → ⊥
       go (yes p) below =
-          clash (any_in (λ (s : Pool). eqb (f i).message s.message && same_fields (live_fields (f i)) (live_fields s)) (tab_in f n (i + 1) j (omega arith) (omega arith)) (rw p at c))
+          clash (any_in (λ (s : Pool). eqb (f i).message s.message && same_fields (live_fields (f i)) (live_fields s))
+          (tab_in f n (i + 1) j (omega arith) (omega arith)) (rw p at c))
           (not-true here (and_left (not here) (fields_once (tab f n (i + 1))) e))
       go (no p) below = below (omega (arith, p))
 
@@ -98,8 +102,8 @@ module _ (f : ℕ → Pool) (n : ℕ) (order : in_order (tab f n 0) ≡ true) (o
           (sym w.0, sym w.1)
 
   -- no two records of a message have equal fields
-  pub row_once : (i j : ℕ) → i < n → j < n → (f i).message ≡ (f j).message → live_fields (f i) ≡ live_fields (f j) → i ≡ j
-  row_once i j h l m e = go (ℕ_discrete i j) (dec_lt i j)
+  pub place_once : (i j : ℕ) → i < n → j < n → (f i).message ≡ (f j).message → live_fields (f i) ≡ live_fields (f j) → i ≡ j
+  place_once i j h l m e = go (ℕ_discrete i j) (dec_lt i j)
     where
       go : Dec (i ≡ j) → Dec (i < j) → i ≡ j
       go (yes p) d = p

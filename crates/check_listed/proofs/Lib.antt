@@ -11,7 +11,6 @@ pub mod Exact
 pub mod Whole
 pub mod Canceled
 pub mod Passes
-pub mod Judged
 pub mod Placed
 pub mod Fine
 pub mod Taking

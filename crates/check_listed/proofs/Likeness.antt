@@ -4,21 +4,23 @@ use mathlib.Core.Path.{◌≡◌, refl, sym, ap, ◌∙◌}
 use mathlib.Core.Logic.{◌⊎◌, inl, inr}
 use mathlib.Core.List.Memᴰ
 use mathlib.Core.List.{List, [], ◌∷◌, ◌++◌}
-use mathlib.Core.Bool.{Bool, true, false, cond, not, ◌&&◌, ◌||◌, and-true, and_assoc}
+use mathlib.Core.Bool.{Bool, true, false, ◌&&◌, and-true, and_assoc}
 use lib.Dec.{eqb}
 use borrow.Author.Tests.{eq-eqb, eqb-true}
+use Rattle.std.specs.Prelude.{Option, Some, None, unwrap_or}
 use Rattle.lists.specs.Lists.{all, fold}
 use Rattle.lists.proofs.Tests.{◌∈◌, all_in, all_out, all_append}
 use Rattle.layout.specs.declared.Detail.{Detail}
 use Rattle.terminator.specs.Terminators.{is_end, term}
 use Rattle.terminator.specs.Lots.{Lot, pools_of, lots, formed_for}
+use Rattle.book.specs.declared.Pool.{Pool}
 use Rattle.check_listed.specs.declared.Alike.{Alike}
-use Rattle.check_listed.specs.Lots.{ordinal_in, last_fits, alike_pool, none_alike}
+use Rattle.check_listed.specs.Lots.{ordinal_in, last_fits, alike_pool, alike_all}
 use Rattle.check_listed.proofs.Formed.{whole_lots_law}
 
-module _ (numbers : Detail → List ℕ) where
+module _ (its_record : Detail → Option Pool) where
   abbrev pub ordinal_of : Detail → ℕ
-  ordinal_of d = ordinal_in (numbers d)
+  ordinal_of d = ordinal_in (its_record d)
 
   -- whether some pools have one ordinal
   abbrev pub one_ordinal : List Detail → Bool
@@ -26,63 +28,57 @@ module _ (numbers : Detail → List ℕ) where
   one_ordinal (x ∷ xs) = all (λ (d : Detail). eqb (ordinal_of x) (ordinal_of d)) xs
 
   abbrev pub lot_alike : Lot → Bool
-  lot_alike l = one_ordinal (pools_of l) && last_fits l.last (numbers l.last)
+  lot_alike l = one_ordinal (pools_of l) && last_fits l.last (its_record l.last)
 
   abbrev alike_on : Alike → Detail → Alike
-  alike_on s d = alike_pool s d (numbers d)
+  alike_on s d = alike_pool s d (its_record d)
 
-  abbrev some : List Detail → Bool
-  some [] = false
-  some (x ∷ xs) = true
-
-  abbrev first_of : List Detail → ℕ
-  first_of [] = 0
-  first_of (x ∷ xs) = ordinal_of x
+  -- the ordinal of the first of some pools
+  abbrev first_of : List Detail → Option ℕ
+  first_of [] = None
+  first_of (x ∷ xs) = Some (ordinal_of x)
 
   abbrev hold : List Detail → Bool → Alike
-  hold ms a = record { fine = a && one_ordinal ms; begun = some ms; ordinal = first_of ms }
+  hold ms a = record { fine = a && one_ordinal ms; lot = first_of ms }
 
   abbrev take_lot : Bool → Lot → Bool
   take_lot a l = a && lot_alike l
 
-  -- with one pool more
-  one_more_law : (ms : List Detail) (d : Detail) → one_ordinal (ms ++ (d ∷ [])) ≡ (one_ordinal ms && (not (some ms) || eqb (first_of ms) (ordinal_of d)))
-  one_more_law [] d = refl
-  one_more_law (x ∷ xs) d = all_append (λ (y : Detail). eqb (ordinal_of x) (ordinal_of y)) xs (d ∷ []) ∙ ap (λ (b : Bool). all (λ (y : Detail). eqb (ordinal_of x) (ordinal_of y)) xs && b) (and-true (eqb (ordinal_of x) (ordinal_of d)))
+  -- whether one pool more has that ordinal
+  abbrev goes_with : List Detail → Detail → Bool
+  goes_with ms d = eqb (unwrap_or (first_of ms) (ordinal_of d)) (ordinal_of d)
 
-  firsts : (ms : List Detail) (d : Detail) → cond (some ms) (first_of ms) (ordinal_of d) ≡ first_of (ms ++ (d ∷ []))
+  one_more_law : (ms : List Detail) (d : Detail) → one_ordinal (ms ++ (d ∷ [])) ≡ (one_ordinal ms && goes_with ms d)
+  one_more_law [] d = sym (eq-eqb (ordinal_of d) (ordinal_of d) refl)
+  one_more_law (x ∷ xs) d =
+      all_append (λ (y : Detail). eqb (ordinal_of x) (ordinal_of y)) xs (d ∷ [])
+      ∙ ap (λ (b : Bool). all (λ (y : Detail). eqb (ordinal_of x) (ordinal_of y)) xs && b) (and-true (eqb (ordinal_of x) (ordinal_of d)))
+
+  fine_more : (ms : List Detail) (a : Bool) (d : Detail) → ((a && one_ordinal ms) && goes_with ms d) ≡ (a && one_ordinal (ms ++ (d ∷ [])))
+  fine_more ms a d = and_assoc a (one_ordinal ms) (goes_with ms d) ∙ ap (λ (b : Bool). a && b) (sym (one_more_law ms d))
+
+  firsts : (ms : List Detail) (d : Detail) → Some (unwrap_or (first_of ms) (ordinal_of d)) ≡ first_of (ms ++ (d ∷ []))
   firsts [] d = refl
   firsts (x ∷ xs) d = refl
 
-  some_more : (ms : List Detail) (d : Detail) → true ≡ some (ms ++ (d ∷ []))
-  some_more [] d = refl
-  some_more (x ∷ xs) d = refl
-
   hold_middle : (ms : List Detail) (a : Bool) (d : Detail) → is_end (term d) ≡ false → alike_on (hold ms a) d ≡ hold (ms ++ (d ∷ [])) a
   unfolding alike_pool
-  hold_middle ms a d e =
-      rw e (λ i. record {
-        fine = (and_assoc a (one_ordinal ms) (not (some ms) || eqb (first_of ms) (ordinal_of d)) ∙ ap (λ (b : Bool). a && b) (sym (one_more_law ms d))) i;
-        begun = some_more ms d i;
-        ordinal = firsts ms d i;
-      })
+  hold_middle ms a d e = rw e (λ i. record { fine = fine_more ms a d i; lot = firsts ms d i })
 
-  hold_last : (ms : List Detail) (a : Bool) (d : Detail) → is_end (term d) ≡ true → alike_on (hold ms a) d ≡ hold [] (take_lot a (record { middles = ms; last = d }))
+  hold_last : (ms : List Detail) (a : Bool) (d : Detail) → is_end (term d) ≡ true
+      → alike_on (hold ms a) d ≡ hold [] (take_lot a (record { middles = ms; last = d }))
   unfolding alike_pool
   hold_last ms a d e =
-      let t : Bool = not (some ms) || eqb (first_of ms) (ordinal_of d) in
-      let l : Bool = last_fits d (numbers d) in
-      let p : ((a && one_ordinal ms) && (t && l)) ≡ ((a && (one_ordinal (ms ++ (d ∷ [])) && l)) && true) =
-      and_assoc a (one_ordinal ms) (t && l)
-      ∙ ap (λ (b : Bool). a && b) (sym (and_assoc (one_ordinal ms) t l) ∙ ap (λ (b : Bool). b && l) (sym (one_more_law ms d)))
-      ∙ sym (and-true (a && (one_ordinal (ms ++ (d ∷ [])) && l))) in
-      rw e (λ i. record { fine = p i; begun = false; ordinal = 0 })
+      let l : Bool = last_fits d (its_record d) in
+      let p : (((a && one_ordinal ms) && goes_with ms d) && l) ≡ ((a && (one_ordinal (ms ++ (d ∷ [])) && l)) && true) =
+      ap (λ (b : Bool). b && l) (fine_more ms a d) ∙ and_assoc a (one_ordinal (ms ++ (d ∷ []))) l ∙ sym (and-true (a && (one_ordinal (ms ++ (d ∷ [])) && l))) in
+      rw e (λ i. record { fine = p i; lot = None })
 
   fold_lots : (a : Bool) (ls : List Lot) → fold take_lot a ls ≡ (a && all lot_alike ls)
   fold_lots a [] = sym (and-true a)
   fold_lots a (l ∷ ls) = fold_lots (a && lot_alike l) ls ∙ and_assoc a (lot_alike l) (all lot_alike ls)
 
-  pub alike_pass : (cc : Bool) (ds : List Detail) → formed_for cc ds ≡ true → (fold alike_on none_alike ds).fine ≡ all lot_alike (lots ds)
+  pub alike_pass : (cc : Bool) (ds : List Detail) → formed_for cc ds ≡ true → (alike_all its_record ds).fine ≡ all lot_alike (lots ds)
   alike_pass cc ds f =
       ap (λ (s : Alike). s.fine) (whole_lots_law alike_on hold take_lot hold_middle hold_last cc true ds f)
       ∙ and-true (fold take_lot true (lots ds))
@@ -102,4 +98,5 @@ module _ (numbers : Detail → List ℕ) where
 
   pub ordinal_in_law : (ms : List Detail) → ((x y : Detail) → x ∈ ms → y ∈ ms → ordinal_of x ≡ ordinal_of y) → one_ordinal ms ≡ true
   ordinal_in_law [] h = refl
-  ordinal_in_law (m ∷ ms) h = all_in (λ (d : Detail). eqb (ordinal_of m) (ordinal_of d)) ms (λ d k. eq-eqb (ordinal_of m) (ordinal_of d) (h m d (Memᴰ.head refl) (Memᴰ.tail k)))
+  ordinal_in_law (m ∷ ms) h =
+      all_in (λ (d : Detail). eqb (ordinal_of m) (ordinal_of d)) ms (λ d k. eq-eqb (ordinal_of m) (ordinal_of d) (h m d (Memᴰ.head refl) (Memᴰ.tail k)))

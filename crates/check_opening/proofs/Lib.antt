@@ -1,4 +1,3 @@
-pub mod Names
 pub mod Marked
-pub mod Rules
+pub mod Names
 pub mod Opened

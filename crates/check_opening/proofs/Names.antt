@@ -1,30 +1,45 @@
--- IDs: whole lists compared as parts, and names repeat where the first stands among the rest or the rest repeat.
-use mathlib.Core.Path.{◌≡◌, sym, ap, ◌∙◌}
-use mathlib.Core.List.{List, ◌∷◌}
-use mathlib.Core.Bool.{true, false}
-use Prim.Native.Nat.{ℕ, ◌≤◌}
-use native.Mathlib.Omega.{arith}
-use lib.ListN.{length, take}
-use lib.Seq.{take_all, take-length}
-use Rattle.lists.specs.Lists.{part, same, any}
-use Rattle.lists.proofs.Parts.{in_within}
-use Rattle.fields.specs.Fields.{same_part}
+-- Whether an ID stands twice among the trades from a place on: where the ID of the trade there stands again, or among the trades after it.
+use mathlib.Core.Path.{◌≡◌, refl, ap, ◌∙◌}
+use mathlib.Core.List.{List, [], ◌∷◌, map}
+use mathlib.Core.Bool.{Bool, true, false, ◌||◌}
+use Prim.Native.Nat.{ℕ, ◌+◌, ◌-◌, ◌<◌}
+use lib.ListN.{length, get_or, take, drop}
+use lib.Dec.{eqb}
+use Rattle.std.proofs.lemmas.List.{take_rest}
+use Rattle.lists.specs.Lists.{same, any}
+use Rattle.lists.proofs.Parts.{drop_turn}
+use Rattle.book.specs.declared.Trade.{Trade}
+use Rattle.book.specs.Trades.{trade_name}
 use Rattle.book.specs.Opening.{names_repeat}
+use Rattle.check_opening.specs.Marks.{mark_of}
+use Rattle.check_opening.proofs.Marked.{unmarked_later}
 
--- two lists as long as each other are compared as parts of that length
-pub same_whole : (a b : List ℕ) → length a ≡ length b → same_part a 0 b 0 (length a) ≡ same a b
-unfolding same_part part
-same_whole a b e =
-    let g : take (length a) b ≡ b = rw e (take-length b) in
-    rw (in_within a 0 (length a) (omega arith) (omega arith), in_within b 0 (length a) (omega arith) (omega arith), take-length a, g)
+-- a test of what a function makes of some elements is a test of the elements
+pub any_map : {A B : Type 0} (p : B → Bool) (f : A → B) (xs : List A) → any p (map f xs) ≡ any (λ (x : A). p (f x)) xs
+any_map p f [] = refl
+any_map p f (x ∷ xs) = ap (λ (b : Bool). p (f x) || b) (any_map p f xs)
 
--- where more are asked for than there are, all are taken
-pub take_most : (xs : List ℕ) (n k : ℕ) → length xs ≡ n → n ≤ k → take n xs ≡ take k xs
-take_most xs n k e h = take_all n xs (omega arith) ∙ sym (take_all k xs (omega arith))
+module _ (ts : List Trade) (i : ℕ) (d : Trade) (h : i < length ts) where
+  -- some later trade has the ID of the trade there
+  abbrev Again : Bool → Type 0
+  Again b = any (λ (t : Trade). same (trade_name (get_or ts i d)) (trade_name t)) (take (length ts - (i + 1)) (drop (i + 1) ts)) ≡ b
 
-module _ {left rest : List (List ℕ)} {x : List ℕ} (turn : left ≡ x ∷ rest) where
-  pub repeat_stop : any (same x) rest ≡ true → names_repeat left ≡ true
-  repeat_stop e = ap names_repeat turn ∙ rw e
+  names_turn : (b : Bool) → any (same (trade_name (get_or ts i d))) (map trade_name (drop (i + 1) ts)) ≡ b
+      → names_repeat (map trade_name (drop i ts)) ≡ (b || names_repeat (map trade_name (drop (i + 1) ts)))
+  names_turn b e =
+      ap (λ (l : List Trade). names_repeat (map trade_name l)) (drop_turn ts i d h) ∙ ap (λ (c : Bool). c || names_repeat (map trade_name (drop (i + 1) ts))) e
 
-  pub repeat_more : any (same x) rest ≡ false → names_repeat left ≡ names_repeat rest
-  repeat_more e = ap names_repeat turn ∙ rw e
+  names_again : (b : Bool) → Again b → names_repeat (map trade_name (drop i ts)) ≡ (b || names_repeat (map trade_name (drop (i + 1) ts)))
+  names_again b e = names_turn b (any_map (same (trade_name (get_or ts i d))) trade_name (drop (i + 1) ts) ∙ (rw take_rest at e))
+
+  pub names_stop : Again true → names_repeat (map trade_name (drop i ts)) ≡ true
+  names_stop e = names_again true e
+
+  pub names_more : Again false → names_repeat (map trade_name (drop i ts)) ≡ names_repeat (map trade_name (drop (i + 1) ts))
+  names_more e = names_again false e
+
+  -- its mark does not stand among those of the later trades
+  pub marks_more : (marks : List ℕ) → take (length ts) marks ≡ map mark_of (map trade_name ts)
+      → any (eqb (get_or marks i 0)) (take (length ts - (i + 1)) (drop (i + 1) marks)) ≡ false
+      → names_repeat (map trade_name (drop i ts)) ≡ names_repeat (map trade_name (drop (i + 1) ts))
+  marks_more marks whole e = names_turn false (unmarked_later trade_name ts marks whole i d h e)

@@ -1,3 +1,1 @@
-pub mod Guards
-pub mod Keyed
 pub mod Trying

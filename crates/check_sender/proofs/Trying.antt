@@ -1,49 +1,32 @@
--- The loop over the keys: the checks from the i-th on still give the verdict.
-use mathlib.Core.Path.{◌≡◌, refl, sym, ap, ◌∙◌}
-use mathlib.Core.List.{List, [], ◌∷◌, ◌++◌, map}
-use Prim.Native.Nat.{ℕ, ◌+◌, ◌≤◌, ◌<◌}
-use lib.ListN.{length, get_or, drop, drop_of_length-le}
-use Rattle.lists.proofs.Parts.{drop_turn}
+-- A check by what its test says, before the checks that come after it: one that fails gives its reason, and after one that passes the others decide.
+use Rattle.std.proofs.Common.{◌≡◌, Bool, true, false, cond, ◌&&◌, ◌++◌, Ok, Err, refl, sym, ◌∙◌, List}
 use Rattle.book.specs.declared.Reason.{Reason}
-use Rattle.book.specs.declared.Verdict.{Verdict}
-use Rattle.book.specs.declared.Verdict.TheVariants.{Passes, Fails}
-use Rattle.book.specs.Checks.{Call, Check, sender_checks, first_failing}
-use Rattle.book.proofs.Firsts.{first_late, first_early}
-use Rattle.check_sender.specs.Order.{with_key}
+use Rattle.book.specs.Reasons.{Verdict}
+use Rattle.book.specs.Checks.{Call, Check, first_failing, sender_checks}
+use Rattle.book.proofs.Firsts.{fails_not, first_late, first_early}
+use Rattle.check_sender.specs.Parts.{line_checks, common_checks, cc_checks, dk_checks}
 
--- the keys in the order of the checks
-abbrev pub order : List ℕ
-order = map (λ (k : Check). k.key) sender_checks
+pub stops : (b : Bool) (r q : Reason) (v w rest : Verdict) → v ≡ cond b (Err r) (Ok tt) → v ≡ Err q → w ≡ Err q → w ≡ cond b (Err r) rest
+stops true r q v w rest e f g = g ∙ sym f ∙ e
+stops false r q v w rest e f g = fails_not (sym f ∙ e)
 
-abbrev keyed : List ℕ → List Check
-keyed [] = []
-keyed (n ∷ ns) = with_key n sender_checks ++ keyed ns
+pub goes : (b : Bool) (r : Reason) (v w rest : Verdict) → v ≡ cond b (Err r) (Ok tt) → v ≡ Ok tt → w ≡ rest → w ≡ cond b (Err r) rest
+goes true r v w rest e f g = fails_not (sym e ∙ f)
+goes false r v w rest e f g = g
 
--- they name the checks in their order
-in_order_law : keyed order ≡ sender_checks
-unfolding sender_checks
-in_order_law = refl
+-- a check that is nothing but its type
+pub sure : (b : Bool) → b ≡ (b && true)
+sure true = refl
+sure false = refl
 
+-- ---- the four parts, one after another
 module _ (x : Call) where
-  abbrev first : List ℕ → Verdict
-  first ns = first_failing (keyed ns) x
+  pub parted : first_failing (line_checks ++ (common_checks ++ (cc_checks ++ dk_checks))) x ≡ first_failing sender_checks x
+  unfolding sender_checks
+  parted = refl
 
-  abbrev pub Left : ℕ → Type 0
-  Left i = first (drop i order) ≡ first_failing sender_checks x
+  pub part_stops : (ks js : List Check) (q : Reason) (v w : Verdict) → v ≡ first_failing ks x → v ≡ Err q → w ≡ Err q → w ≡ first_failing (ks ++ js) x
+  part_stops ks js q v w e f g = g ∙ sym (first_early x ks js q (sym e ∙ f))
 
-  pub left_none : Left 0
-  left_none = ap (λ (ks : List Check). first_failing ks x) in_order_law
-
-  module _ (i : ℕ) (inv : Left i) where
-    pub left_done : length order ≤ i → Passes ≡ first_failing sender_checks x
-    left_done h = sym (ap first (drop_of_length-le order {i = i} h)) ∙ inv
-
-    module _ (h : i < length order) where
-      turn : first_failing (with_key (get_or order i 0) sender_checks ++ keyed (drop (i + 1) order)) x ≡ first_failing sender_checks x
-      turn = sym (ap first (drop_turn order i 0 h)) ∙ inv
-
-      pub left_fails : (v : Verdict) (r : Reason) → v ≡ Fails r → v ≡ first_failing (with_key (get_or order i 0) sender_checks) x → v ≡ first_failing sender_checks x
-      left_fails v r f e = f ∙ sym (first_early x (with_key (get_or order i 0) sender_checks) (keyed (drop (i + 1) order)) r (sym e ∙ f)) ∙ turn
-
-      pub left_more : (v : Verdict) → v ≡ Passes → v ≡ first_failing (with_key (get_or order i 0) sender_checks) x → Left (i + 1)
-      left_more v f e = sym (first_late x (with_key (get_or order i 0) sender_checks) (keyed (drop (i + 1) order)) (sym e ∙ f)) ∙ turn
+  pub part_goes : (ks js : List Check) (v w : Verdict) → v ≡ first_failing ks x → v ≡ Ok tt → w ≡ first_failing js x → w ≡ first_failing (ks ++ js) x
+  part_goes ks js v w e f g = g ∙ sym (first_late x ks js (sym e ∙ f))

@@ -1,31 +1,20 @@
--- The facts of number 42 in their order: the first that fails decides, and where all before it hold, the rest does.
-use mathlib.Core.Path.{◌≡◌, refl, sym, ap, ◌∙◌}
-use mathlib.Core.List.{List}
-use mathlib.Core.Bool.{Bool, true, false, not, ◌&&◌, ◌||◌}
-use Prim.Native.Nat.{ℕ, ◌+◌, ◌≤◌, ◌<◌}
-use native.Mathlib.Omega.{arith}
-use lib.ListN.{length, take, drop}
-use lib.Dec.{eqb, leb, ltb}
-use borrow.Author.Tests.{eq-eqb, ne_eqb, eqb-true, le-leb, lt-leb, leb-true, ltb-true, not-true, not-false}
+-- The facts of number 42 in their order, and what they give to those after them.
+use Rattle.std.proofs.Common.{◌≡◌, ℕ, suc, ◌+◌, ◌<◌, ◌≤◌, Bool, true, false, ◌&&◌, ◌||◌, eqb, leb, ltb, List, [], ◌∷◌, length, get_or, take, drop, refl, sym, ap, ap₂, ◌∙◌, arith, eqb-true, leb-true, ltb-true}
+use mathlib.Core.Bool.{and_assoc}
+use Rattle.std.specs.List.{zip}
+use Rattle.std.proofs.lemmas.List.Elements.{All-nil, All-cons}
 use Rattle.lists.specs.Lists.{all, between}
 use Rattle.lists.proofs.Tests.{and_left, and_right}
 use Rattle.sequence.specs.Sequence.{sound_line}
+use Rattle.book.specs.declared.Trade.{Trade}
 use Rattle.book.specs.declared.Pool.{Pool}
 use Rattle.book.specs.declared.Values.{Values}
 use Rattle.book.specs.declared.Book.{Book}
-use Rattle.book.specs.Records.{kind_good, kind_odd, kind_bad}
 use Rattle.book.specs.Trades.{trades_of}
+use Rattle.book.specs.Records.{kind_good, kind_odd, kind_bad, trade_weight}
 use Rattle.book.specs.Opening.{trades_max, records_max, eleven_digits_max, values_fine}
 use Rattle.book.specs.Soundness.{kind_fine, record_fine, in_order, fields_once, is_none, pars_from, is_sound}
-use Rattle.rows.specs.Rows.{record_at, table_of}
-use Rattle.rows.proofs.Rows.{length_table, take_table}
-use Rattle.check_soundness.specs.Parts.{against, RowsFine, Light}
-use Rattle.check_soundness.proofs.Rows.{all_at}
-
--- ---- what the facts give to those after them
-pub and_fails : (a b c : Bool) → (a && b) ≡ false → (a && (b && c)) ≡ false
-and_fails true b c e = rw e
-and_fails false b c e = refl
+use Rattle.check_soundness.specs.Parts.{light_one, Light, makes_up, book_fine}
 
 few_millions : (r : Pool) → kind_fine r ≡ true → r.millions ≤ 99
 few_millions r e = go (eqb r.kind kind_good && between 1 99 r.millions) refl e
@@ -39,7 +28,7 @@ module _ (v : Values) where
   unfolding values_fine
   few_trades e = leb-true v.lent.tradeCount trades_max (and_left _ _ (and_left _ _ e))
 
-  pub record_light : (r : Pool) → record_fine v r ≡ true → (r.trade < v.lent.tradeCount) × (r.current ≤ eleven_digits_max) × (r.millions ≤ 99)
+  record_light : (r : Pool) → record_fine v r ≡ true → (r.trade < v.lent.tradeCount) × (r.current ≤ eleven_digits_max) × (r.millions ≤ 99)
   record_light r e =
       let kind = kind_fine r in
       let face = leb r.current eleven_digits_max in
@@ -49,86 +38,51 @@ module _ (v : Values) where
         few_millions r (and_right face kind past),
       )
 
-  pub light : (ns ks : List (List ℕ)) (live : ℕ) → live ≤ length ns → v.lent.tradeCount ≤ trades_max → all (record_fine v) (take live (table_of ns ks)) ≡ true → Light ns live
-  light ns ks live l few e i h =
-      let z : i ≡ 0 + i = omega arith in
-      let p : record_fine v (record_at ns ks i) ≡ true =
-      ap (λ (j : ℕ). record_fine v (record_at ns ks j)) z ∙ all_at (record_fine v) (record_at ns ks) live 0 i (sym (ap (all (record_fine v)) (take_table ns ks live l)) ∙ e) h in
-      let w = record_light (record_at ns ks i) p in
-      (omega (arith, w.0), w.1, w.2)
+  pub light : v.lent.tradeCount ≤ trades_max → (rs : List Pool) → all (record_fine v) rs ≡ true → Light rs
+  light few [] e = All-nil light_one
+  light few (r ∷ rs) e =
+      let w = record_light r (and_left (record_fine v r) (all (record_fine v) rs) e) in
+      All-cons light_one r rs (omega (arith, w.0), w.1, w.2) (light few rs (and_right (record_fine v r) (all (record_fine v) rs) e))
 
--- ---- the tests in their order
-module _ (b : Book) (ns ks : List (List ℕ)) where
-  abbrev pub Answer : Bool → Type 0
-  Answer r = r ≡ (eqb (length ks) (length ns) && is_sound b (table_of ns ks))
+-- each trade with its weight is each trade with the weight of its place
+pub pars_zip : (ts : List Trade) (sums : List ℕ) (rs : List Pool) (i : ℕ) → length ts ≤ length sums → ((k : ℕ) → k < length ts → get_or sums k 0 ≡ trade_weight (i + k) rs)
+    → all makes_up (zip ts sums) ≡ pars_from i ts rs
+pars_zip [] sums rs i l h = refl
+pars_zip (t ∷ ts) [] rs i l h = absurd (omega arith)
+pars_zip (t ∷ ts) (s ∷ sums) rs i l h =
+    let w : s ≡ trade_weight i rs = h 0 (omega arith) ∙ ap (λ (k : ℕ). trade_weight k rs) (omega arith) in
+    ap₂ (λ (a b : Bool). a && b) (ap (λ (n : ℕ). eqb (t.openPar + n) t.par) w)
+    (pars_zip ts sums rs (i + 1) (omega arith) (λ (k : ℕ) a. h (suc k) (omega arith) ∙ ap (λ (j : ℕ). trade_weight j rs) (omega arith)))
 
-  pub unlike : (length ks ≡ length ns → ⊥) → Answer false
-  unlike n = rw (ne_eqb (length ks) (length ns) n)
+-- ---- the facts of 42 in their order: those of the book, those of the live records one after another, and the others
+module _ (b : Book) (t : List Pool) where
+  abbrev live : List Pool
+  live = take b.live t
 
-  module _ (alike : length ks ≡ length ns) (values : Bool) (values_is : values ≡ values_fine b.values) where
-    pub values_fail : not values ≡ true → Answer false
-    unfolding is_sound
-    values_fail n = rw (eq-eqb (length ks) (length ns) alike, sym values_is ∙ not-true values n)
+  abbrev records : Bool
+  records = all (record_fine b.values) live && in_order live
 
-    module _ (values_hold : not values ≡ false) where
-      holds : values_fine b.values ≡ true
-      holds = sym values_is ∙ not-false values values_hold
+  abbrev others : Bool
+  others = fields_once live && (all is_none (drop b.live t) && pars_from 0 (trades_of b.values) live)
 
-      pub few : b.values.lent.tradeCount ≤ trades_max
-      few = few_trades b.values holds
+  sound_is : is_sound b t ≡ (book_fine b (length t) && (records && others))
+  unfolding is_sound
+  sound_is = simp and_assoc
 
-      pub table_long : records_max < length ns → Answer false
-      unfolding is_sound
-      table_long h = rw (eq-eqb (length ks) (length ns) alike, holds, length_table ns ks, lt-leb (length ns) records_max h)
+  pub book_fails : book_fine b (length t) ≡ false → false ≡ is_sound b t
+  book_fails e = sym (sound_is ∙ ap (λ (f : Bool). f && (records && others)) e)
 
-      module _ (short : length ns ≤ records_max) (line : Bool) (line_is : line ≡ sound_line b.values.connection.line) where
-        pub line_fails : not line ≡ true → Answer false
-        unfolding is_sound
-        line_fails n = rw (eq-eqb (length ks) (length ns) alike, holds, length_table ns ks, le-leb (length ns) records_max short, sym line_is ∙ not-true line n)
+  module _ (h : book_fine b (length t) ≡ true) where
+    pub records_fail : records ≡ false → false ≡ is_sound b t
+    records_fail e = sym (sound_is ∙ ap₂ (λ (f g : Bool). f && (g && others)) h e)
 
-        module _ (line_holds : not line ≡ false) where
-          before : is_sound b (table_of ns ks)
-              ≡ (leb b.live (length ns) && (all (record_fine b.values) (take b.live (table_of ns ks)) && (in_order (take b.live (table_of ns ks)) && (fields_once (take b.live (table_of ns ks)) && (all is_none (drop b.live (table_of ns ks)) && pars_from 0 (trades_of b.values) (take b.live (table_of ns ks)))))))
-          unfolding is_sound
-          before = rw (holds, length_table ns ks, le-leb (length ns) records_max short, sym line_is ∙ not-false line line_holds)
+    pub few : b.values.lent.tradeCount ≤ trades_max
+    few = few_trades b.values (and_left (values_fine b.values) (leb (length t) records_max && (sound_line b.values.connection.line && leb b.live (length t))) h)
 
-          pub live_long : length ns < b.live → Answer false
-          live_long h = rw (eq-eqb (length ks) (length ns) alike, before, lt-leb b.live (length ns) h)
+    pub short : length t ≤ records_max
+    short =
+        let rest = and_right (values_fine b.values) (leb (length t) records_max && (sound_line b.values.connection.line && leb b.live (length t))) h in
+        leb-true (length t) records_max (and_left (leb (length t) records_max) (sound_line b.values.connection.line && leb b.live (length t)) rest)
 
-          module _ (within : b.live ≤ length ns) (rows : Bool)
-              (rows_are : (js : List (List ℕ)) → rows ≡ (all (record_fine (against b.values.lent.tradeCount b.values.lastMessageId)) (take b.live (table_of ns js)) && in_order (take b.live (table_of ns js)))) where
-            are : rows ≡ (all (record_fine b.values) (take b.live (table_of ns ks)) && in_order (take b.live (table_of ns ks)))
-            are = rows_are ks
-
-            pub rows_fail : not rows ≡ true → Answer false
-            rows_fail n =
-                rw (eq-eqb (length ks) (length ns) alike, before, le-leb b.live (length ns) within)
-                (sym (and_fails (all (record_fine b.values) (take b.live (table_of ns ks))) (in_order (take b.live (table_of ns ks)))
-                (fields_once (take b.live (table_of ns ks)) && (all is_none (drop b.live (table_of ns ks)) && pars_from 0 (trades_of b.values) (take b.live (table_of ns ks))))
-                (sym are ∙ not-true rows n)))
-
-            module _ (rows_hold : not rows ≡ false) where
-              each : all (record_fine b.values) (take b.live (table_of ns ks)) ≡ true
-              each = and_left (all (record_fine b.values) (take b.live (table_of ns ks))) (in_order (take b.live (table_of ns ks))) (sym are ∙ not-false rows rows_hold)
-
-              pub ordered : in_order (take b.live (table_of ns ks)) ≡ true
-              ordered = and_right (all (record_fine b.values) (take b.live (table_of ns ks))) (in_order (take b.live (table_of ns ks))) (sym are ∙ not-false rows rows_hold)
-
-              pub rows_fine : RowsFine b.values ns b.live
-              rows_fine js = sym (rows_are js) ∙ not-false rows rows_hold
-
-              pub all_light : Light ns b.live
-              all_light = light b.values ns ks b.live within few each
-
-              module _ (once : Bool) (once_is : once ≡ fields_once (take b.live (table_of ns ks))) where
-                pub once_fails : not once ≡ true → Answer false
-                once_fails n = rw (eq-eqb (length ks) (length ns) alike, before, le-leb b.live (length ns) within, each, ordered, sym once_is ∙ not-true once n)
-
-                module _ (once_holds : not once ≡ false) (zeros : Bool) (zeros_are : zeros ≡ all is_none (drop b.live (table_of ns ks))) where
-                  pub zeros_fail : not zeros ≡ true → Answer false
-                  zeros_fail n =
-                      rw (eq-eqb (length ks) (length ns) alike, before, le-leb b.live (length ns) within, each, ordered, sym once_is ∙ not-false once once_holds, sym zeros_are ∙ not-true zeros n)
-
-                  pub all_hold : not zeros ≡ false → (pars : Bool) → ((js : List (List ℕ)) → pars ≡ pars_from 0 (trades_of b.values) (take b.live (table_of ns js))) → Answer pars
-                  all_hold n pars pars-are =
-                      rw (eq-eqb (length ks) (length ns) alike, before, le-leb b.live (length ns) within, each, ordered, sym once_is ∙ not-false once once_holds, sym zeros_are ∙ not-false zeros n) (pars-are ks)
+    pub others_decide : records ≡ true → (r : Bool) → r ≡ others → r ≡ is_sound b t
+    others_decide e r o = o ∙ sym (sound_is ∙ ap₂ (λ (f g : Bool). f && (g && others)) h e)

@@ -3,18 +3,17 @@
 
 ghost use Rattle.std.specs.Prelude.{◌≡◌, ◌&&◌, cond, ℕ, leb};
 ghost use Rattle.lists.specs.Lists.{any};
+ghost use Rattle.book.specs.declared.Trade.{Trade};
 ghost use Rattle.book.specs.Trades.{trades_of, side_of, number_is, price_is, agrees, first_trade, brought_weight, open_pars, is_named_by, trade_of_on};
 ghost use Rattle.check_terms.specs.Reading.{stated_of};
 ghost use Rattle.trade_id.specs.declared.TradeId.TheVariants.{Whole};
 ghost use Rattle.book.specs.declared.Reason.TheVariants as by;
 ghost use Rattle.book.specs.Reasons.{told};
-ghost use Rattle.book.specs.declared.Verdict.TheVariants.{Passes, Fails};
+ghost use Rattle.std.specs.Prelude.{Ok, Err};
 ghost use Rattle.book.specs.Messages.{id_in};
-ghost use Rattle.book.specs.Checks.{id_fails, terms_fail};
-ghost use Rattle.check_terms.specs.Absent.{is_absent};
+ghost use Rattle.book.specs.Checks.{named_trade, id_fails, terms_fail};
 
 use book::{Reason, Trade, Values, Verdict};
-use fields::Field;
 use message_type::MessageType;
 use trade_id::TradeId;
 
@@ -22,32 +21,31 @@ use trade_id::TradeId;
 #[derive(Clone, Copy)]
 struct Stated {
     message: MessageType,
-    settlement: Field,
-    price: Field,
+    settlement: Option<u64>,
+    price: Option<u64>,
 }
 
-fn number_is(f: Field, k: u64) -> bool
+fn number_is(f: Option<u64>, k: u64) -> bool
     ensures { result ≡ number_is f k }
 {
-    let n = fields::value_of(f);
-    fields::is_number(f) & (n == k)
+    f.is_some_and(|n| n == k)
 }
 
-fn price_is(f: Field, k: u64) -> bool
+fn price_is(f: Option<u64>, k: u64) -> bool
     ensures { result ≡ price_is f k }
 {
-    let p = fields::value_of(f);
-    fields::is_number(f) & trade_id::prices_agree(p, k)
+    f.is_some_and(|p| trade_id::prices_agree(p, k))
 }
 
 // The side of a trade that submits a message of some type.
-fn side_of(message: MessageType, t: Trade) -> [u8; 4]
-    ensures { result ≡ side_of message t }
+fn side_of(message: MessageType, t: &Trade) -> &[u8; 4]
+    ensures { result.now ≡ side_of message t.now }
 {
-    if message_type::buyer_submits(message) {
-        return t.buyer;
+    if message.buyer_submits() {
+        &t.buyer
+    } else {
+        &t.seller
     }
-    t.seller
 }
 
 fn read_terms(body: &[u8]) -> Stated
@@ -61,180 +59,130 @@ fn read_terms(body: &[u8]) -> Stated
 }
 
 // Whether a message's terms agree with a trade's, by what it states.
-fn agrees_as(body: &[u8], s: Stated, t: Trade) -> bool
+#[tactic(auto, unfolding(book::specs::Trades::agrees), using(crate::proofs::Agreeing::last_fail, crate::proofs::Agreeing::last_pass))]
+fn agrees_as(body: &[u8], s: Stated, t: &Trade) -> bool
     requires { s ≡ stated_of body.now }
-    ensures { result ≡ agrees body.now t }
+    ensures { result ≡ agrees body.now t.now }
 {
-    let settlement = s.settlement;
-    let price = s.price;
-    if !(number_is(settlement, t.settlement) & price_is(price, t.price)) {
+    if !(number_is(s.settlement, t.settlement) & price_is(s.price, t.price)) {
         return false;
     }
-    let message = s.message;
-    let side = side_of(message, t);
-    let contra = t.contra;
-    let cusip = t.cusip;
-    let submitted = fields::same_part(
-        body,
-        layout::SUBMITTER.at,
-        &side,
-        0,
-        layout::SUBMITTER.width,
-    );
-    let addressed = fields::same_part(body, layout::CONTRA.at, &contra, 0, layout::CONTRA.width);
-    submitted
-        & (addressed & fields::same_part(body, layout::CUSIP.at, &cusip, 0, layout::CUSIP.width))
+    layout::column_is(body, layout::SUBMITTER, side_of(s.message, t))
+        & (layout::column_is(body, layout::CONTRA, &t.contra)
+            & layout::column_is(body, layout::CUSIP, &t.cusip))
 }
 
 // Whether a message's terms agree with a trade's.
-pub fn agrees(body: &[u8], t: Trade) -> bool
-    ensures { result ≡ agrees body.now t }
+pub fn agrees(body: &[u8], t: &Trade) -> bool
+    ensures { result ≡ agrees body.now t.now }
 {
-    let s = read_terms(body);
-    agrees_as(body, s, t)
+    agrees_as(body, read_terms(body), t)
 }
 
 // The first trade whose terms agree and whose open par holds a weight, by index, or the number of trades.
-pub fn find_holding(body: &[u8], v: Values, weight: u64) -> usize
-    ensures { result ≡ first_trade (λ (t : Trade) (left : ℕ). agrees body.now t && leb weight left) 0 (trades_of v) (open_pars (trades_of v)) }
+pub fn find_holding(body: &[u8], v: &Values, weight: u64) -> usize
+    ensures { result ≡ first_trade (λ (t : Trade) (left : ℕ). agrees body.now t && leb weight left) 0 (trades_of v.now) (open_pars (trades_of v.now)) }
 {
     let s = read_terms(body);
-    let n = header::lesser(v.lent.tradeCount, book::TRADES_MAX);
-    let mut i: usize = 0;
-    while i < n {
-        let t = v.trades[i];
-        if agrees_as(body, s, t) & (weight <= t.openPar) {
-            return i;
-        }
-        i += 1;
-    }
-    n
+    let trades = v.opened_trades();
+    trades
+        .iter()
+        .position(|t| agrees_as(body, s, t) & (weight <= t.openPar))
+        .unwrap_or(trades.len())
 }
 
 // Whether some trade's terms agree.
-pub fn some_agrees(body: &[u8], v: Values) -> bool
-    ensures { result ≡ any (agrees body.now) (trades_of v) }
+pub fn some_agrees(body: &[u8], v: &Values) -> bool
+    ensures { result ≡ any (agrees body.now) (trades_of v.now) }
 {
     let s = read_terms(body);
-    let n = header::lesser(v.lent.tradeCount, book::TRADES_MAX);
-    let mut i: usize = 0;
-    while i < n {
-        let t = v.trades[i];
-        i += 1;
-        if agrees_as(body, s, t) {
-            return true;
-        }
-    }
-    false
+    v.opened_trades().iter().any(|t| agrees_as(body, s, t))
 }
 
 // What a message's new lots weigh.
+#[tactic(auto, unfolding(book::specs::Trades::brought_weight, book::specs::Messages::brought, faces::specs::Faces::new_weight))]
 pub fn brought_weight(body: &[u8]) -> u64
     ensures { result ≡ brought_weight body.now }
 {
-    let message = header::message_type(body);
-    if !message_type::brings_lots(message) {
+    if !header::message_type(body).brings_lots() {
         return 0;
     }
     new_lots::new_weight(body)
 }
 
-fn is_absent(id: TradeId) -> bool
-    ensures { result ≡ is_absent id }
-{
-    match id {
-        TradeId::Whole {
-            place: _,
-            length: _,
-        } => false,
-        TradeId::Broken => false,
-        TradeId::Absent => true,
-    }
-}
-
 // Whether a whole ID in special instructions is a trade's.
-fn is_named_by(body: &[u8], place: usize, length: usize, t: Trade) -> bool
+fn is_named_by(body: &[u8], place: usize, length: usize, t: &Trade) -> bool
     requires { id_in body.now ≡ Whole place length }
-    ensures { result ≡ is_named_by body.now (Whole place length) t }
+    ensures { result ≡ is_named_by body.now (id_in body.now) t.now }
 {
-    let id = t.id;
-    let n = header::lesser(t.length, book::ID_MAX);
-    if n != length {
-        return false;
-    }
-    fields::same_part(body, layout::SPECIAL.at + place, &id, 0, length)
+    fields::clipped(layout::bytes_in(body, layout::SPECIAL), place, length) == t.name()
 }
 
 // The first trade that has a whole ID, by index, or the number of trades.
-fn find_named(body: &[u8], v: Values, place: usize, length: usize) -> usize
+fn find_named(body: &[u8], v: &Values, place: usize, length: usize) -> usize
     requires { id_in body.now ≡ Whole place length }
-    ensures { result ≡ first_trade (λ (t : Trade) (left : ℕ). is_named_by body.now (Whole place length) t) 0 (trades_of v) (open_pars (trades_of v)) }
+    ensures { result ≡ named_trade body.now (trades_of v.now) }
 {
-    let n = header::lesser(v.lent.tradeCount, book::TRADES_MAX);
-    let mut i: usize = 0;
-    while i < n {
-        let t = v.trades[i];
-        if is_named_by(body, place, length, t) {
-            return i;
-        }
-        i += 1;
-    }
-    n
+    let trades = v.opened_trades();
+    trades
+        .iter()
+        .position(|t| is_named_by(body, place, length, t))
+        .unwrap_or(trades.len())
 }
 
 // The trade that an ON goes to, by index, or the number of trades.
-pub fn trade_of_on(body: &[u8], v: Values) -> usize
-    ensures { result ≡ trade_of_on body.now (trades_of v) (open_pars (trades_of v)) }
+#[tactic(auto, unfolding(book::specs::Trades::trade_of_on), using(crate::proofs::Searching::broken_on))]
+pub fn trade_of_on(body: &[u8], v: &Values) -> usize
+    ensures { result ≡ trade_of_on body.now (trades_of v.now) (open_pars (trades_of v.now)) }
 {
-    let id = header::trade_id_in(body);
-    match id {
+    match header::trade_id_in(body) {
         TradeId::Whole { place, length } => find_named(body, v, place, length),
-        TradeId::Broken => header::lesser(v.lent.tradeCount, book::TRADES_MAX),
+        TradeId::Broken => v.opened_trades().len(),
         TradeId::Absent => find_holding(body, v, brought_weight(body)),
     }
 }
 
 // 31: a trade ID that is begun but not whole, or names no trade with agreeing terms, or another than a CC's or DK's target; on FSTI, none.
-pub fn id_verdict(body: &[u8], v: Values, target: usize) -> Verdict
-    ensures { result ≡ cond (id_fails body.now (trades_of v) target (id_in body.now)) (Fails (by.Trader 31 told)) Passes }
+fn id_fails(body: &[u8], v: &Values, target: usize) -> bool
+    ensures { result ≡ id_fails body.now (trades_of v.now) target (id_in body.now) }
 {
-    let id = header::trade_id_in(body);
-    if is_absent(id) & !header::is_stipulated(body) {
-        return Verdict::Passes;
+    match header::trade_id_in(body) {
+        TradeId::Whole { place, length } => {
+            let i = find_named(body, v, place, length);
+            let concerned = header::message_type(body).is_on() | (i == target);
+            match v.opened_trades().get(i) {
+                Some(t) => !(agrees(body, t) & concerned),
+                None => true,
+            }
+        }
+        TradeId::Broken => true,
+        TradeId::Absent => header::is_stipulated(body),
     }
-    let TradeId::Whole { place, length } = id else {
-        return Verdict::Fails(Reason::Trader(31, book::TOLD));
-    };
-    let i = find_named(body, v, place, length);
-    let n = header::lesser(v.lent.tradeCount, book::TRADES_MAX);
-    if n <= i {
-        return Verdict::Fails(Reason::Trader(31, book::TOLD));
+}
+
+// 31 as a verdict.
+pub fn id_verdict(body: &[u8], v: &Values, target: usize) -> Verdict
+    ensures { result ≡ cond (id_fails body.now (trades_of v.now) target (id_in body.now)) (Err (by.Trader 31 told)) (Ok tt) }
+{
+    if id_fails(body, v, target) {
+        return Err(Reason::Trader(31, book::TOLD));
     }
-    let message = header::message_type(body);
-    let t = v.trades[i];
-    let concerned = message_type::is_on(message) | (i == target);
-    if agrees(body, t) & concerned {
-        return Verdict::Passes;
-    }
-    Verdict::Fails(Reason::Trader(31, book::TOLD))
+    Ok(())
 }
 
 // 32: without a trade ID, no trade's terms agree with an ON's, or the target's with a CC's or DK's.
-pub fn terms_fail(body: &[u8], v: Values, target: usize) -> bool
-    ensures { result ≡ terms_fail body.now (trades_of v) target (id_in body.now) }
+#[tactic(auto, using(crate::proofs::Agreeing::agrees_none))]
+pub fn terms_fail(body: &[u8], v: &Values, target: usize) -> bool
+    ensures { result ≡ terms_fail body.now (trades_of v.now) target (id_in body.now) }
 {
-    let id = header::trade_id_in(body);
-    let TradeId::Absent = id else {
+    let TradeId::Absent = header::trade_id_in(body) else {
         return false;
     };
-    let message = header::message_type(body);
-    if message_type::is_on(message) {
+    if header::message_type(body).is_on() {
         return !some_agrees(body, v);
     }
-    let n = header::lesser(v.lent.tradeCount, book::TRADES_MAX);
-    if n <= target {
-        return true;
+    match v.opened_trades().get(target) {
+        Some(t) => !agrees(body, t),
+        None => true,
     }
-    let t = v.trades[target];
-    !agrees(body, t)
 }

@@ -3,7 +3,8 @@ use Rattle.std.specs.Prelude.{ℕ, List, cond, length, eqb}
 use Rattle.lists.specs.Lists.{part, pasted}
 use Rattle.sequence.specs.Sequence.{inbound, outbound, next_outbound}
 use Rattle.acknowledgment.specs.declared.Acknowledged.{Acknowledged}
-use Rattle.acknowledgment.specs.Frames.{aa_bytes, tx_bytes}
+use Rattle.acknowledgment.specs.declared.Stamp.{Stamp}
+use Rattle.acknowledgment.specs.Frames.{next_stamp, aa_bytes, tx_bytes}
 
 -- four, four, sixteen, six and six bytes
 abbrev pub aa_said : ℕ
@@ -13,12 +14,11 @@ aa_said = 36
 abbrev pub tx_said : ℕ
 tx_said = 8
 
-abbrev pub subscriber_in : List ℕ → List ℕ
-subscriber_in said = part said 0 4
+-- the stamp of the last frame: its number, with the subscriber and the connection that are said
+abbrev pub last_stamp : ℕ → List ℕ → Stamp
+last_stamp last said = record { number = outbound last; subscriber = part said 0 4; connection = part said 4 4 }
 
-abbrev pub connection_in : List ℕ → List ℕ
-connection_in said = part said 4 4
-
+-- what an AA acknowledges, of the bytes that are said
 abbrev pub acknowledged_in : List ℕ → ℕ → ℕ → Acknowledged
 acknowledged_in said message code =
     record { internal = part said 8 16; message = message; code = code; time = part said 24 6; original = part said 30 6 }
@@ -27,14 +27,14 @@ acknowledged_in said message code =
 unfoldable pub with_aa : List ℕ → ℕ → ℕ → List ℕ → ℕ → ℕ → List ℕ
 with_aa out at last said message code =
     cond (eqb (length said) aa_said)
-    (pasted out at (aa_bytes (next_outbound (outbound last)) (subscriber_in said) (connection_in said) (acknowledged_in said message code)))
+    (pasted out at (aa_bytes (next_stamp (last_stamp last said)) (acknowledged_in said message code)))
     out
 
 -- an output with a TX from at on, likewise
 unfoldable pub with_tx : List ℕ → ℕ → ℕ → List ℕ → ℕ → ℕ → List ℕ
 with_tx out at last said expected received =
     cond (eqb (length said) tx_said)
-    (pasted out at (tx_bytes (next_outbound (outbound last)) (subscriber_in said) (connection_in said) (inbound expected) (inbound received)))
+    (pasted out at (tx_bytes (next_stamp (last_stamp last said)) (inbound expected) (inbound received)))
     out
 
 -- the last outbound number used after either: the one stamped, or the one before where what is said has another length

@@ -1,11 +1,10 @@
 // Lends what goes out to Rust and C: each exported function writes into a lent slice.
 #![tactic(auto)]
 
-ghost use Rattle.std.specs.Prelude.{◌≡◌, ◌+◌, ◌≤◌, length};
-ghost use Rattle.lists.specs.Lists.{part};
-ghost use Rattle.compare_output.specs.Said.{aa_said, tx_said, with_aa, with_tx, stamped};
+ghost use Rattle.std.specs.Prelude.{◌≡◌, ◌≤◌, length};
+ghost use Rattle.compare_output.specs.Said.{aa_said, tx_said, last_stamp, with_aa, with_tx, stamped};
 
-use acknowledgment::Acknowledged;
+use acknowledgment::{Acknowledged, Stamp};
 use sequence::{Inbound, Outbound};
 
 // What an AA is told: subscriber, connection, internal ID, time bytes and original sequence.
@@ -22,34 +21,20 @@ const ORIGINAL_AT: usize = 30;
 // What a TX is told: subscriber and connection.
 const TX_SAID: usize = 8;
 
-fn four_at(s: &[u8], at: usize) -> [u8; 4]
-    requires { at + 4 ≤ length s.now }
-    ensures { result ≡ part s.now at 4 }
+// The stamp of the last frame: its number, and the subscriber and connection that are said.
+fn stamp_of(last: u32, said: &[u8]) -> Stamp
+    requires { tx_said ≤ length said.now }
+    ensures { result ≡ last_stamp last said.now }
 {
-    let mut bytes = [0u8; 4];
-    output::put_part(&mut bytes, 0, s, at, 4);
-    bytes
-}
-
-fn six_at(s: &[u8], at: usize) -> [u8; 6]
-    requires { at + 6 ≤ length s.now }
-    ensures { result ≡ part s.now at 6 }
-{
-    let mut bytes = [0u8; 6];
-    output::put_part(&mut bytes, 0, s, at, 6);
-    bytes
-}
-
-fn sixteen_at(s: &[u8], at: usize) -> [u8; 16]
-    requires { at + 16 ≤ length s.now }
-    ensures { result ≡ part s.now at 16 }
-{
-    let mut bytes = [0u8; 16];
-    output::put_part(&mut bytes, 0, s, at, 16);
-    bytes
+    Stamp {
+        number: Outbound(last),
+        subscriber: layout::bytes_at(said, 0),
+        connection: layout::bytes_at(said, CONNECTION_AT),
+    }
 }
 
 // Writes an AA from at and gives the number that it is stamped with.
+#[tactic(auto, unfolding(crate::specs::Said::with_aa, crate::specs::Said::stamped))]
 #[unsafe(no_mangle)]
 pub extern "C" fn rhoikandra_put_aa(
     out: &mut [u8],
@@ -65,19 +50,18 @@ pub extern "C" fn rhoikandra_put_aa(
         return last;
     }
     let a = Acknowledged {
-        internal: sixteen_at(said, INTERNAL_AT),
-        message: message,
-        code: code,
-        time: six_at(said, TIME_AT),
-        original: six_at(said, ORIGINAL_AT),
+        internal: layout::bytes_at(said, INTERNAL_AT),
+        message,
+        code,
+        time: layout::bytes_at(said, TIME_AT),
+        original: layout::bytes_at(said, ORIGINAL_AT),
     };
-    let subscriber = four_at(said, 0);
-    let connection = four_at(said, CONNECTION_AT);
-    let number = acknowledgment::put_aa(&mut *out, at, Outbound(last), subscriber, connection, a);
-    number.0
+    let stamp = acknowledgment::put_aa(out, at, stamp_of(last, said), a);
+    stamp.number.0
 }
 
 // Writes a TX from at and gives the number that it is stamped with.
+#[tactic(auto, unfolding(crate::specs::Said::with_tx, crate::specs::Said::stamped))]
 #[unsafe(no_mangle)]
 pub extern "C" fn rhoikandra_put_tx(
     out: &mut [u8],
@@ -92,16 +76,12 @@ pub extern "C" fn rhoikandra_put_tx(
     if said.len() != TX_SAID {
         return last;
     }
-    let subscriber = four_at(said, 0);
-    let connection = four_at(said, CONNECTION_AT);
-    let number = acknowledgment::put_tx(
-        &mut *out,
+    let stamp = acknowledgment::put_tx(
+        out,
         at,
-        Outbound(last),
-        subscriber,
-        connection,
+        stamp_of(last, said),
         Inbound(expected),
         Inbound(received),
     );
-    number.0
+    stamp.number.0
 }

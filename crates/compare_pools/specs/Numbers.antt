@@ -1,5 +1,5 @@
 -- Terminators, lots and a message's pools by their numbers: an enum's cases in its order, counted from 0, and what a case holds, 0 where it holds nothing.
-use Rattle.std.specs.Prelude.{ℕ, List, [], ◌∷◌, true, false, cond, length, drop, eqb}
+use Rattle.std.specs.Prelude.{ℕ, List, [], ◌∷◌, Option, Some, None, true, false, cond, length, drop, eqb}
 use Rattle.exports_numbers.specs.Bit.{bit}
 use Rattle.layout.specs.declared.Detail.{Detail}
 use Rattle.layout.specs.Columns.{terminator}
@@ -8,8 +8,7 @@ use Rattle.terminator.specs.declared.Terminator.{Terminator}
 use Rattle.terminator.specs.declared.Terminator.TheVariants.{Middle, BadMiddle, GoodEnd, OddEnd, BadEnd, Wrong}
 use Rattle.terminator.specs.declared.Kind.{Kind}
 use Rattle.terminator.specs.declared.Kind.TheVariants.{Good, Odd, Bad}
-use Rattle.terminator.specs.declared.LotRead.{LotRead}
-use Rattle.terminator.specs.declared.LotRead.TheVariants.{Found, Nothing}
+use Rattle.terminator.specs.declared.LotHead.{LotHead}
 use Rattle.terminator.specs.Terminators.{terminator_of}
 use Rattle.terminator.specs.Lots.{lots, formed_for, replacement_count, good_millions}
 use Rattle.terminator.specs.Reading.{first_lot}
@@ -37,12 +36,12 @@ kind_number Odd = 1
 kind_number Bad = 2
 
 -- no lot is six zeros
-abbrev pub lot_numbers : LotRead → List ℕ
-lot_numbers (Found l) = 1 ∷ l.one ∷ kind_number l.kind ∷ l.millions ∷ l.last ∷ l.weight ∷ []
-lot_numbers Nothing = 0 ∷ 0 ∷ 0 ∷ 0 ∷ 0 ∷ 0 ∷ []
+abbrev pub lot_numbers : Option LotHead → List ℕ
+lot_numbers (Some l) = 1 ∷ l.one ∷ kind_number l.kind ∷ l.millions ∷ l.last ∷ l.weight ∷ []
+lot_numbers None = 0 ∷ 0 ∷ 0 ∷ 0 ∷ 0 ∷ 0 ∷ []
 
 -- the lot that begins at a pool of a body
-abbrev pub lot_from : List ℕ → ℕ → LotRead
+abbrev pub lot_from : List ℕ → ℕ → Option LotHead
 lot_from body first = first_lot first (lots (drop first (details body)))
 
 -- ---- whether lots are formed as an ON's and as a CC's, and whether a CC's groups are formed and balanced

@@ -4,11 +4,9 @@
 ghost use Rattle.std.specs.Prelude.{◌≡◌};
 ghost use Rattle.lists.specs.Lists.{pasted};
 ghost use Rattle.layout.specs.Details.{details};
-ghost use Rattle.compare_pools.specs.Numbers.{terminator_numbers, terminator_in, kind_number, lot_numbers, lot_from, form_numbers, sum_numbers, face_numbers};
+ghost use Rattle.compare_pools.specs.Numbers.{terminator_numbers, terminator_in, lot_numbers, lot_from, form_numbers, sum_numbers, face_numbers};
 
-use terminator::{Kind, LotRead, Terminator};
-
-const TERMINATOR_WIDTH: usize = 4;
+use terminator::{LotHead, Terminator};
 
 fn terminator_numbers(t: Terminator) -> [u64; 2]
     ensures { result ≡ terminator_numbers t }
@@ -23,14 +21,15 @@ fn terminator_numbers(t: Terminator) -> [u64; 2]
     }
 }
 
+// The terminator in bytes of any length: what is not four bytes is wrong.
+#[tactic(auto, unfolding(crate::specs::Numbers::terminator_in))]
 fn terminator_in(s: &[u8]) -> Terminator
     ensures { result ≡ terminator_in s.now }
 {
-    if s.len() != TERMINATOR_WIDTH {
-        return Terminator::Wrong;
+    match <[u8; 4]>::try_from(s) {
+        Ok(four) => terminator::terminator_of(four),
+        Err(_) => Terminator::Wrong,
     }
-    let four = [s[0], s[1], s[2], s[3]];
-    terminator::terminator_of(four)
 }
 
 // Writes what the terminator in some bytes says, and the millions of the good lot that it ends.
@@ -39,66 +38,54 @@ pub extern "C" fn rhoikandra_terminator(s: &[u8], out: &mut [u64])
     ensures { out.new ≡ pasted out.old 0 (terminator_numbers (terminator_in s.now)) }
 {
     let terminator = terminator_in(s);
-    let two = terminator_numbers(terminator);
-    exports_numbers::put_numbers(&mut *out, &two);
+    exports_numbers::put_numbers(out, &terminator_numbers(terminator));
 }
 
 // Writes whether the lots of a body are formed as an ON's and as a CC's (19), and whether a CC's groups are formed (20) and balanced (21).
+#[tactic(auto, unfolding(crate::specs::Numbers::form_numbers))]
 #[unsafe(no_mangle)]
 pub extern "C" fn rhoikandra_forms(body: &[u8], out: &mut [u64])
     ensures { out.new ≡ pasted out.old 0 (form_numbers (details body.now)) }
 {
-    let on = lots::lots_formed(body, false);
-    let cc = lots::lots_formed(body, true);
     let judged = groups::groups_of(body);
     let four = [
-        exports_numbers::bit_of(on),
-        exports_numbers::bit_of(cc),
+        exports_numbers::bit_of(lots::lots_formed(body, false)),
+        exports_numbers::bit_of(lots::lots_formed(body, true)),
         exports_numbers::bit_of(judged.formed),
         exports_numbers::bit_of(judged.balanced),
     ];
-    exports_numbers::put_numbers(&mut *out, &four);
+    exports_numbers::put_numbers(out, &four);
 }
 
 // Writes the number of pools of a body, 0 where its length fails 10, the number of replacement pools (22), the sum of the good millions (33) and the weight of the new lots in cents (38).
+#[tactic(auto, unfolding(crate::specs::Numbers::sum_numbers))]
 #[unsafe(no_mangle)]
 pub extern "C" fn rhoikandra_sums(body: &[u8], out: &mut [u64])
     ensures { out.new ≡ pasted out.old 0 (sum_numbers body.now) }
 {
-    let pools = layout::pool_count(body);
-    let replacements = lots::replacement_count(body);
-    let millions = lots::good_millions(body);
-    let weight = new_lots::new_weight(body);
-    let four = [pools as u64, replacements as u64, millions, weight];
-    exports_numbers::put_numbers(&mut *out, &four);
+    let four = [
+        layout::pool_count(body) as u64,
+        lots::replacement_count(body) as u64,
+        lots::good_millions(body),
+        new_lots::new_weight(body),
+    ];
+    exports_numbers::put_numbers(out, &four);
 }
 
-fn kind_number(k: Kind) -> u64
-    ensures { result ≡ kind_number k }
-{
-    match k {
-        Kind::Good => 0,
-        Kind::Odd => 1,
-        Kind::Bad => 2,
-    }
-}
-
-fn lot_numbers(l: LotRead) -> [u64; 6]
+// A lot's six numbers; the kinds are counted from 0 here, and from 1 in a record.
+fn lot_numbers(l: Option<LotHead>) -> [u64; 6]
     ensures { result ≡ lot_numbers l }
 {
     match l {
-        LotRead::Found(lot) => {
-            let kind = lot.kind;
-            [
-                1,
-                lot.one as u64,
-                kind_number(kind),
-                lot.millions,
-                lot.last as u64,
-                lot.weight,
-            ]
-        }
-        LotRead::Nothing => [0, 0, 0, 0, 0, 0],
+        Some(lot) => [
+            1,
+            u64::from(lot.one),
+            lot.kind.number() - 1,
+            lot.millions,
+            lot.last as u64,
+            lot.weight,
+        ],
+        None => [0; 6],
     }
 }
 
@@ -108,11 +95,11 @@ pub extern "C" fn rhoikandra_lot_at(body: &[u8], first: usize, out: &mut [u64])
     ensures { out.new ≡ pasted out.old 0 (lot_numbers (lot_from body.now first)) }
 {
     let lot = lots::lot_at(body, first);
-    let six = lot_numbers(lot);
-    exports_numbers::put_numbers(&mut *out, &six);
+    exports_numbers::put_numbers(out, &lot_numbers(lot));
 }
 
 // Writes whether a new pool's faces fail 34, and whether a new lot fails 35.
+#[tactic(auto, unfolding(crate::specs::Numbers::face_numbers))]
 #[unsafe(no_mangle)]
 pub extern "C" fn rhoikandra_faces(
     body: &[u8],
@@ -123,11 +110,7 @@ pub extern "C" fn rhoikandra_faces(
 )
     ensures { out.new ≡ pasted out.old 0 (face_numbers least variance pools (details body.now)) }
 {
-    let faces_fail = faces::faces_fail(body, least);
-    let lots_fail = new_lots::lots_fail(body, variance, pools);
-    let two = [
-        exports_numbers::bit_of(faces_fail),
-        exports_numbers::bit_of(lots_fail),
-    ];
-    exports_numbers::put_numbers(&mut *out, &two);
+    let faces_fail = exports_numbers::bit_of(faces::faces_fail(body, least));
+    let lots_fail = exports_numbers::bit_of(new_lots::lots_fail(body, variance, pools));
+    exports_numbers::put_numbers(out, &[faces_fail, lots_fail]);
 }

@@ -1,10 +1,8 @@
 -- Columns, fields of digits, dates and trade IDs by their numbers: an enum's cases in its order, counted from 0, and what a case holds, 0 where it holds nothing.
-use Rattle.std.specs.Prelude.{ℕ, List, [], ◌∷◌, get_or}
+use Rattle.std.specs.Prelude.{ℕ, List, [], ◌∷◌, Option, is_some, unwrap_or, get_or}
 use Rattle.exports_numbers.specs.Bit.{bit}
 use Rattle.layout.specs.declared.Column.{Column}
 use Rattle.layout.specs.Columns.{column, header}
-use Rattle.fields.specs.declared.Field.{Field}
-use Rattle.fields.specs.Fields.{is_number, value_of}
 use Rattle.calendar.specs.Calendar.{is_date, business_date}
 use Rattle.trade_id.specs.declared.TradeId.{TradeId}
 use Rattle.trade_id.specs.declared.TradeId.TheVariants.{Whole, Broken, Absent}
@@ -17,8 +15,8 @@ abbrev pub column_numbers : Column → List ℕ
 column_numbers c = c.at ∷ c.width ∷ []
 
 -- ---- a field of digits: whether it is one, and its number
-abbrev pub field_numbers : Field → List ℕ
-field_numbers f = bit (is_number f) ∷ value_of f ∷ []
+abbrev pub field_numbers : Option ℕ → List ℕ
+field_numbers f = bit (is_some f) ∷ unwrap_or f 0 ∷ []
 
 -- ---- whether a number is a date, and whether a business date
 unfoldable pub date_numbers : ℕ → List ℕ → List ℕ

@@ -1,28 +1,33 @@
 // Lends the header's columns, fields of digits, dates, trade IDs and prices to Rust and C: each exported function but the last writes its numbers at the head of a lent slice.
 #![tactic(auto)]
 
-ghost use Rattle.std.specs.Prelude.{◌≡◌};
+ghost use Rattle.std.specs.Prelude.{◌≡◌, get_or};
 ghost use Rattle.lists.specs.Lists.{pasted};
 ghost use Rattle.fields.specs.Fields.{read_number};
+ghost use Rattle.layout.specs.Columns.{column};
 ghost use Rattle.trade_id.specs.SpecialInstructions.{trade_id_of};
 ghost use Rattle.trade_id.specs.Prices.{prices_agree};
 ghost use Rattle.compare_terms.specs.Numbers.{column_of, column_numbers, field_numbers, date_numbers, trade_id_numbers};
 
-use fields::Field;
 use layout::Column;
 use trade_id::TradeId;
 
-const HEADER_COLUMNS: usize = 25;
+// A column by its place among others, or an empty one past the last.
+fn column_at(columns: &[Column], i: usize) -> Column
+    ensures { result ≡ get_or columns.now i (column 0 0) }
+{
+    match columns.get(i) {
+        Some(column) => *column,
+        None => Column { at: 0, width: 0 },
+    }
+}
 
 // A column of the header by its place in their order, or an empty one past the last.
+#[tactic(auto, unfolding(crate::specs::Numbers::column_of))]
 fn column_of(i: usize) -> Column
     ensures { result ≡ column_of i }
 {
-    let columns = layout::header_columns();
-    if HEADER_COLUMNS <= i {
-        return Column { at: 0, width: 0 };
-    }
-    columns[i]
+    column_at(&layout::header_columns(), i)
 }
 
 // Writes the first byte of a column of the header and its width.
@@ -31,15 +36,14 @@ pub extern "C" fn rhoikandra_column(i: usize, out: &mut [u64])
     ensures { out.new ≡ pasted out.old 0 (column_numbers (column_of i)) }
 {
     let column = column_of(i);
-    let two = [column.at as u64, column.width as u64];
-    exports_numbers::put_numbers(&mut *out, &two);
+    exports_numbers::put_numbers(out, &[column.at as u64, column.width as u64]);
 }
 
-fn field_numbers(f: Field) -> [u64; 2]
+// Whether a field is digits, and their number.
+fn field_numbers(f: Option<u64>) -> [u64; 2]
     ensures { result ≡ field_numbers f }
 {
-    let number = fields::is_number(f);
-    [exports_numbers::bit_of(number), fields::value_of(f)]
+    [exports_numbers::bit_of(f.is_some()), f.unwrap_or(0)]
 }
 
 // Writes whether the width bytes from at are digits, and their number.
@@ -48,22 +52,18 @@ pub extern "C" fn rhoikandra_number(s: &[u8], at: usize, width: usize, out: &mut
     ensures { out.new ≡ pasted out.old 0 (field_numbers (read_number s.now at width)) }
 {
     let field = fields::read_number(s, at, width);
-    let two = field_numbers(field);
-    exports_numbers::put_numbers(&mut *out, &two);
+    exports_numbers::put_numbers(out, &field_numbers(field));
 }
 
 // Writes whether a number, read mmddyyyy, is a date, and whether it is a business date, with these holidays.
+#[tactic(auto, unfolding(crate::specs::Numbers::date_numbers))]
 #[unsafe(no_mangle)]
 pub extern "C" fn rhoikandra_date(n: u64, holidays: &[u32], out: &mut [u64])
     ensures { out.new ≡ pasted out.old 0 (date_numbers n holidays.now) }
 {
-    let date = calendar::is_date(n);
-    let business = calendar::business_date(n, holidays);
-    let two = [
-        exports_numbers::bit_of(date),
-        exports_numbers::bit_of(business),
-    ];
-    exports_numbers::put_numbers(&mut *out, &two);
+    let date = exports_numbers::bit_of(calendar::is_date(n));
+    let business = exports_numbers::bit_of(calendar::business_date(n, holidays));
+    exports_numbers::put_numbers(out, &[date, business]);
 }
 
 fn trade_id_numbers(t: TradeId) -> [u64; 3]
@@ -82,8 +82,7 @@ pub extern "C" fn rhoikandra_trade_id(special: &[u8], out: &mut [u64])
     ensures { out.new ≡ pasted out.old 0 (trade_id_numbers (trade_id_of special.now)) }
 {
     let found = trade_id::find_trade_id(special);
-    let three = trade_id_numbers(found);
-    exports_numbers::put_numbers(&mut *out, &three);
+    exports_numbers::put_numbers(out, &trade_id_numbers(found));
 }
 
 // Whether two prices of nine implied decimals agree.

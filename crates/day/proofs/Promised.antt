@@ -19,7 +19,7 @@ module _ (v : Values) (pools zeros : List Pool) (o : Opened) (opens : Opens v po
   fine : o.fine ≡ true
   fine = opens.fine ∙ is_opened
 
-  begins : state_of o.book zeros ≡ opened_state v pools
+  pub begins : state_of o.book zeros ≡ opened_state v pools
   begins = rw (opens.book, fine, opens.zeros fine)
 
   pub day_demand3 : (tape : List ℕ) (r : Day) (left : List Pool) → Passes o.book zeros tape r left

@@ -1,3 +1,2 @@
 pub mod Tape
 pub mod Days
-pub mod Turns

@@ -10,7 +10,6 @@ use Rattle.book.specs.Promise.{State, after_all, fed, opened_state}
 use Rattle.calls.specs.declared.Figures.{Figures}
 use Rattle.calls.specs.Figures.{figures_of}
 use Rattle.image.specs.Images.{blank}
-use Rattle.day.specs.declared.Day.{Day}
 use Rattle.day.specs.Tape.{puts_of}
 use Rattle.day.specs.Days.{accepted_among, others_among}
 use Rattle.daytape.specs.declared.Report.{Report}
@@ -57,10 +56,6 @@ start = start_of values_given
 abbrev pub said_of : State → ℕ → Figures
 said_of s trade = figures_of s.book s.table trade
 
--- the counts of a day, and a trade's figures
-abbrev pub report_of : Day → Figures → Report
-report_of d f = record { accepted = d.accepted; others = d.others; openPar = f.openPar; millions = f.millions }
-
 -- the two counts of the tape's calls to a book that is opened with some values, and what the book then says of the trade
 pub record ReportsOver (v : Values) (tape : List ℕ) (r : Report) : Type 0 where
   pub accepted : r.accepted ≡ accepted_among (fed (start_of v) (puts_of tape))
@@ -69,8 +64,5 @@ pub record ReportsOver (v : Values) (tape : List ℕ) (r : Report) : Type 0 wher
   pub millions : r.millions ≡ (said_of (after_all (start_of v) (puts_of tape)) 0).millions
 
 -- the same with the program's values
-pub record Reports (tape : List ℕ) (r : Report) : Type 0 where
-  pub accepted : r.accepted ≡ accepted_among (fed start (puts_of tape))
-  pub others : r.others ≡ others_among (fed start (puts_of tape))
-  pub openPar : r.openPar ≡ (said_of (after_all start (puts_of tape)) 0).openPar
-  pub millions : r.millions ≡ (said_of (after_all start (puts_of tape)) 0).millions
+abbrev pub Reports : List ℕ → Report → Type 0
+Reports = ReportsOver values_given

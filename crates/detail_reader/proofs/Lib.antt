@@ -1,3 +1,2 @@
-pub mod Turns
-pub mod Passing
+pub mod Left
 pub mod Pass

@@ -1,11 +1,13 @@
 // The detail reader: it holds a body and the place of a detail in it, and goes through the body detail by detail.
 #![tactic(auto)]
 
-ghost use Rattle.std.specs.Prelude.{◌≡◌};
+ghost use Rattle.std.specs.Prelude.{◌≡◌, ◌≤◌, length};
+ghost use Rattle.std.specs.Iterator.{YieldsFirst, item_count};
 ghost use Rattle.layout.specs.Columns.{header_width};
-ghost use Rattle.layout.specs.Details.{next_detail};
+ghost use Rattle.layout.specs.Details.{details, pools_max};
+ghost use Rattle.detail_reader.specs.Left.{details_left};
 
-use layout::Step;
+use layout::Detail;
 
 #[derive(Clone, Copy)]
 pub struct Details<'a> {
@@ -23,16 +25,34 @@ pub fn new<'a>(body: &'a [u8]) -> Details<'a>
     }
 }
 
-// The detail at the reader's place and the place after it, or the end where no whole detail is left.
-pub fn next<'a>(d: Details<'a>) -> Step
-    ensures { result ≡ next_detail d.entry.body.now d.entry.at }
+// The pools of a body, one after another: none where its length fails check 10.
+#[tactic(auto, using(crate::proofs::Left::pools_left))]
+pub fn pools<'a>(body: &'a [u8]) -> Details<'a>
+    ensures all { details_left result ≡ details body.entry.now }
+    ensures few { length (details_left result) ≤ pools_max }
 {
-    layout::next_detail(d.body, d.at)
+    if layout::pool_count(body) == 0 {
+        Details {
+            body,
+            at: body.len(),
+        }
+    } else {
+        new(body)
+    }
 }
 
-// The reader at another place of the same body.
-pub fn moved<'a>(d: Details<'a>, at: usize) -> Details<'a>
-    ensures { (result.body ≡ d.entry.body) × (result.at ≡ at) }
-{
-    Details { body: d.body, at }
+impl<'a> Iterator for Details<'a> {
+    type Item = Detail;
+
+    ghost next_gives = { YieldsFirst details_left };
+
+    ghost remaining = { item_count details_left };
+
+    // The detail at the reader's place, and the reader behind it, or nothing where no whole detail is left.
+    #[tactic(auto, using(crate::proofs::Left::turns_left))]
+    fn next(&mut self) -> Option<Detail> {
+        let step = layout::next_detail(self.body, self.at)?;
+        self.at = step.next;
+        Some(step.detail)
+    }
 }

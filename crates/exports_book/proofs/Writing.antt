@@ -6,8 +6,6 @@ use mathlib.Core.Bool.{Bool, true, false}
 use lib.ListN.{length, get_or}
 use borrow.Author.Tests.{eq-eqb, ne_eqb}
 use Rattle.lists.specs.Lists.{pasted}
-use Rattle.framing.specs.declared.Frame.{Frame}
-use Rattle.framing.specs.declared.Frame.TheVariants.{Body}
 use Rattle.book.specs.declared.Answer.{Answer}
 use Rattle.book.specs.declared.Answer.TheVariants.{Accepted, Rejected, Dked}
 use Rattle.book.specs.Reasons.{is_accepted, is_silent}
@@ -95,6 +93,3 @@ opening_passed ws o ws' e w = record { code = rw e; image = rw e w }
 pub figures_written : (out out' : List ℕ) (f : Figures) (k : ℕ) → k ≡ bit f.known → out' ≡ pasted out 0 (k ∷ f.openPar ∷ f.millions ∷ []) → out' ≡ pasted out 0 (figures_numbers f)
 unfolding figures_numbers
 figures_written out out' f k e w = rw e at w
-
-pub frame_found : (f : Frame) (start end next : ℕ) → f ≡ Body start end next → 1 ∷ start ∷ end ∷ next ∷ [] ≡ frame_numbers f
-frame_found f start end next e = rw e

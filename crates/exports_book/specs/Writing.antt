@@ -2,7 +2,7 @@
 use Rattle.std.specs.Prelude.{ℕ, ◌+◌, ◌≡◌, List, [], ◌∷◌, Bool, cond, length, get_or, eqb}
 use Rattle.lists.specs.Lists.{pasted}
 use Rattle.framing.specs.declared.Frame.{Frame}
-use Rattle.framing.specs.declared.Frame.TheVariants.{Body, Nothing}
+use Rattle.std.specs.Prelude.{Option, Some, None}
 use Rattle.acknowledgment.specs.Frames.{aa_length}
 use Rattle.book.specs.declared.Answer.{Answer}
 use Rattle.book.specs.declared.Answer.TheVariants.{Rejected}
@@ -37,6 +37,6 @@ pub record OpensTo (ws : List ℕ) (o : Opened) (ws' : List ℕ) (r : ℕ) : Typ
   pub image : ws' ≡ cond o.fine (pasted ws 0 (image_of o.book)) ws
 
 -- of a frame: whether there is one, where its body starts and ends, and the place after it
-abbrev pub frame_numbers : Frame → List ℕ
-frame_numbers (Body start end next) = 1 ∷ start ∷ end ∷ next ∷ []
-frame_numbers Nothing = 0 ∷ 0 ∷ 0 ∷ 0 ∷ []
+abbrev pub frame_numbers : Option Frame → List ℕ
+frame_numbers (Some f) = 1 ∷ f.start ∷ f.end ∷ f.next ∷ []
+frame_numbers None = 0 ∷ 0 ∷ 0 ∷ 0 ∷ []

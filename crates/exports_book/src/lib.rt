@@ -109,7 +109,7 @@ pub fn finish(image: &mut [u64], said: &mut [u64], time: &[u8], stepped: Stepped
 {
     let own = stepped.answer;
     let answer = told_answer(time, own);
-    let silent = answers::is_silent(answer);
+    let silent = answer.is_silent();
     let before = outbound_in(image);
     let bytes = bytes_out(
         silent,
@@ -123,7 +123,7 @@ pub fn finish(image: &mut [u64], said: &mut [u64], time: &[u8], stepped: Stepped
         return;
     }
     let after = stepped.book;
-    if answers::is_accepted(answer) {
+    if answer.is_accepted() {
         image::write_book(&mut *image, after);
         return;
     }
@@ -165,17 +165,16 @@ pub fn put_figures(out: &mut [u64], f: Figures)
 }
 
 // The tally after a frame call: raised by the message's type and what the two numbers tell. A slice that is not four rows stays as it is, and so does any where no AA tells the numbers.
+#[tactic(auto, unfolding(calls_words::specs::Tally::rows_after))]
 pub fn count(rows: &mut [[u32; 3]], body: &[u8], said: &[u64])
     ensures { rows.new ≡ rows_after body.now said.now rows.old }
 {
     if rows.len() != tally::TYPES {
         return;
     }
-    let heard = exports_numbers::hear(said);
-    if !heard.told {
+    let Some(outcome) = exports_numbers::hear(said) else {
         return;
-    }
-    let outcome = heard.outcome;
+    };
     let kind = header::message_type(body);
     let before = tally::tally_of(rows);
     let after = tally::raise(before, kind, outcome);
@@ -183,11 +182,11 @@ pub fn count(rows: &mut [[u32; 3]], body: &[u8], said: &[u64])
 }
 
 // A frame as four numbers.
-pub fn frame_numbers(f: Frame) -> [u64; 4]
+pub fn frame_numbers(f: Option<Frame>) -> [u64; 4]
     ensures { result ≡ frame_numbers f }
 {
     match f {
-        Frame::Body { start, end, next } => [1, start as u64, end as u64, next as u64],
-        Frame::Nothing => [0, 0, 0, 0],
+        Some(f) => [1, f.start as u64, f.end as u64, f.next as u64],
+        None => [0; 4],
     }
 }

@@ -10,29 +10,29 @@ ghost use Rattle.calls_words.specs.Faults.{opening_fault_in, fault_numbers};
 use fault::Fault;
 
 // 41: the rule that is broken first by what words lend and a table of so many records.
-pub fn opening_fault(image: &[u64], records: usize) -> Fault
+pub fn opening_fault(image: &[u64], records: usize) -> Option<Fault>
     ensures { result ≡ opening_fault_in image.now records }
 {
     let read = image_reading::read_lent(image);
-    let values = read.values;
-    let later = fault::or_else(fault_opening::opening_fault(values, records), fault::none());
-    fault::or_else(fault::tested(101, 0, read.fine), later)
+    fault::tested(101, 0, read.fine).or_else(|| fault_opening::opening_fault(&read.values, records))
 }
 
-// Writes a fault in two numbers.
-pub fn put_fault(out: &mut [u64], f: Fault)
-    ensures { out.new ≡ pasted out.old 0 (fault_numbers f) }
+// Writes what is broken in two numbers: zeros where nothing is.
+#[tactic(auto, unfolding(calls_words::specs::Faults::fault_numbers))]
+pub fn put_fault(out: &mut [u64], found: Option<Fault>)
+    ensures { out.new ≡ pasted out.old 0 (fault_numbers found) }
 {
-    let two = [f.rule, f.place];
-    exports_numbers::put_numbers(&mut *out, &two);
+    let two = match found {
+        Some(f) => [f.rule, f.place],
+        None => [0, 0],
+    };
+    exports_numbers::put_numbers(out, &two);
 }
 
 // Writes what is broken of the book that words say, where its table was judged: of words that are no book's that they are none.
-pub fn put_book_fault(out: &mut [u64], image: &[u64], found: Fault)
+pub fn put_book_fault(out: &mut [u64], image: &[u64], found: Option<Fault>)
     ensures { out.new ≡ pasted out.old 0 (fault_numbers (first (test 101 0 (is_image image.now) ∷ found ∷ []))) }
 {
     let read = image_reading::read_book(image);
-    let later = fault::or_else(found, fault::none());
-    let told = fault::or_else(fault::tested(101, 0, read.fine), later);
-    put_fault(out, told);
+    put_fault(out, fault::tested(101, 0, read.fine).or(found));
 }

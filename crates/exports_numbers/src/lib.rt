@@ -1,20 +1,13 @@
 // Numbers for C and Rust: an answer in two numbers, what two numbers tell the tally, and numbers written into a lent slice.
 #![tactic(auto)]
 
-ghost use Rattle.std.specs.Prelude.{◌≡◌, eqb};
+ghost use Rattle.std.specs.Prelude.{◌≡◌};
 ghost use Rattle.exports_numbers.specs.Said.{said_of, is_told, heard_as, heard_in};
-ghost use Rattle.lists.specs.Lists.{any, pasted};
+ghost use Rattle.lists.specs.Lists.{pasted};
 ghost use Rattle.exports_numbers.specs.Bit.{bit};
 
 use book::Answer;
 use tally::Outcome;
-
-// What two numbers tell the tally: whether an answer that an AA tells says them, and its column.
-#[derive(Clone, Copy)]
-pub struct Heard {
-    pub told: bool,
-    pub outcome: Outcome,
-}
 
 // An answer in two numbers.
 pub fn said_of(answer: Answer) -> [u64; 2]
@@ -22,8 +15,8 @@ pub fn said_of(answer: Answer) -> [u64; 2]
 {
     match answer {
         Answer::Accepted(id) => [0, id],
-        Answer::Rejected(reason) => [1, answers::number_of(reason)],
-        Answer::Dked(reason) => [2, answers::number_of(reason)],
+        Answer::Rejected(reason) => [1, reason.number()],
+        Answer::Dked(reason) => [2, reason.number()],
     }
 }
 
@@ -32,86 +25,51 @@ const TOLD: [u64; 24] = [
     12, 13, 14, 15, 16, 17, 18, 19, 20, 21, 22, 23, 24, 25, 30, 31, 32, 33, 34, 35, 36, 37, 38, 40,
 ];
 
-// Whether a number stands among others.
-fn is_among(number: u64, numbers: &[u64]) -> bool
-    ensures { result ≡ any (eqb number) numbers.now }
-{
-    let mut i: usize = 0;
-    while i < numbers.len() {
-        let n = numbers[i];
-        i += 1;
-        if number == n {
-            return true;
-        }
-    }
-    false
-}
-
+#[tactic(auto, unfolding(crate::specs::Said::is_told, book::specs::Checks::soundness_checks, book::specs::Checks::sender_checks, book::specs::Checks::terms_checks, book::specs::Checks::moves_checks))]
 fn is_told(number: u64) -> bool
     ensures { result ≡ is_told number }
 {
-    let told = TOLD;
-    is_among(number, &told)
+    TOLD.contains(&number)
 }
 
-// What two numbers tell.
-fn hear_as(first: u64, second: u64) -> Heard
+// What two numbers tell the tally: the column of an answer that an AA tells.
+#[tactic(auto, unfolding(crate::specs::Said::heard_as))]
+fn hear_as(first: u64, second: u64) -> Option<Outcome>
     ensures { result ≡ heard_as first second }
 {
-    let told = is_told(second);
     match first {
-        0 => Heard {
-            told: true,
-            outcome: Outcome::Accepted,
-        },
-        1 => Heard {
-            told: told,
-            outcome: Outcome::Rejected,
-        },
-        2 => Heard {
-            told: told,
-            outcome: Outcome::Dked,
-        },
-        _ => Heard {
-            told: false,
-            outcome: Outcome::Accepted,
-        },
+        0 => Some(Outcome::Accepted),
+        1 if is_told(second) => Some(Outcome::Rejected),
+        2 if is_told(second) => Some(Outcome::Dked),
+        _ => None,
     }
 }
 
-// Reads the first two numbers of a slice. Fewer tell nothing.
-pub fn hear(said: &[u64]) -> Heard
+// What the first two numbers of a slice tell the tally. Fewer tell nothing.
+#[tactic(auto, unfolding(crate::specs::Said::heard_in))]
+pub fn hear(said: &[u64]) -> Option<Outcome>
     ensures { result ≡ heard_in said.now }
 {
-    if said.len() < 2 {
-        return Heard {
-            told: false,
-            outcome: Outcome::Accepted,
-        };
+    match said {
+        [first, second, ..] => hear_as(*first, *second),
+        _ => None,
     }
-    hear_as(said[0], said[1])
 }
 
 // A yes or a no as a number.
+#[tactic(auto, unfolding(crate::specs::Bit::bit))]
 pub fn bit_of(b: bool) -> u64
     ensures { result ≡ bit b }
 {
-    if b {
-        return 1;
-    }
-    0
+    u64::from(b)
 }
 
 // Writes numbers at the head of a slice. Numbers that do not fit are not written.
+#[tactic(auto, unfolding(lists::specs::Lists::pasted, lists::specs::Lists::within))]
 pub fn put_numbers(out: &mut [u64], numbers: &[u64])
     ensures { out.new ≡ pasted out.old 0 numbers.now }
 {
-    if out.len() < numbers.len() {
-        return;
-    }
-    let mut i: usize = 0;
-    while i < numbers.len() {
-        out[i] = numbers[i];
-        i += 1;
+    if numbers.len() <= out.len() {
+        out[..numbers.len()].copy_from_slice(numbers);
     }
 }

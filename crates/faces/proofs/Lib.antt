@@ -1,4 +1,1 @@
-pub mod Limits
-pub mod Kept
-pub mod Faced
 pub mod NewPools

@@ -1,17 +1,16 @@
 -- The faces of a message's pools: checks 34 and 35, and the weight of its new lots (01, "The trader").
-use Rattle.std.specs.Prelude.{ℕ, ◌+◌, ◌-◌, ◌*◌, List, Bool, not, ◌&&◌, ◌||◌, length, ltb}
+use Rattle.std.specs.Prelude.{ℕ, is_some, ◌*◌, List, Bool, not, ◌&&◌, ◌||◌, length, ltb}
+use Rattle.std.specs.Int.{abs_diff}
 use Rattle.lists.specs.Lists.{keep, any, sum_of, between}
-use Rattle.fields.specs.Fields.{read_number, is_number, holds}
+use Rattle.fields.specs.Fields.{read_number, holds}
 use Rattle.layout.specs.declared.Detail.{Detail}
 use Rattle.layout.specs.Columns.{original_face, current_face}
-use Rattle.terminator.specs.Terminators.{is_canceled, is_good}
+use Rattle.terminator.specs.Terminators.{is_good}
 use Rattle.terminator.specs.Lots.{Lot, pools_of, lot_kind, lot_millions, lots, current_cents, million_cents, lot_weight}
 use Rattle.terminator.specs.Groups.{lot_canceled}
+pub use Rattle.terminator.specs.Terminators.{is_new}
 
 -- ---- the new pools and lots of a message: an ON's, and a CC's that are not canceled
-abbrev pub is_new : Detail → Bool
-is_new d = not (is_canceled d)
-
 abbrev pub is_new_lot : Lot → Bool
 is_new_lot l = not (lot_canceled l)
 
@@ -28,20 +27,16 @@ original_most = 50000000
 -- 34 of one pool: both faces must be digits, and the original face from the least to the highest
 unfoldable pub face_fails : ℕ → Detail → Bool
 face_fails least d =
-    not (is_number (read_number d.current 0 current_face.width) && holds (between least original_most) (read_number d.original 0 original_face.width))
+    not (is_some (read_number d.current 0 current_face.width) && holds (between least original_most) (read_number d.matched.original 0 original_face.width))
 
 -- 34 of a message: some new pool fails it
 unfoldable pub faces_fail : ℕ → List Detail → Bool
 faces_fail least ds = any (face_fails least) (new_pools ds)
 
--- ---- 35: how far two sums lie apart
-abbrev pub apart : ℕ → ℕ → ℕ
-apart a b = (a - b) + (b - a)
-
--- a good lot's sum of current faces is off its weight by more than the variance (in cents) for each million, or it has too many pools for its millions
+-- ---- 35: a good lot's sum of current faces is off its weight by more than the variance (in cents) for each million, or it has too many pools for its millions
 unfoldable pub good_lot_fails : ℕ → ℕ → ℕ → ℕ → ℕ → Bool
 good_lot_fails sum pools millions variance poolsAMillion =
-    ltb (variance * millions) (apart sum (millions * million_cents)) || ltb (poolsAMillion * millions) pools
+    ltb (variance * millions) (abs_diff sum (millions * million_cents)) || ltb (poolsAMillion * millions) pools
 
 -- 35 of one lot: only good lots are held to it
 unfoldable pub lot_fails : ℕ → ℕ → Lot → Bool

@@ -1,6 +1,6 @@
 -- Which rule of opening (01, number 41) or of a sound book (number 42) is broken first, and which trade, holiday or record it is about.
 -- Trades, holidays and records are counted from 0; a rule that stands alone is about place 0. The tests are those of Opening and Soundness.
-use Rattle.std.specs.Prelude.{ℕ, ◌+◌, List, [], ◌∷◌, map, Bool, not, ◌&&◌, ◌||◌, length, drop, eqb, leb, ltb}
+use Rattle.std.specs.Prelude.{ℕ, ◌+◌, List, [], ◌∷◌, map, Bool, not, ◌&&◌, ◌||◌, Option, None, length, drop, eqb, leb, ltb}
 use Rattle.lists.specs.Lists.{between, same, any}
 use Rattle.fields.specs.Fields.{all_visible}
 use Rattle.layout.specs.Columns as columns
@@ -30,11 +30,11 @@ use Rattle.book.specs.Opening.{
 }
 use Rattle.book.specs.Soundness.{live_of, kind_fine, not_falling, agree_on_trade, agree_on_lot, is_none}
 use Rattle.fault.specs.declared.Fault.{Fault}
-use Rattle.fault.specs.Rules.{sound, test, or_else, first, each}
+use Rattle.fault.specs.Rules.{test, first, first_of, each}
 
 -- ---- 41
 -- GDMM ceiling, variance, pools a million and least face
-unfoldable pub limits_fault : Limits → Fault
+unfoldable pub limits_fault : Limits → Option Fault
 limits_fault l =
     first
     (test 107 0 (leb l.ceiling ceiling_max)
@@ -44,7 +44,7 @@ limits_fault l =
     ∷ [])
 
 -- a trade by itself: ID, seller, buyer, that these differ, contra, CUSIP, settlement, price, par
-unfoldable pub trade_fault : List ℕ → ℕ → Trade → Fault
+unfoldable pub trade_fault : List ℕ → ℕ → Trade → Option Fault
 trade_fault holidays i t =
     first
     (test 121 i (id_fine t)
@@ -59,16 +59,15 @@ trade_fault holidays i t =
     ∷ [])
 
 -- an ID that a later trade has too
-abbrev pub names_fault : ℕ → List (List ℕ) → Fault
-names_fault i [] = sound
-names_fault i (n ∷ ns) = or_else (test 130 i (not (any (same n) ns))) (names_fault (i + 1) ns)
+abbrev pub names_fault : ℕ → List (List ℕ) → Option Fault
+names_fault = first_of (λ i n ns. test 130 i (not (any (same n) ns)))
 
 -- a holiday that is no date
-abbrev pub date_fault : ℕ → ℕ → Fault
+abbrev pub date_fault : ℕ → ℕ → Option Fault
 date_fault i day = test 104 i (is_date day)
 
 -- opening's rules but for the table's length: how many trades and holidays, the holidays, subscriber, connection, limits, last message ID, last outbound number, the trades
-unfoldable pub values_fault : Values → Fault
+unfoldable pub values_fault : Values → Option Fault
 values_fault v =
     first
     (test 102 0 (leb v.lent.tradeCount trades_max)
@@ -84,12 +83,12 @@ values_fault v =
     ∷ [])
 
 -- 41, over a table of so many records
-unfoldable pub opening_fault : Values → ℕ → Fault
+unfoldable pub opening_fault : Values → ℕ → Option Fault
 opening_fault v records = first (values_fault v ∷ test 141 0 (leb records records_max) ∷ [])
 
 -- ---- 42
 -- a live record by itself: trade, message ID, ordinal, current face, kind and millions
-unfoldable pub record_fault : Values → ℕ → Pool → Fault
+unfoldable pub record_fault : Values → ℕ → Pool → Option Fault
 record_fault v i r =
     first
     (test 151 i (ltb r.trade v.lent.tradeCount)
@@ -100,34 +99,36 @@ record_fault v i r =
     ∷ [])
 
 -- a record after the one before it: message ID, then ordinal, does not fall; a message's records agree on trade, a lot's on kind and millions
-unfoldable pub follows_fault : ℕ → Pool → Pool → Fault
+unfoldable pub follows_fault : ℕ → Pool → Pool → Option Fault
 follows_fault i q r = first (test 156 i (not_falling q r) ∷ test 157 i (agree_on_trade q r) ∷ test 158 i (agree_on_lot q r) ∷ [])
 
+-- a record and the next one, where there is one
+abbrev pub next_fault : ℕ → Pool → List Pool → Option Fault
+next_fault i q [] = None
+next_fault i q (r ∷ rs) = follows_fault (i + 1) q r
+
 -- the records after the first, each with the one before it; the first is that of a place
-abbrev pub order_fault : ℕ → List Pool → Fault
-order_fault i [] = sound
-order_fault i (q ∷ []) = sound
-order_fault i (q ∷ r ∷ rs) = or_else (follows_fault (i + 1) q r) (order_fault (i + 1) (r ∷ rs))
+abbrev pub order_fault : ℕ → List Pool → Option Fault
+order_fault = first_of next_fault
 
 -- records of one message with equal matched fields
 abbrev pub twins : Pool → Pool → Bool
 twins r s = eqb r.message s.message && same_fields (live_fields r) (live_fields s)
 
 -- matched fields that stand again under the message ID
-abbrev pub once_fault : ℕ → List Pool → Fault
-once_fault i [] = sound
-once_fault i (r ∷ rs) = or_else (test 159 i (not (any (twins r) rs))) (once_fault (i + 1) rs)
+abbrev pub once_fault : ℕ → List Pool → Option Fault
+once_fault = first_of (λ i r rs. test 159 i (not (any (twins r) rs)))
 
 -- a record after the live ones that is not zeros
-abbrev pub zeros_fault : ℕ → Pool → Fault
+abbrev pub zeros_fault : ℕ → Pool → Option Fault
 zeros_fault i r = test 160 i (is_none r)
 
 -- a trade whose open par is not par less what its lots weigh
-abbrev pub par_fault : List Pool → ℕ → Trade → Fault
+abbrev pub par_fault : List Pool → ℕ → Trade → Option Fault
 par_fault rs i t = test 161 i (eqb (t.openPar + trade_weight i rs) t.par)
 
 -- 42 but for the open pars: opening's rules, the inbound line, the number of live pools, the live records, those after them
-unfoldable pub table_fault : Book → List Pool → Fault
+unfoldable pub table_fault : Book → List Pool → Option Fault
 table_fault b table =
     first
     (opening_fault b.values (length table)
@@ -140,5 +141,5 @@ table_fault b table =
     ∷ [])
 
 -- 42: these, then the open pars
-unfoldable pub book_fault : Book → List Pool → Fault
+unfoldable pub book_fault : Book → List Pool → Option Fault
 book_fault b table = first (table_fault b table ∷ each (par_fault (live_of b table)) 0 (trades_of b.values) ∷ [])

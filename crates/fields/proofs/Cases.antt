@@ -1,10 +1,7 @@
--- The cases of a field, taken apart here alone.
-use mathlib.Core.Path.{◌≡◌, refl}
-use mathlib.Core.Bool.{true, false≢true}
-use Rattle.fields.specs.declared.Field.{Field}
-use Rattle.fields.specs.declared.Field.TheVariants.{Number, NotDigits}
-use Rattle.fields.specs.Fields.{is_number, value_of}
+-- A field that is a number is that of its value.
+use Rattle.std.proofs.Common.{◌≡◌, refl, ℕ, true, Option, Some, None, is_some, unwrap_or}
+use Rattle.std.proofs.lemmas.Bool.{false≢true}
 
-pub number_is_law : (f : Field) → is_number f ≡ true → f ≡ Number (value_of f)
-number_is_law (Number n) e = refl
-number_is_law NotDigits e = absurd (false≢true e)
+pub number_is_law : (f : Option ℕ) → is_some f ≡ true → f ≡ Some (unwrap_or f 0)
+number_is_law (Some n) e = refl
+number_is_law None e = absurd (false≢true e)

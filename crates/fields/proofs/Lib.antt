@@ -1,4 +1,2 @@
-pub mod Read
-pub mod Compared
 pub mod Cases
 pub mod Bounds

@@ -1,8 +1,6 @@
 -- Fixed columns of bytes (01, "Text is ASCII, blank is hex 20, numbers are decimal digits"): read and compared, at any place and width.
-use Rattle.std.specs.Prelude.{ℕ, ◌+◌, ◌-◌, ◌*◌, List, [], ◌∷◌, Bool, true, false, cond, ◌&&◌, leb}
+use Rattle.std.specs.Prelude.{ℕ, Option, Some, None, unwrap_or, is_some, ◌+◌, ◌-◌, ◌*◌, List, [], ◌∷◌, Bool, cond, ◌&&◌, leb}
 use Rattle.lists.specs.Lists.{within, part, between, all, same}
-use Rattle.fields.specs.declared.Field.{Field}
-use Rattle.fields.specs.declared.Field.TheVariants.{Number, NotDigits}
 
 -- the widest field of digits that a number of 64 bits always holds
 abbrev pub digits_max : ℕ
@@ -30,28 +28,17 @@ abbrev pub is_digit : ℕ → Bool
 is_digit = between digit_zero digit_nine
 
 -- the number whose leading digits are n and whose other digits are the list
-abbrev pub number_from : ℕ → List ℕ → Field
-number_from n [] = Number n
-number_from n (b ∷ bs) = cond (is_digit b) (number_from (n * 10 + (b - digit_zero)) bs) NotDigits
+abbrev pub number_from : ℕ → List ℕ → Option ℕ
+number_from n [] = Some n
+number_from n (b ∷ bs) = cond (is_digit b) (number_from (n * 10 + (b - digit_zero)) bs) None
 
 -- the number in the width bytes from at; a place outside the list, or another byte than a digit, is not digits
-unfoldable pub read_number : List ℕ → ℕ → ℕ → Field
-read_number s at width = cond (leb width digits_max && within s at width) (number_from 0 (part s at width)) NotDigits
+unfoldable pub read_number : List ℕ → ℕ → ℕ → Option ℕ
+read_number s at width = cond (leb width digits_max && within s at width) (number_from 0 (part s at width)) None
 
--- ---- what the rules ask of a field: all else goes by these two and by holds
--- whether it is a number
-abbrev pub is_number : Field → Bool
-is_number (Number n) = true
-is_number NotDigits = false
-
--- its value, 0 where it is no number
-abbrev pub value_of : Field → ℕ
-value_of (Number n) = n
-value_of NotDigits = 0
-
--- whether it is a number that passes a test
-abbrev pub holds : (ℕ → Bool) → Field → Bool
-holds p f = is_number f && p (value_of f)
+-- ---- what the rules ask of a field: whether it is a number that passes a test
+abbrev pub holds : (ℕ → Bool) → Option ℕ → Bool
+holds p f = is_some f && p (unwrap_or f 0)
 
 -- ---- codes, and parts compared
 -- whether the n bytes from at stand in the list and have codes from low to high

@@ -1,106 +1,65 @@
 // Fixed columns of bytes: digits, blanks and codes read, and parts compared.
 #![tactic(auto)]
 
-ghost use Rattle.std.specs.Prelude.{◌≡◌};
-ghost use Rattle.fields.specs.Fields.{read_number, is_number, value_of, all_between, all_blank, all_visible, same_part};
-
-// What a field of digits holds.
-#[derive(Clone, Copy)]
-pub enum Field {
-    Number(u64),
-    NotDigits,
-}
+ghost use Rattle.std.specs.Prelude.{◌≡◌, true, false, MatchOption, length};
+ghost use Rattle.lists.specs.Lists.{within, part};
+ghost use Rattle.fields.specs.Fields.{read_number, all_between, all_blank, all_visible, same_part};
 
 // The widest field that read_number reads.
 pub const DIGITS_MAX: usize = 19;
 
-pub const BLANK: u8 = 32;
+pub const BLANK: u8 = b' ';
 
-pub const ZERO: u8 = 48;
-
-pub const NINE: u8 = 57;
+pub const ZERO: u8 = b'0';
 
 pub const VISIBLE_FIRST: u8 = 33;
 
 pub const VISIBLE_LAST: u8 = 126;
 
-fn wide(x: u8) -> u64
-    ensures { result ≡ x }
+// The n bytes from at, where they all stand there.
+#[tactic(auto, unfolding(lists::specs::Lists::within, lists::specs::Lists::part))]
+pub fn part(s: &[u8], at: usize, n: usize) -> Option<&[u8]>
+    ensures { MatchOption result (within s.now at n ≡ false) (λ p. (within s.now at n ≡ true) × (p.now ≡ part s.now at n) × (length p.now ≡ n)) }
 {
-    x as u64
+    s.get(at..)?.get(..n)
+}
+
+// The n bytes from at, or those of them that stand there.
+#[tactic(auto, unfolding(lists::specs::Lists::part))]
+pub fn clipped(s: &[u8], at: usize, n: usize) -> &[u8]
+    ensures { result.now ≡ part s.now at n }
+{
+    let rest = s.get(at..).unwrap_or(&[]);
+    rest.get(..n).unwrap_or(rest)
 }
 
 // The number in the width digits from at.
-pub fn read_number(s: &[u8], at: usize, width: usize) -> Field
+#[tactic(auto, using(crate::proofs::Bounds::below_ten), unfolding(crate::specs::Fields::read_number))]
+pub fn read_number(s: &[u8], at: usize, width: usize) -> Option<u64>
     ensures { result ≡ read_number s.now at width }
 {
     if DIGITS_MAX < width {
-        return Field::NotDigits;
+        return None;
     }
-    if s.len() < at {
-        return Field::NotDigits;
-    }
-    if s.len() - at < width {
-        return Field::NotDigits;
-    }
-    let mut n: u64 = 0;
-    let mut i: usize = 0;
-    while i < width {
-        let b = s[at + i];
-        if b < ZERO {
-            return Field::NotDigits;
+    let mut n = 0;
+    for b in part(s, at, width)? {
+        if !b.is_ascii_digit() {
+            return None;
         }
-        if NINE < b {
-            return Field::NotDigits;
-        }
-        n = n * 10 + wide(b - ZERO);
-        i += 1;
+        n = n * 10 + u64::from(*b - ZERO);
     }
-    Field::Number(n)
-}
-
-// Whether a field is a number.
-pub fn is_number(f: Field) -> bool
-    ensures { result ≡ is_number f }
-{
-    match f {
-        Field::Number(_) => true,
-        Field::NotDigits => false,
-    }
-}
-
-// The value of a field, 0 where it is no number.
-pub fn value_of(f: Field) -> u64
-    ensures { result ≡ value_of f }
-{
-    match f {
-        Field::Number(n) => n,
-        Field::NotDigits => 0,
-    }
+    Some(n)
 }
 
 // Whether the n bytes from at have codes from low to high.
+#[tactic(auto, unfolding(crate::specs::Fields::all_between))]
 pub fn all_between(s: &[u8], at: usize, n: usize, low: u8, high: u8) -> bool
     ensures { result ≡ all_between low high s.now at n }
 {
-    if s.len() < at {
-        return false;
+    match part(s, at, n) {
+        Some(bytes) => bytes.iter().all(|b| (low..=high).contains(b)),
+        None => false,
     }
-    if s.len() - at < n {
-        return false;
-    }
-    let mut i: usize = 0;
-    while i < n {
-        let b = s[at + i];
-        i += 1;
-        if b < low {
-            return false;
-        }
-        if high < b {
-            return false;
-        }
-    }
-    true
 }
 
 // Whether the n bytes from at are all blank.
@@ -118,27 +77,12 @@ pub fn all_visible(s: &[u8], at: usize, n: usize) -> bool
 }
 
 // Whether the n bytes of a from i are those of b from j.
+#[tactic(auto, unfolding(crate::specs::Fields::same_part))]
 pub fn same_part(a: &[u8], i: usize, b: &[u8], j: usize, n: usize) -> bool
     ensures { result ≡ same_part a.now i b.now j n }
 {
-    if a.len() < i {
-        return false;
+    match (part(a, i, n), part(b, j, n)) {
+        (Some(x), Some(y)) => x == y,
+        _ => false,
     }
-    if a.len() - i < n {
-        return false;
-    }
-    if b.len() < j {
-        return false;
-    }
-    if b.len() - j < n {
-        return false;
-    }
-    let mut k: usize = 0;
-    while k < n {
-        if a[i + k] != b[j + k] {
-            return false;
-        }
-        k += 1;
-    }
-    true
 }

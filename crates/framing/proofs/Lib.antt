@@ -1,2 +1,3 @@
-pub mod Scan
+mod Scan
 pub mod Ahead
+pub mod Following

@@ -1,143 +1,113 @@
 // The groups of a CC: whether they are formed (20), and whether each has like sums (21).
 #![tactic(auto)]
 
-ghost use Rattle.std.specs.Prelude.{◌≡◌, ◌+◌, ◌*◌, ◌≤◌};
-ghost use Rattle.lists.specs.Lists.{fold};
+ghost use Rattle.std.specs.Prelude.{◌≡◌};
 ghost use Rattle.layout.specs.Details.{details, pools_max};
-ghost use Rattle.terminator.specs.Terminators.{millions_most};
 ghost use Rattle.terminator.specs.Reading.{groups_judged};
-ghost use Rattle.groups.specs.Runs.{judged, empty_run, with_canceled, with_replacement, run_on, run_step, Small};
+ghost use Rattle.groups.specs.Runs.{judged, empty_run, with_kind, with_canceled, with_replacement, run_on, Small};
 
 use layout::Detail;
-use terminator::{Groups, Mark};
+use terminator::{Groups, Kind, Terminator};
 
-// Checks 20 and 21 of the groups so far, and the group at hand: its lots, whether all are of one kind, and the millions that its canceled and its replacement lots have.
+// Checks 20 and 21 of the groups before the one at hand, and the group at hand: its lots, the millions that its canceled and its replacement lots have, and whether all are of one kind.
 #[derive(Clone, Copy)]
 struct Run {
-    formed: bool,
-    balanced: bool,
+    before: Groups,
     canceled: usize,
     replacement: usize,
+    taken: u64,
+    brought: u64,
     good: bool,
     odd: bool,
     bad: bool,
-    taken: u64,
-    brought: u64,
 }
 
-// Checks 20 and 21 of the groups so far and the one at hand.
-fn judge(g: Run) -> Groups
-    ensures { result ≡ judged g }
-{
-    let some = (1 <= g.canceled) & (1 <= g.replacement);
-    let single = (g.canceled == 1) & (g.replacement == 1);
-    Groups {
-        formed: g.formed & (some & (g.good | (single & (g.odd | g.bad)))),
-        balanced: g.balanced & (g.taken == g.brought),
+impl Run {
+    // A new group after those before it.
+    fn empty(before: Groups) -> Run
+        ensures { result ≡ empty_run before }
+    {
+        Run {
+            before,
+            canceled: 0,
+            replacement: 0,
+            taken: 0,
+            brought: 0,
+            good: true,
+            odd: true,
+            bad: true,
+        }
     }
-}
 
-fn empty_run(formed: bool, balanced: bool) -> Run
-    ensures { result ≡ empty_run formed balanced }
-{
-    Run {
-        formed: formed,
-        balanced: balanced,
-        canceled: 0,
-        replacement: 0,
-        good: true,
-        odd: true,
-        bad: true,
-        taken: 0,
-        brought: 0,
+    // Checks 20 and 21 of the groups before and of the one at hand.
+    fn judged(self) -> Groups
+        ensures { result ≡ judged self }
+    {
+        let some = 1 <= self.canceled && 1 <= self.replacement;
+        let single = self.canceled == 1 && self.replacement == 1;
+        let alike = self.good || single && (self.odd || self.bad);
+        Groups {
+            formed: self.before.formed && some && alike,
+            balanced: self.before.balanced && self.taken == self.brought,
+        }
     }
-}
 
-fn with_canceled(g: Run, m: Mark) -> Run
-    requires { (g.canceled ≤ pools_max) × (g.taken + m.millions ≤ millions_most * (pools_max + 1)) }
-    ensures { result ≡ with_canceled g m }
-{
-    Run {
-        formed: g.formed,
-        balanced: g.balanced,
-        canceled: g.canceled + 1,
-        replacement: g.replacement,
-        good: g.good & m.good,
-        odd: g.odd & m.odd,
-        bad: g.bad & !(m.good | m.odd),
-        taken: g.taken + m.millions,
-        brought: g.brought,
+    // The kinds with one more lot.
+    fn with_kind(self, kind: Kind) -> Run
+        ensures { result ≡ with_kind self kind }
+    {
+        Run {
+            good: self.good && kind == Kind::Good,
+            odd: self.odd && kind == Kind::Odd,
+            bad: self.bad && kind == Kind::Bad,
+            ..self
+        }
     }
-}
 
-fn with_replacement(g: Run, m: Mark) -> Run
-    requires { (g.replacement ≤ pools_max) × (g.brought + m.millions ≤ millions_most * (pools_max + 1)) }
-    ensures { result ≡ with_replacement g m }
-{
-    Run {
-        formed: g.formed,
-        balanced: g.balanced,
-        canceled: g.canceled,
-        replacement: g.replacement + 1,
-        good: g.good & m.good,
-        odd: g.odd & m.odd,
-        bad: g.bad & !(m.good | m.odd),
-        taken: g.taken,
-        brought: g.brought + m.millions,
+    // The groups after one more pool: only an end counts, and a canceled lot after a replacement closes the group at hand.
+    #[tactic(auto, using(terminator::proofs::Marks::millions_small))]
+    fn on(self, d: Detail) -> Run
+        requires { Small pools_max self }
+        ensures { result ≡ run_on self d }
+    {
+        let t = terminator::terminator_of(d.terminator);
+        if !t.is_end() {
+            return self;
+        }
+        let canceled = terminator::is_canceled(d);
+        let group = if canceled && 0 < self.replacement {
+            Run::empty(self.judged())
+        } else {
+            self
+        };
+        let group = group.with_kind(t.kind());
+        if canceled {
+            Run {
+                canceled: group.canceled + 1,
+                taken: group.taken + t.millions(),
+                ..group
+            }
+        } else {
+            Run {
+                replacement: group.replacement + 1,
+                brought: group.brought + t.millions(),
+                ..group
+            }
+        }
     }
-}
-
-// The groups after one more pool.
-fn run_on(g: Run, m: Mark) -> Run
-    requires { Small pools_max g × (m.millions ≤ millions_most) }
-    ensures { result ≡ run_on g m }
-{
-    if !m.end {
-        return g;
-    }
-    if m.one != terminator::CANCELED {
-        return with_replacement(g, m);
-    }
-    if g.replacement == 0 {
-        return with_canceled(g, m);
-    }
-    let closed = judge(g);
-    let next = empty_run(closed.formed, closed.balanced);
-    with_canceled(next, m)
-}
-
-// The groups after one more pool, by its detail.
-fn run_next(g: Run, d: Detail) -> Run
-    requires { Small pools_max g }
-    ensures { result ≡ run_step g d }
-{
-    let m = terminator::mark_of(d);
-    run_on(g, m)
-}
-
-// Every pool of a message, by the detail reader.
-fn run_pools(body: &[u8], g: Run) -> Run
-    requires { Small 0 g }
-    ensures { result ≡ fold run_step g (details body.now) }
-{
-    let n = layout::pool_count(body);
-    let mut d = detail_reader::new(body);
-    let mut g = g;
-    let mut i: usize = 0;
-    while i < n {
-        let step = detail_reader::next(d);
-        g = run_next(g, step.detail);
-        d = detail_reader::moved(d, step.next);
-        i += 1;
-    }
-    g
 }
 
 // Checks 20 and 21: whether the groups of a CC are formed, and whether each has like sums.
+#[tactic(auto, using(crate::proofs::Runs::small_more))]
 pub fn groups_of(body: &[u8]) -> Groups
     ensures { result ≡ groups_judged (details body.now) }
 {
-    let none = empty_run(true, true);
-    let g = run_pools(body, none);
-    judge(g)
+    let mut run = Run::empty(Groups {
+        formed: true,
+        balanced: true,
+    });
+    for d in detail_reader::pools(body) {
+        run = run.on(d);
+    }
+    run.judged()
 }

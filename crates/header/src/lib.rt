@@ -2,71 +2,49 @@
 // a CC's replacements and settlement (22, 23), a DK's reason and trade ID (24, 25), an ON's millions (33).
 #![tactic(auto)]
 
-ghost use Rattle.std.specs.Prelude.{◌≡◌, ◌≤◌, min, length, take, cond, eqb, leb};
-ghost use Rattle.lists.specs.Lists.{same, any};
-ghost use Rattle.layout.specs.Columns.{bytes_in};
+ghost use Rattle.std.specs.Prelude.{◌≡◌, cond, eqb, leb};
+ghost use Rattle.lists.specs.Lists.{any};
 ghost use Rattle.layout.specs.Details.{length_fits};
+ghost use Rattle.book.specs.Trades.{trades_of};
 ghost use Rattle.book.specs.Messages.{type_of, id_in, is_stipulated};
-ghost use Rattle.book.specs.Opening.{trades_max};
 ghost use Rattle.book.specs.Checks.{not_number, at_most, is_no_sequence, sequence_fails, arrived, version_wrong, blank_in, fillers_fine, is_side, parties_fine, amounts_wrong, replacements_fail, is_business_date, settlement_fails, reason_fails, trade_id_missing, millions_fail};
 ghost use Rattle.book.specs.declared.Reason.TheVariants as by;
 ghost use Rattle.book.specs.Reasons.{told};
-ghost use Rattle.book.specs.declared.Verdict.TheVariants.{Passes, Fails};
+ghost use Rattle.std.specs.Prelude.{Ok, Err};
 
 use book::{Reason, Trade, Values, Verdict};
-use fields::Field;
 use layout::Column;
 use message_type::MessageType;
 use sequence::Inbound;
 use trade_id::TradeId;
 
-// The lesser of two numbers.
-pub fn lesser(a: usize, b: usize) -> usize
-    ensures { result ≡ min a b }
-{
-    if a < b {
-        return a;
-    }
-    b
-}
-
-// Whether a column holds these bytes, of which there are as many as it is wide.
-fn column_is(body: &[u8], column: Column, bytes: &[u8]) -> bool
-    requires { (length bytes.now ≡ column.width) × (1 ≤ column.width) }
-    ensures { result ≡ same (bytes_in body.now column) bytes.now }
-{
-    fields::same_part(body, column.at, bytes, 0, column.width)
-}
-
 // The type of a message.
+#[tactic(auto, unfolding(book::specs::Messages::type_of))]
 pub fn message_type(body: &[u8]) -> MessageType
     ensures { result ≡ type_of body.now }
 {
-    if column_is(body, layout::MESSAGE_TYPE, b"ON") {
-        return MessageType::On;
+    if layout::column_is(body, layout::MESSAGE_TYPE, b"ON") {
+        MessageType::On
+    } else if layout::column_is(body, layout::MESSAGE_TYPE, b"CC") {
+        MessageType::Cc
+    } else if layout::column_is(body, layout::MESSAGE_TYPE, b"DK") {
+        MessageType::Dk
+    } else if layout::column_is(body, layout::MESSAGE_TYPE, b"CX") {
+        MessageType::Cx
+    } else {
+        MessageType::Other
     }
-    if column_is(body, layout::MESSAGE_TYPE, b"CC") {
-        return MessageType::Cc;
-    }
-    if column_is(body, layout::MESSAGE_TYPE, b"DK") {
-        return MessageType::Dk;
-    }
-    if column_is(body, layout::MESSAGE_TYPE, b"CX") {
-        return MessageType::Cx;
-    }
-    MessageType::Other
 }
 
 // The trade ID in special instructions. A short body has only a part of that column, or nothing of it.
 pub fn trade_id_in(body: &[u8]) -> TradeId
     ensures { result ≡ id_in body.now }
 {
-    let start = lesser(layout::SPECIAL.at, body.len());
-    let end = lesser(layout::SPECIAL.at + layout::SPECIAL.width, body.len());
-    trade_id::find_trade_id(&body[start..end])
+    trade_id::find_trade_id(layout::bytes_in(body, layout::SPECIAL))
 }
 
 // 10: whether the length is that of a header and 1 to 250 details.
+#[tactic(auto, using(crate::proofs::Parts::fits_some))]
 pub fn length_fits(body: &[u8]) -> bool
     ensures { result ≡ length_fits body.now }
 {
@@ -74,19 +52,17 @@ pub fn length_fits(body: &[u8]) -> bool
 }
 
 // Whether a field is not digits, or over the most.
-pub fn over(most: u64, f: Field) -> bool
+fn over(most: u64, f: Option<u64>) -> bool
     ensures { result ≡ not_number (at_most most) f }
 {
-    let n = fields::value_of(f);
-    !(fields::is_number(f) & (n <= most))
+    !f.is_some_and(|n| n <= most)
 }
 
 // 11 of a field: not digits, or a number that the line refuses.
-fn is_no_sequence(f: Field) -> bool
+fn is_no_sequence(f: Option<u64>) -> bool
     ensures { result ≡ is_no_sequence f }
 {
-    let n = fields::value_of(f);
-    !fields::is_number(f) | ((sequence::INBOUND_MAX as u64) < n)
+    f.is_none_or(|n| u64::from(sequence::INBOUND_MAX) < n)
 }
 
 // 11: the sequence number is not digits, or 999999.
@@ -100,15 +76,14 @@ pub fn sequence_fails(body: &[u8]) -> bool
 pub fn arrived(body: &[u8]) -> Inbound
     ensures { result ≡ arrived body.now }
 {
-    let n = fields::value_of(layout::number_in(body, layout::SEQUENCE));
-    Inbound(n as u32)
+    Inbound(layout::number_in(body, layout::SEQUENCE).unwrap_or(0) as u32)
 }
 
 // 14: version not 002.
 pub fn version_wrong(body: &[u8]) -> bool
     ensures { result ≡ version_wrong body.now }
 {
-    !column_is(body, layout::VERSION, b"002")
+    !layout::column_is(body, layout::VERSION, b"002")
 }
 
 fn blank_in(body: &[u8], column: Column) -> bool
@@ -121,113 +96,81 @@ fn blank_in(body: &[u8], column: Column) -> bool
 pub fn fillers_fine(body: &[u8]) -> bool
     ensures { result ≡ fillers_fine body.now }
 {
-    let fillers = blank_in(body, layout::FILLER_ONE)
-        & (blank_in(body, layout::FILLER_TWO) & blank_in(body, layout::FILLER_THREE));
-    fillers & (column_is(body, layout::POS_DUP, b"X") | column_is(body, layout::POS_DUP, b" "))
+    (blank_in(body, layout::FILLER_ONE)
+        & (blank_in(body, layout::FILLER_TWO) & blank_in(body, layout::FILLER_THREE)))
+        & (layout::column_is(body, layout::POS_DUP, b"X")
+            | layout::column_is(body, layout::POS_DUP, b" "))
 }
 
 // Whether the contra is FSTI.
 pub fn is_stipulated(body: &[u8]) -> bool
     ensures { result ≡ is_stipulated body.now }
 {
-    column_is(body, layout::CONTRA, b"FSTI")
+    layout::column_is(body, layout::CONTRA, b"FSTI")
 }
 
 // Whether the submitter is the seller or the buyer of a trade.
-fn is_side(t: Trade, body: &[u8]) -> bool
-    ensures { result ≡ is_side body.now t }
+fn is_side(t: &Trade, body: &[u8]) -> bool
+    ensures { result ≡ is_side body.now t.now }
 {
-    let seller = t.seller;
-    let buyer = t.buyer;
-    column_is(body, layout::SUBMITTER, &seller) | column_is(body, layout::SUBMITTER, &buyer)
+    layout::column_is(body, layout::SUBMITTER, &t.seller)
+        | layout::column_is(body, layout::SUBMITTER, &t.buyer)
 }
 
-// Whether the submitter is the seller or the buyer of one of the first count trades.
-fn some_side(trades: [Trade; book::TRADES_MAX], count: usize, body: &[u8]) -> bool
-    requires { count ≤ trades_max }
-    ensures { result ≡ any (is_side body.now) (take count trades) }
+// Whether the submitter is a side of some trade.
+fn some_side(v: &Values, body: &[u8]) -> bool
+    ensures { result ≡ any (is_side body.now) (trades_of v.now) }
 {
-    let mut i: usize = 0;
-    while i < count {
-        let t = trades[i];
-        i += 1;
-        if is_side(t, body) {
-            return true;
-        }
-    }
-    false
+    v.opened_trades().iter().any(|t| is_side(t, body))
 }
 
 // 17: the book's subscriber and connection, a submitter that is a side of some trade, and contra FTBA or FSTI.
-pub fn parties_fine(v: Values, body: &[u8]) -> bool
-    ensures { result ≡ parties_fine v body.now }
+pub fn parties_fine(v: &Values, body: &[u8]) -> bool
+    ensures { result ≡ parties_fine v.now body.now }
 {
-    let subscriber = v.lent.subscriber;
-    let connection = v.connection.id;
-    let trades = v.trades;
-    let count = lesser(v.lent.tradeCount, book::TRADES_MAX);
-    let line = column_is(body, layout::SUBSCRIBER, &subscriber)
-        & column_is(body, layout::CONNECTION, &connection);
-    let contra = column_is(body, layout::CONTRA, b"FTBA") | is_stipulated(body);
-    line & (some_side(trades, count, body) & contra)
-}
-
-fn wide(x: usize) -> u64
-    ensures { result ≡ x }
-{
-    x as u64
+    let contra = layout::column_is(body, layout::CONTRA, b"FTBA") | is_stipulated(body);
+    layout::column_is(body, layout::SUBSCRIBER, &v.lent.subscriber)
+        & (layout::column_is(body, layout::CONNECTION, &v.connection.id)
+            & (some_side(v, body) & contra))
 }
 
 // Whether a field is not digits, or 0.
-fn is_nothing(f: Field) -> bool
+fn is_nothing(f: Option<u64>) -> bool
     ensures { result ≡ not_number (leb 1) f }
 {
-    let n = fields::value_of(f);
-    !(fields::is_number(f) & (1 <= n))
+    !f.is_some_and(|n| 1 <= n)
 }
 
 // Whether a field is not digits, or another number.
-fn is_unlike(k: u64, f: Field) -> bool
+fn is_unlike(k: u64, f: Option<u64>) -> bool
     ensures { result ≡ not_number (eqb k) f }
 {
-    let n = fields::value_of(f);
-    !(fields::is_number(f) & (k == n))
-}
-
-// Whether a field is not digits, or no business date.
-fn is_no_business_date(f: Field, holidays: &[u32]) -> bool
-    ensures { result ≡ not_number (is_business_date holidays.now) f }
-{
-    let n = fields::value_of(f);
-    !(fields::is_number(f) & calendar::business_date(n, holidays))
+    !f.is_some_and(|n| k == n)
 }
 
 // 16: par or price 0, or GDMM over the ceiling.
 pub fn amounts_fail(ceiling: u64, body: &[u8]) -> bool
     ensures { result ≡ amounts_wrong ceiling body.now }
 {
-    let par = layout::number_in(body, layout::PAR);
-    let price = layout::number_in(body, layout::PRICE);
-    let gdmm = layout::number_in(body, layout::GDMM);
-    is_nothing(par) | (is_nothing(price) | over(ceiling, gdmm))
+    is_nothing(layout::number_in(body, layout::PAR))
+        | (is_nothing(layout::number_in(body, layout::PRICE))
+            | over(ceiling, layout::number_in(body, layout::GDMM)))
 }
 
 // 22: the number of pools is not the number of replacement pools.
 pub fn replacements_fail(body: &[u8]) -> bool
     ensures { result ≡ replacements_fail body.now }
 {
-    let count = wide(lots::replacement_count(body));
+    let count = lots::replacement_count(body) as u64;
     is_unlike(count, layout::number_in(body, layout::NUMBER_OF_POOLS))
 }
 
 // 23: settlement is no business date.
-pub fn settlement_fails(v: Values, body: &[u8]) -> bool
-    ensures { result ≡ settlement_fails v body.now }
+pub fn settlement_fails(v: &Values, body: &[u8]) -> bool
+    ensures { result ≡ settlement_fails v.now body.now }
 {
-    let days = lesser(v.lent.holidayCount, book::HOLIDAYS_MAX);
-    let holidays = v.lent.holidays;
     let settlement = layout::number_in(body, layout::SETTLEMENT);
-    is_no_business_date(settlement, &holidays[..days])
+    !settlement.is_some_and(|n| calendar::business_date(n, v.opened_holidays()))
 }
 
 // 24: a DK's reason is 0 or not digits.
@@ -239,16 +182,15 @@ pub fn reason_fails(body: &[u8]) -> bool
 
 // 25: a stipulated DK without a whole trade ID.
 pub fn id_verdict(body: &[u8]) -> Verdict
-    ensures { result ≡ cond (trade_id_missing body.now) (Fails (by.Sender 25 told)) Passes }
+    ensures { result ≡ cond (trade_id_missing body.now) (Err (by.Sender 25 told)) (Ok tt) }
 {
     if !is_stipulated(body) {
-        return Verdict::Passes;
+        return Ok(());
     }
-    let id = trade_id_in(body);
-    let TradeId::Whole { .. } = id else {
-        return Verdict::Fails(Reason::Sender(25, book::TOLD));
+    let TradeId::Whole { .. } = trade_id_in(body) else {
+        return Err(Reason::Sender(25, book::TOLD));
     };
-    Verdict::Passes
+    Ok(())
 }
 
 // 33: GDMM is not the sum of the good millions.

@@ -46,7 +46,7 @@ module _ {A : Type 0} (f : A → List ℕ) where
 
     pub joining_more : (o o' : List ℕ) (i : ℕ) → Joining o i → (row : List ℕ) (d : A) → row ≡ f (get_or xs i d) → length row ≡ 42 → o' ≡ pasted o (i * 42) row → i < length xs → Joining o' (i + 1)
     joining_more o o' i inv row d q l e h =
-        let b = part row inv e l in
+        let b = part 42 row inv e l in
         let w : flat_map f (take i xs) ++ row ≡ flat_map f (take (i + 1) xs) = ap (λ (r : List ℕ). flat_map f (take i xs) ++ r) q ∙ sym (join_turn xs i d h) in
         record {
           is = λ k. b.is (omega arith) ∙ ap (pasted o₀ 0) w;
@@ -92,4 +92,4 @@ pub image_written : (b : Book) (o₀ o o' rest : List ℕ) → book_words ≤ le
     → rest ≡ rest_image b → length rest ≡ rest_words → o' ≡ pasted o trades_words rest → o' ≡ pasted o₀ 0 (image_of b)
 unfolding image_of
 image_written b o₀ o o' rest h e n q m f =
-    (part rest (first e refl n) f m).is h ∙ ap (λ (r : List ℕ). pasted o₀ 0 (flat_map trade_image b.values.trades ++ r)) q
+    (part rest_words rest (first trades_words e refl n) f m).is h ∙ ap (λ (r : List ℕ). pasted o₀ 0 (flat_map trade_image b.values.trades ++ r)) q

@@ -1,4 +1,5 @@
 -- The words after the trades say all of a book but its trades.
+use Rattle.std.specs.Prelude.{None, Option, Some}
 use mathlib.Core.Path.{◌≡◌, refl, sym, ap, ◌∙◌}
 use mathlib.Core.List.{List, [], ◌∷◌, ◌++◌}
 use mathlib.Core.Bool.{Bool, true, false, cond}
@@ -11,8 +12,7 @@ use Rattle.lists.specs.Lists.{part, tab, all}
 use Rattle.lists.proofs.Parts.{length_part}
 use Rattle.lists.proofs.Tables.{tab_same, table_of_law}
 use Rattle.lists.proofs.Tests.{both}
-use Rattle.sequence.specs.declared.Received.{Received}
-use Rattle.sequence.specs.declared.Received.TheVariants.{Nothing, Last}
+use Rattle.sequence.specs.declared.Inbound.{Inbound}
 use Rattle.sequence.specs.Sequence.{inbound, outbound}
 use Rattle.book.specs.declared.Book.{Book}
 use Rattle.book.proofs.ListLaws.{all_both}
@@ -22,13 +22,13 @@ use Rattle.image.proofs.Looking.{part_table, part_at}
 use Rattle.image.proofs.Cutting.{part_next, part_whole, six}
 
 -- ---- what was received
-received_back : (r : Received) → received_in (flag_of r) (last_of r) ≡ r
-received_back Nothing = refl
-received_back (Last n) = refl
+received_back : (r : Option Inbound) → received_in (flag_of r) (last_of r) ≡ r
+received_back None = refl
+received_back (Some n) = refl
 
-received_fits_law : (r : Received) → is_number (last_of r) ≡ true → received_fits (flag_of r) (last_of r) ≡ true
-received_fits_law Nothing h = refl
-received_fits_law (Last n) h = h
+received_fits_law : (r : Option Inbound) → is_number (last_of r) ≡ true → received_fits (flag_of r) (last_of r) ≡ true
+received_fits_law None h = refl
+received_fits_law (Some n) h = h
 
 -- ---- 52 words
 module _ (rest : List ℕ) (l : length rest ≡ 52) where

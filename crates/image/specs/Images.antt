@@ -1,11 +1,11 @@
 -- A book as words (01, "The book"): one word for each number and each byte of it, in the order in which the book's structs declare them; and what a list of words says.
 -- Of the trades and the holidays only those that the counts tell are read: past them any words may stand.
+use Rattle.std.specs.Prelude.{None, Option, Some}
 use Rattle.std.specs.Prelude.{ℕ, ◌+◌, ◌*◌, Bool, cond, ◌&&◌, ◌||◌, length, get_or, replicate, eqb, ltb}
 use mathlib.Core.List.{List, [], ◌∷◌, ◌++◌, map, flat_map}
 use Rattle.lists.specs.Lists.{part, tab, all}
 use Rattle.trade_id.specs.SpecialInstructions.{id_length_max}
-use Rattle.sequence.specs.declared.Received.{Received}
-use Rattle.sequence.specs.declared.Received.TheVariants.{Nothing, Last}
+use Rattle.sequence.specs.declared.Inbound.{Inbound}
 use Rattle.sequence.specs.declared.Line.{Line}
 use Rattle.sequence.specs.Sequence.{inbound, outbound, start_line}
 use Rattle.book.specs.declared.Trade.{Trade}
@@ -36,14 +36,14 @@ unfoldable pub trade_image : Trade → List ℕ
 trade_image t = t.id ++ (t.length ∷ []) ++ t.seller ++ t.buyer ++ t.contra ++ t.cusip ++ (t.settlement ∷ t.price ∷ t.par ∷ t.openPar ∷ [])
 
 -- whether a number was received
-abbrev pub flag_of : Received → ℕ
-flag_of Nothing = 0
-flag_of (Last n) = 1
+abbrev pub flag_of : Option Inbound → ℕ
+flag_of None = 0
+flag_of (Some n) = 1
 
 -- the last number received, 0 where there is none
-abbrev pub last_of : Received → ℕ
-last_of Nothing = 0
-last_of (Last n) = n.0
+abbrev pub last_of : Option Inbound → ℕ
+last_of None = 0
+last_of (Some n) = n.0
 
 -- all of a book but its trades
 unfoldable pub rest_image : Book → List ℕ
@@ -128,8 +128,8 @@ trade_in row =
       openPar = get_or row words.open_par 0;
     }
 
-abbrev pub received_in : ℕ → ℕ → Received
-received_in flag n = cond (eqb flag 0) Nothing (Last (inbound n))
+abbrev pub received_in : ℕ → ℕ → Option Inbound
+received_in flag n = cond (eqb flag 0) None (Some (inbound n))
 
 abbrev pub line_in : List ℕ → Line
 line_in rest = record { received = received_in (get_or rest words.received 0) (get_or rest words.number 0); expected = inbound (get_or rest words.expected 0) }

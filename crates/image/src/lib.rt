@@ -10,7 +10,7 @@ ghost use Rattle.image.specs.Words.{account_width, cusip_width, names_words, acc
 ghost use Rattle.image.specs.Images.{trades_words, words_of, trade_image, flag_of, last_of, rest_image, image_of, blank};
 
 use book::{Book, Trade};
-use sequence::Received;
+use sequence::Inbound;
 
 // Words of a book: 64 trades and the rest.
 pub const BOOK_WORDS: usize = 2740;
@@ -231,23 +231,17 @@ fn put_trades(words: &mut [u64], trades: [Trade; book::TRADES_MAX])
 }
 
 // Whether a number was received: 1 or 0.
-fn flag_of(received: Received) -> u64
+fn flag_of(received: Option<Inbound>) -> u64
     ensures { result ≡ flag_of received }
 {
-    match received {
-        Received::Nothing => 0,
-        Received::Last(_) => 1,
-    }
+    u64::from(received.is_some())
 }
 
 // The last number received, 0 where there is none.
-fn last_of(received: Received) -> u64
+fn last_of(received: Option<Inbound>) -> u64
     ensures { result ≡ last_of received }
 {
-    match received {
-        Received::Nothing => 0,
-        Received::Last(last) => last.0 as u64,
-    }
+    received.map_or(0, |last| u64::from(last.0))
 }
 
 // The words of the two accounts, one after the other.

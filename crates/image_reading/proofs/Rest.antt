@@ -1,4 +1,5 @@
 -- The words after the trades: what was received, their tests in order, and the values that they make with some trades and a line.
+use Rattle.std.specs.Prelude.{None, Option, Some}
 use mathlib.Core.Path.{◌≡◌, refl, sym, ap, ◌∙◌}
 use mathlib.Core.List.{List, ◌++◌}
 use mathlib.Core.Bool.{Bool, true, ◌&&◌}
@@ -10,8 +11,7 @@ use lib.Dec.{eqb}
 use borrow.Author.Tests.{eq-eqb, ne_eqb, ltb-true}
 use Rattle.lists.specs.Lists.{part, tab, all}
 use Rattle.lists.proofs.Tests.{and_right}
-use Rattle.sequence.specs.declared.Received.{Received}
-use Rattle.sequence.specs.declared.Received.TheVariants.{Nothing, Last}
+use Rattle.sequence.specs.declared.Inbound.{Inbound}
 use Rattle.sequence.specs.declared.Line.{Line}
 use Rattle.sequence.specs.Sequence.{inbound, outbound}
 use Rattle.book.specs.declared.Trade.{Trade}
@@ -24,10 +24,10 @@ use Rattle.image_reading.proofs.Rows.{counted_split, counted_all}
 
 -- ---- what was received
 module _ (flag n : ℕ) where
-  pub received_none : flag ≡ 0 → Nothing ≡ received_in flag n
+  pub received_none : flag ≡ 0 → None ≡ received_in flag n
   received_none e = rw (eq-eqb flag 0 e)
 
-  pub received_last : (flag ≡ 0 → ⊥) → Last (inbound n) ≡ received_in flag n
+  pub received_last : (flag ≡ 0 → ⊥) → Some (inbound n) ≡ received_in flag n
   received_last e = rw (ne_eqb flag 0 e)
 
   pub received_number : received_fits flag n ≡ true → (flag ≡ 0 → ⊥) → n < 4294967296
@@ -71,7 +71,7 @@ module _ (rest : List ℕ) where
   line_tests received e = rw e
 
   -- ---- the line, and the values
-  pub line_read : (received : Received) → received ≡ received_in (get_or rest 48 0) (get_or rest 49 0)
+  pub line_read : (received : Option Inbound) → received ≡ received_in (get_or rest 48 0) (get_or rest 49 0)
       → ◌≡◌ {A = Line} (record { received = received; expected = inbound (get_or rest 50 0) }) (line_in rest)
   line_read received e = rw e
 

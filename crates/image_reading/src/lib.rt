@@ -29,7 +29,7 @@ ghost use Rattle.image.specs.Images.{
 ghost use Rattle.image_reading.specs.Reading.{Counted, first_trades, no_book, read_book, read_lent};
 
 use book::{Book, Connection, Lent, Limits, Trade, Values};
-use sequence::{Inbound, Line, Outbound, Received};
+use sequence::{Inbound, Line, Outbound};
 
 // One more than the highest byte, and than the highest number of 32 bits.
 const BYTE_END: u64 = 256;
@@ -201,14 +201,14 @@ fn received_fits(flag: u64, number: u64) -> bool
 }
 
 // What was received, as flag and number tell it.
-fn read_received(flag: u64, number: u64) -> Received
+fn read_received(flag: u64, number: u64) -> Option<Inbound>
     requires { received_fits flag number ≡ true }
     ensures { result ≡ received_in flag number }
 {
     if flag == 0 {
-        return Received::Nothing;
+        return None;
     }
-    Received::Last(Inbound(number as u32))
+    Some(Inbound(number as u32))
 }
 
 // Whether the words after the trades are such as opening takes.
@@ -357,7 +357,7 @@ fn no_book() -> Book
     };
     let connection = Connection {
         id: [0; 4],
-        line: sequence::start(),
+        line: Line::start(),
         outbound: Outbound(0),
     };
     Book {
@@ -399,7 +399,7 @@ pub fn read_lent(words: &[u64]) -> ReadLent
             values: values,
         };
     }
-    let line = sequence::start();
+    let line = Line::start();
     ReadLent {
         fine: true,
         values: values_in(words, line),

@@ -1,12 +1,12 @@
 -- The number of pools by the body's length; and that the columns follow one another, and their widths sum to what the paper says.
-use mathlib.Core.Path.{◌≡◌, refl, sym}
+use mathlib.Core.Path.{◌≡◌, refl}
 use mathlib.Core.List.{List, [], ◌∷◌}
-use mathlib.Core.Bool.{Bool, true, false, cond, ◌&&◌, and-false}
-use Prim.Native.Nat.{ℕ, zero, suc, ◌+◌, ◌-◌, ◌*◌, ◌≤◌, ◌<◌}
+use mathlib.Core.Bool.{Bool, true, false, cond, ◌&&◌}
+use Prim.Native.Nat.{ℕ, ◌+◌, ◌≤◌, ◌<◌}
 use native.Mathlib.Omega.{arith}
 use lib.ListN.{length}
 use lib.Dec.{leb, eqb}
-use borrow.Author.Tests.{le-leb, lt-leb, eq-eqb, ne_eqb, eqb-true, leb-true}
+use borrow.Author.Tests.{eqb-true, leb-true}
 use Rattle.lists.proofs.Tests.{and_left, and_right}
 use Rattle.layout.specs.declared.Column.{Column}
 use Rattle.layout.specs.Columns.{header, header_width, detail_width}
@@ -25,39 +25,6 @@ pub detail_width_law : detail_width ≡ 199
 detail_width_law = refl
 
 module _ (body : List ℕ) where
-  no_pools_law : length_fits body ≡ false → 0 ≡ pool_count body
-  unfolding pool_count
-  no_pools_law e = simp e
-
-  pub too_short : length body < header_width → 0 ≡ pool_count body
-  unfolding length_fits
-  too_short h =
-      let n : length body ≡ header_width + pools body * detail_width → ⊥ = λ e. omega arith in
-      no_pools_law (simp (ne_eqb (length body) (header_width + pools body * detail_width) n))
-
-  pub too_many : (n : ℕ) → n ≡ pools body → pools_max < n → 0 ≡ pool_count body
-  unfolding length_fits
-  too_many n e h =
-      let l : pools_max < pools body = omega arith in
-      no_pools_law (simp (lt-leb (pools body) pools_max l, and-false))
-
-  pub not_whole : (n : ℕ) → n ≡ pools body → (n * detail_width ≡ length body - header_width → ⊥) → 0 ≡ pool_count body
-  unfolding length_fits
-  not_whole n e h =
-      let k : length body ≡ header_width + pools body * detail_width → ⊥ = λ q. h (omega arith) in
-      no_pools_law (simp (ne_eqb (length body) (header_width + pools body * detail_width) k))
-
-  pub whole : (n : ℕ) → n ≡ pools body → n ≤ pools_max → header_width ≤ length body → n * detail_width ≡ length body - header_width → n ≡ pool_count body
-  unfolding pool_count length_fits
-  whole zero e h l q =
-      let z : pools body ≡ 0 = sym e in
-      rw (z) (simp (and-false))
-  whole (suc n) e h l q =
-      let k : length body ≡ header_width + pools body * detail_width = omega arith in
-      let a : 1 ≤ pools body = omega arith in
-      let b : pools body ≤ pools_max = omega arith in
-      simp (eq-eqb (length body) (header_width + pools body * detail_width) k, le-leb 1 (pools body) a, le-leb (pools body) pools_max b) e
-
   -- what a length that fits says
   pub fit_length : length_fits body ≡ true → length body ≡ place_of (pools body)
   unfolding length_fits

@@ -1,7 +1,6 @@
 -- The columns of a message body (01, "Columns"; 000): the first byte and the width of each header field, and of the fields of a pool detail.
-use Rattle.std.specs.Prelude.{ℕ, List, [], ◌∷◌, take, get_or}
+use Rattle.std.specs.Prelude.{ℕ, Option, List, [], ◌∷◌, take, get_or}
 use Rattle.lists.specs.Lists.{sum_of, part}
-use Rattle.fields.specs.declared.Field.{Field}
 use Rattle.fields.specs.Fields.{read_number}
 use Rattle.layout.specs.declared.Column.{Column}
 
@@ -14,7 +13,7 @@ abbrev pub bytes_in : List ℕ → Column → List ℕ
 bytes_in s c = part s c.at c.width
 
 -- the number in a column
-abbrev pub number_in : List ℕ → Column → Field
+abbrev pub number_in : List ℕ → Column → Option ℕ
 number_in s c = read_number s c.at c.width
 
 -- ---- the header, 187 bytes

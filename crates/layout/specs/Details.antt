@@ -1,5 +1,5 @@
 -- The pool details of a body, record by record (01, "Columns").
-use Rattle.std.specs.Prelude.{ℕ, ◌+◌, ◌-◌, ◌*◌, ◌/◌, List, Bool, true, false, cond, ◌&&◌, length, replicate, leb, eqb}
+use Rattle.std.specs.Prelude.{ℕ, ◌+◌, ◌-◌, ◌*◌, ◌/◌, List, Bool, cond, ◌&&◌, length, leb, eqb, Option, Some, None}
 use Rattle.lists.specs.Lists.{within, part, tab}
 use Rattle.layout.specs.declared.Column.{Column}
 use Rattle.layout.specs.declared.Detail.{Detail}
@@ -30,30 +30,19 @@ detail_bytes body place c = part body (place + c.at) c.width
 unfoldable pub detail_at : List ℕ → ℕ → Detail
 detail_at body place =
     record {
-      lot = detail_bytes body place lot_id;
-      pool = detail_bytes body place pool_number;
-      original = detail_bytes body place original_face;
+      matched =
+          record {
+            lot = detail_bytes body place lot_id;
+            pool = detail_bytes body place pool_number;
+            original = detail_bytes body place original_face;
+          };
       terminator = detail_bytes body place terminator;
       current = detail_bytes body place current_face;
     }
 
--- the detail of an end: zeros
-abbrev pub no_detail : Detail
-no_detail =
-    record {
-      lot = replicate lot_id.width 0;
-      pool = replicate pool_number.width 0;
-      original = replicate original_face.width 0;
-      terminator = replicate terminator.width 0;
-      current = replicate current_face.width 0;
-    }
-
--- what the reader gives at a place: the detail and the next place, or the end where no whole detail is left
-unfoldable pub next_detail : List ℕ → ℕ → Step
-next_detail body place =
-    cond (within body place detail_width)
-    (record { end = false; detail = detail_at body place; next = place + detail_width })
-    (record { end = true; detail = no_detail; next = place })
+-- what the reader gives at a place: the detail and the next place, or nothing where no whole detail is left
+unfoldable pub next_detail : List ℕ → ℕ → Option Step
+next_detail body place = cond (within body place detail_width) (Some (record { detail = detail_at body place; next = place + detail_width })) None
 
 -- the place of the i-th detail, counted from 0
 abbrev pub place_of : ℕ → ℕ

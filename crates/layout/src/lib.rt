@@ -2,13 +2,12 @@
 #![tactic(auto)]
 
 ghost use Rattle.std.specs.Prelude.{◌≡◌, ◌+◌, ◌≤◌, ◌<◌, length};
-ghost use Rattle.layout.specs.Columns.{number_in, header, detail_width};
-ghost use Rattle.layout.specs.Details.{pool_count, next_detail, detail_at, no_detail, place_of};
-
-use fields::Field;
+ghost use Rattle.layout.specs.Columns.{bytes_in, number_in, header, detail_width};
+ghost use Rattle.layout.specs.Details.{pool_count, next_detail, detail_at, place_of};
+ghost use Rattle.lists.specs.Lists.{part, same};
 
 // A column by its first byte and its width.
-#[derive(Clone, Copy)]
+#[derive(Clone, Copy, PartialEq, Eq)]
 pub struct Column {
     pub at: usize,
     pub width: usize,
@@ -115,8 +114,22 @@ pub fn header_columns() -> [Column; 25]
     ]
 }
 
+// The bytes of a column, or those of it that a short body has.
+pub fn bytes_in(body: &[u8], column: Column) -> &[u8]
+    ensures { result.now ≡ bytes_in body.now column }
+{
+    fields::clipped(body, column.at, column.width)
+}
+
+// Whether a column holds these bytes.
+pub fn column_is(body: &[u8], column: Column, bytes: &[u8]) -> bool
+    ensures { result ≡ same (bytes_in body.now column) bytes.now }
+{
+    bytes_in(body, column) == bytes
+}
+
 // The number in a column.
-pub fn number_in(body: &[u8], column: Column) -> Field
+pub fn number_in(body: &[u8], column: Column) -> Option<u64>
     ensures { result ≡ number_in body.now column }
 {
     fields::read_number(body, column.at, column.width)
@@ -126,121 +139,78 @@ pub fn number_in(body: &[u8], column: Column) -> Field
 pub fn pool_count(body: &[u8]) -> usize
     ensures { result ≡ pool_count body.now }
 {
-    if body.len() < HEADER_WIDTH {
-        return 0;
-    }
-    let rest = body.len() - HEADER_WIDTH;
+    let rest = body.len().saturating_sub(HEADER_WIDTH);
     let n = rest / DETAIL_WIDTH;
-    if POOLS_MAX < n {
-        return 0;
+    if n <= POOLS_MAX && n * DETAIL_WIDTH == rest {
+        n
+    } else {
+        0
     }
-    if n * DETAIL_WIDTH != rest {
-        return 0;
-    }
-    n
 }
 
-// A pool detail as the engine reads it, in bytes.
-#[derive(Clone, Copy)]
-pub struct Detail {
+// The matched fields of a pool, in bytes: Lot-ID, pool number and original face.
+#[repr(C)]
+#[derive(Clone, Copy, PartialEq, Eq)]
+pub struct Matched {
     pub lot: [u8; 6],
     pub pool: [u8; 7],
     pub original: [u8; 9],
+}
+
+// A pool detail as the engine reads it, in bytes.
+#[derive(Clone, Copy, PartialEq, Eq)]
+pub struct Detail {
+    pub matched: Matched,
     pub terminator: [u8; 4],
     pub current: [u8; 11],
 }
 
-// What the detail reader gives: a detail and the place after it, or the end.
+// What the detail reader gives: a detail and the place after it.
 #[derive(Clone, Copy)]
 pub struct Step {
-    pub end: bool,
     pub detail: Detail,
     pub next: usize,
 }
 
-fn no_detail() -> Detail
-    ensures { result ≡ no_detail }
+// The N bytes from a place on.
+#[tactic(auto, unfolding(lists::specs::Lists::part))]
+pub fn bytes_at<const N: usize>(body: &[u8], at: usize) -> [u8; N]
+    requires { at + N ≤ length body.now }
+    ensures { result ≡ part body.now at N }
 {
-    Detail {
-        lot: [0u8; 6],
-        pool: [0u8; 7],
-        original: [0u8; 9],
-        terminator: [0u8; 4],
-        current: [0u8; 11],
-    }
+    let mut bytes = [0; N];
+    bytes.copy_from_slice(&body[at..at + N]);
+    bytes
 }
 
 // The detail that stands at a place of the body, where it stands there whole.
+#[tactic(auto, unfolding(crate::specs::Details::detail_at))]
 fn detail_at(body: &[u8], place: usize) -> Detail
     requires { place + detail_width ≤ length body.now }
     ensures { result ≡ detail_at body.now place }
 {
-    let mut lot = [0u8; 6];
-    let mut pool = [0u8; 7];
-    let mut original = [0u8; 9];
-    let mut terminator = [0u8; 4];
-    let mut current = [0u8; 11];
-    output::put_part(&mut lot, 0, body, place + LOT_ID.at, LOT_ID.width);
-    output::put_part(
-        &mut pool,
-        0,
-        body,
-        place + POOL_NUMBER.at,
-        POOL_NUMBER.width,
-    );
-    output::put_part(
-        &mut original,
-        0,
-        body,
-        place + ORIGINAL_FACE.at,
-        ORIGINAL_FACE.width,
-    );
-    output::put_part(
-        &mut terminator,
-        0,
-        body,
-        place + TERMINATOR.at,
-        TERMINATOR.width,
-    );
-    output::put_part(
-        &mut current,
-        0,
-        body,
-        place + CURRENT_FACE.at,
-        CURRENT_FACE.width,
-    );
     Detail {
-        lot: lot,
-        pool: pool,
-        original: original,
-        terminator: terminator,
-        current: current,
+        matched: Matched {
+            lot: bytes_at(body, place + LOT_ID.at),
+            pool: bytes_at(body, place + POOL_NUMBER.at),
+            original: bytes_at(body, place + ORIGINAL_FACE.at),
+        },
+        terminator: bytes_at(body, place + TERMINATOR.at),
+        current: bytes_at(body, place + CURRENT_FACE.at),
     }
 }
 
-// The detail reader: the detail at a place and the place after it, or the end where no whole detail is left.
-pub fn next_detail(body: &[u8], place: usize) -> Step
+// The detail reader: the detail at a place and the place after it, or nothing where no whole detail is left.
+pub fn next_detail(body: &[u8], place: usize) -> Option<Step>
     ensures { result ≡ next_detail body.now place }
 {
-    if body.len() < place {
-        return Step {
-            end: true,
-            detail: no_detail(),
-            next: place,
-        };
+    if body.len().saturating_sub(place) < DETAIL_WIDTH {
+        return None;
     }
-    if body.len() - place < DETAIL_WIDTH {
-        return Step {
-            end: true,
-            detail: no_detail(),
-            next: place,
-        };
-    }
-    Step {
-        end: false,
+    Some(Step {
         detail: detail_at(body, place),
         next: place + DETAIL_WIDTH,
-    }
+    })
 }
 
 // The i-th pool of a body, counted from 0. Only the layers above call it, within the count.
@@ -248,6 +218,5 @@ pub fn pool_at(body: &[u8], i: usize) -> Detail
     requires { i < pool_count body.now }
     ensures { result ≡ detail_at body.now (place_of i) }
 {
-    let s = next_detail(body, HEADER_WIDTH + i * DETAIL_WIDTH);
-    s.detail
+    detail_at(body, HEADER_WIDTH + i * DETAIL_WIDTH)
 }

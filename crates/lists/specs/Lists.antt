@@ -1,5 +1,8 @@
 -- Lists: parts of them, lists made by a function of the index, tests, sums and states over them.
-use Rattle.std.specs.Prelude.{ℕ, zero, suc, ◌+◌, ◌-◌, List, [], ◌∷◌, ◌++◌, Bool, true, false, cond, ◌&&◌, ◌||◌, length, take, drop, eqb, leb}
+use Rattle.std.specs.Prelude.{ℕ, zero, suc, ◌+◌, ◌-◌, List, [], ◌∷◌, ◌++◌, Bool, cond, ◌&&◌, length, take, drop, leb}
+-- the library's words: whether some element, and whether every element, passes a test; the elements that pass it; the state after the elements are taken in, from the first to the last; whether two lists of numbers are equal
+pub use Rattle.std.specs.List.{list_any as any, list_all as all, filter as keep, fold}
+pub use Rattle.std.specs.Prelude.{bytes_eq as same}
 
 -- whether the n elements from at all stand in the list
 unfoldable pub within : {A : Type 0} → List A → ℕ → ℕ → Bool
@@ -22,34 +25,7 @@ tab f (suc n) i = f i ∷ tab f n (i + 1)
 abbrev pub between : ℕ → ℕ → ℕ → Bool
 between low high n = leb low n && leb n high
 
--- the elements that pass a test
-abbrev pub keep : {A : Type 0} → (A → Bool) → List A → List A
-keep p [] = []
-keep p (x ∷ xs) = cond (p x) (x ∷ keep p xs) (keep p xs)
-
--- whether some element passes a test
-abbrev pub any : {A : Type 0} → (A → Bool) → List A → Bool
-any p [] = false
-any p (x ∷ xs) = p x || any p xs
-
--- whether every element passes a test
-abbrev pub all : {A : Type 0} → (A → Bool) → List A → Bool
-all p [] = true
-all p (x ∷ xs) = p x && all p xs
-
 -- the sum of f over the elements
 abbrev pub sum_of : {A : Type 0} → (A → ℕ) → List A → ℕ
 sum_of f [] = 0
 sum_of f (x ∷ xs) = f x + sum_of f xs
-
--- the state after the elements are taken in, from the first to the last
-abbrev pub fold : {S A : Type 0} → (S → A → S) → S → List A → S
-fold f s [] = s
-fold f s (x ∷ xs) = fold f (f s x) xs
-
--- whether two lists of numbers are equal
-abbrev pub same : List ℕ → List ℕ → Bool
-same [] [] = true
-same [] (y ∷ ys) = false
-same (x ∷ xs) [] = false
-same (x ∷ xs) (y ∷ ys) = eqb x y && same xs ys

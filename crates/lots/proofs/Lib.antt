@@ -1,3 +1,3 @@
-pub mod Passes
 pub mod Formed
+pub mod Millions
 pub mod Sought

@@ -3,40 +3,30 @@ use Rattle.std.specs.Prelude.{Bool, true, false, ◌||◌}
 use Rattle.message_type.specs.declared.MessageType.{MessageType}
 use Rattle.message_type.specs.declared.MessageType.TheVariants.{On, Cc, Dk, Cx, Other}
 
+-- an ON
 abbrev pub is_on : MessageType → Bool
 is_on On = true
-is_on Cc = false
-is_on Dk = false
-is_on Cx = false
-is_on Other = false
+is_on _ = false
 
+-- a CC
 abbrev pub is_cc : MessageType → Bool
-is_cc On = false
 is_cc Cc = true
-is_cc Dk = false
-is_cc Cx = false
-is_cc Other = false
+is_cc _ = false
 
+-- a DK
 abbrev pub is_dk : MessageType → Bool
-is_dk On = false
-is_dk Cc = false
 is_dk Dk = true
-is_dk Cx = false
-is_dk Other = false
+is_dk _ = false
 
+-- a CX
 abbrev pub is_cx : MessageType → Bool
-is_cx On = false
-is_cx Cc = false
-is_cx Dk = false
 is_cx Cx = true
-is_cx Other = false
+is_cx _ = false
 
+-- none of the four
 abbrev pub is_other : MessageType → Bool
-is_other On = false
-is_other Cc = false
-is_other Dk = false
-is_other Cx = false
 is_other Other = true
+is_other _ = false
 
 -- an ON and a CC bring new lots
 abbrev pub brings_lots : MessageType → Bool

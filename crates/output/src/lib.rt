@@ -1,73 +1,61 @@
 // Columns written into a lent output: digits, blanks, bytes and parts of other slices. What does not fit is not written.
 #![tactic(auto)]
 
-ghost use Rattle.std.specs.Prelude.{◌≡◌};
-ghost use Rattle.lists.specs.Lists.{pasted};
+ghost use Rattle.std.specs.Prelude.{◌≡◌, ◌+◌, ◌≤◌, length};
+ghost use Rattle.std.specs.Bool.{OnTrue};
+ghost use Rattle.lists.specs.Lists.{within, pasted};
 ghost use Rattle.output.specs.Output.{digits_of, blanks, with_part};
 
+// Whether n bytes fit into out from at.
+#[tactic(auto, unfolding(lists::specs::Lists::within))]
+fn fits(out: &[u8], at: usize, n: usize) -> bool
+    ensures value { result ≡ within out.now at n }
+    ensures room { OnTrue result (at + n ≤ length out.now) }
+{
+    at <= out.len() && n <= out.len() - at
+}
+
 // Writes the last width digits of value from at. A field that does not fit is not written.
+#[tactic(auto, using(crate::proofs::Written::put_out, crate::proofs::Written::put_last, crate::proofs::Written::put_none))]
 pub fn put_digits(out: &mut [u8], at: usize, width: usize, value: u64)
     ensures { out.new ≡ pasted out.old at (digits_of width value) }
 {
-    if out.len() < at {
+    if !fits(out, at, width) {
         return;
     }
-    if out.len() - at < width {
-        return;
-    }
-    let mut v = value;
-    let mut i = width;
-    while 0 < i {
-        i -= 1;
-        out[at + i] = fields::ZERO + (v % 10) as u8;
-        v = v / 10;
+    let mut left = value;
+    for i in (at..at + width).rev() {
+        out[i] = fields::ZERO + (left % 10) as u8;
+        left /= 10;
     }
 }
 
 // Writes n blanks from at. A field that does not fit is not written.
+#[tactic(auto, unfolding(lists::specs::Lists::pasted))]
 pub fn put_blanks(out: &mut [u8], at: usize, n: usize)
     ensures { out.new ≡ pasted out.old at (blanks n) }
 {
-    if out.len() < at {
-        return;
-    }
-    if out.len() - at < n {
-        return;
-    }
-    let mut i: usize = 0;
-    while i < n {
-        out[at + i] = fields::BLANK;
-        i += 1;
+    if fits(out, at, n) {
+        out[at..at + n].fill(fields::BLANK);
     }
 }
 
 // Writes the bytes of s from at. Bytes that do not fit are not written.
+#[tactic(auto, unfolding(lists::specs::Lists::pasted))]
 pub fn put_bytes(out: &mut [u8], at: usize, s: &[u8])
     ensures { out.new ≡ pasted out.old at s.now }
 {
-    if out.len() < at {
-        return;
-    }
-    if out.len() - at < s.len() {
-        return;
-    }
-    let mut i: usize = 0;
-    while i < s.len() {
-        out[at + i] = s[i];
-        i += 1;
+    if fits(out, at, s.len()) {
+        out[at..at + s.len()].copy_from_slice(s);
     }
 }
 
 // Writes the n bytes of s from at into out from to on. Bytes that are not there or do not fit are not written.
+#[tactic(auto, unfolding(crate::specs::Output::with_part))]
 pub fn put_part(out: &mut [u8], to: usize, s: &[u8], at: usize, n: usize)
     ensures { out.new ≡ with_part out.old to s.now at n }
 {
-    if s.len() < at {
-        return;
+    if let Some(bytes) = fields::part(s, at, n) {
+        put_bytes(out, to, bytes);
     }
-    if s.len() - at < n {
-        return;
-    }
-    let end = at + n;
-    put_bytes(out, to, &s[at..end]);
 }

@@ -1,12 +1,12 @@
 -- Nothing that a call answers or leaves depends on its seed: the one check of what the caller gives looks at the room in the output, and of the caller only the time bytes go out.
+use Rattle.std.specs.Prelude.{Err, Ok}
 use Prim.Native.Nat.{ℕ}
 use mathlib.Core.Path.{◌≡◌, refl, ap, ◌∙◌}
 use mathlib.Core.List.{List, [], ◌∷◌}
 use mathlib.Core.Bool.{Bool}
 use Rattle.book.specs.declared.Book.{Book}
 use Rattle.book.specs.declared.Pool.{Pool}
-use Rattle.book.specs.declared.Verdict.{Verdict}
-use Rattle.book.specs.declared.Verdict.TheVariants.{Passes, Fails}
+use Rattle.book.specs.Reasons.{Verdict}
 use Rattle.book.specs.Checks.{Asked, Call, call, asked_by, Test, of_body, of_values, of_line, of_asked, of_live, of_table, fails, Check, soundness_checks, sender_checks, terms_checks, moves_checks, checks, first_failing, answer_to, answer_of}
 use Rattle.book.specs.Step.{trades_moved, live_moved, table_moved, book_after, table_after, output_for, output_after}
 
@@ -52,8 +52,8 @@ module _ (b : Book) (t : List Pool) (body time : List ℕ) (room s z : ℕ) wher
   all_agree = (refl, tt)
 
   to_same : (v : Verdict) → answer_to (by s) v ≡ answer_to (by z) v
-  to_same Passes = refl
-  to_same (Fails r) = refl
+  to_same (Ok u) = refl
+  to_same (Err r) = refl
 
   pub answer_by_any : answer_of (by s) ≡ answer_of (by z)
   unfolding answer_of

@@ -1,5 +1,6 @@
 -- The book that words say is made of arrays of their lengths, bytes and numbers, with zeros past the counts: the tests of words see to it, and what they do
 -- not look at is not read.
+use Rattle.std.specs.Prelude.{None, Option, Some}
 use Prim.Native.Nat.{ℕ, ◌+◌, ◌*◌, ◌≤◌, ◌<◌}
 use mathlib.Core.Path.{◌≡◌, refl, sym, ap, ◌∙◌}
 use mathlib.Core.List.Memᴰ
@@ -14,8 +15,6 @@ use Rattle.lists.specs.Lists.{part, all}
 use Rattle.lists.proofs.Parts.{length_part}
 use Rattle.lists.proofs.Tables.{length_tab, get_d_tab}
 use Rattle.lists.proofs.Tests.{and_left, and_right, all_out}
-use Rattle.sequence.specs.declared.Received.{Received}
-use Rattle.sequence.specs.declared.Received.TheVariants.{Nothing, Last}
 use Rattle.sequence.specs.declared.Inbound.{Inbound}
 use Rattle.sequence.specs.Sequence.{inbound_max, outbound_max, sound_after, sound_line}
 use Rattle.book.specs.declared.Trade.{Trade}
@@ -90,10 +89,10 @@ module _ (ws : List ℕ) (e : is_lent ws ≡ true) where
 
 -- ---- the rest
 -- what a sound line holds are numbers
-line_numbers_law : (received : Received) (expected : Inbound) → sound_after received expected ≡ true → (is_number (last_of received) ≡ true) × (is_number expected.0 ≡ true)
-line_numbers_law Nothing expected h =
+line_numbers_law : (received : Option Inbound) (expected : Inbound) → sound_after received expected ≡ true → (is_number (last_of received) ≡ true) × (is_number expected.0 ≡ true)
+line_numbers_law None expected h =
     (refl, lt-ltb expected.0 4294967296 (omega (arith, eqb-true expected.0 1 h)))
-line_numbers_law (Last last) expected h =
+line_numbers_law (Some last) expected h =
     let low : last.0 ≤ inbound_max = leb-true last.0 inbound_max (and_left (leb last.0 inbound_max) (eqb expected.0 (last.0 + 1)) h) in
     let next : expected.0 ≡ last.0 + 1 = eqb-true expected.0 (last.0 + 1) (and_right (leb last.0 inbound_max) (eqb expected.0 (last.0 + 1)) h) in
     (lt-ltb last.0 4294967296 (omega arith), lt-ltb expected.0 4294967296 (omega arith))

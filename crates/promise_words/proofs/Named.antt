@@ -17,7 +17,7 @@ use Rattle.book.specs.Step.{call_with}
 use Rattle.book.proofs.Unsound.{unsound_answer}
 use Rattle.image.specs.Images.{is_image, book_in}
 use Rattle.fault.specs.Rules.{is_sound}
-use Rattle.fault.proofs.Exactly.{and_true, tested, none_broken, in_order_law, opening_exact, book_exact}
+use Rattle.fault.proofs.Exactly.{tested, in_order_law, opening_exact, book_exact}
 use Rattle.calls_words.specs.Calls.{is_time, caller_of}
 use Rattle.calls_words.specs.Opening.{openable, Opening}
 use Rattle.calls_words.specs.Faults.{opening_fault_in, book_fault_in}
@@ -27,7 +27,7 @@ use Rattle.promise_words.proofs.Undamaged.{sound_undamaged}
 -- ---- 41
 opening_exact_in : (ws : List ℕ) (pools : List Pool) → is_sound (opening_fault_in ws (length pools)) ≡ openable ws pools
 unfolding opening_fault_in openable
-opening_exact_in ws pools = simp (in_order_law, none_broken, tested 100, opening_exact, and_true)
+opening_exact_in ws pools = simp (in_order_law, tested, opening_exact)
 
 pub opening_named : (ws : List ℕ) (pools : List Pool) (ws' : List ℕ) (pools' : List Pool) (r : ℕ) → Opening ws pools ws' pools' r → eqb r 0 ≡ is_sound (opening_fault_in ws (length pools))
 opening_named ws pools ws' pools' r o = go (openable ws pools) refl
@@ -39,7 +39,7 @@ opening_named ws pools ws' pools' r o = go (openable ws pools) refl
 -- ---- 42
 book_exact_in : (ws : List ℕ) (pools : List Pool) → is_sound (book_fault_in ws pools) ≡ (is_image ws && soundness.is_sound (book_in ws) pools)
 unfolding book_fault_in
-book_exact_in ws pools = simp (in_order_law, none_broken, tested 100, book_exact, and_true)
+book_exact_in ws pools = simp (in_order_law, tested, book_exact)
 
 module _ (s : Stored) (body time : List ℕ) (seed : ℕ) (out : List ℕ) (timed : is_time time ≡ true) where
   abbrev made : Call

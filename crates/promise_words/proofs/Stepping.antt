@@ -1,5 +1,6 @@
 -- One frame call on words: where the words are an image of a book that is sound and in step with the history, they are so after it too, and the book that
 -- they then say is the one that the call by value leaves.
+use Rattle.std.specs.Prelude.{Err}
 use Prim.Native.Nat.{ℕ}
 use mathlib.Core.Path.{◌≡◌, refl, sym, ap, ◌∙◌}
 use mathlib.Core.List.{List}
@@ -16,7 +17,6 @@ use Rattle.book.specs.Reasons.{silent, is_accepted, is_silent}
 use Rattle.book.specs.Soundness.{Sound, held_in}
 use Rattle.book.specs.declared.Caller.{Caller}
 use Rattle.book.specs.declared.Reason.TheVariants.{Operator}
-use Rattle.book.specs.declared.Verdict.TheVariants.{Fails}
 use Rattle.book.specs.Checks.{Asked, Call, call, asked_by, numbers_spent, unsound, soundness_checks, sender_checks, answer_to, answer_of}
 use Rattle.book.specs.Step.{call_with, book_after, table_after}
 use Rattle.book.specs.History.{History, feed}
@@ -70,7 +70,7 @@ module _ (b : Book) (table : List Pool) (body : List ℕ) (caller : Caller) wher
   unfolding answer_of soundness_checks sender_checks
   no_room = go (unsound b (held_in b table) body) (numbers_spent b.values body)
     where
-      go : (x y : Bool) → is_silent (answer_to roomless (cond x (Fails (Operator 42 silent)) (cond y (Fails (Operator 43 silent)) (Fails (Operator 44 silent))))) ≡ true
+      go : (x y : Bool) → is_silent (answer_to roomless (cond x (Err (Operator 42 silent)) (cond y (Err (Operator 43 silent)) (Err (Operator 44 silent))))) ≡ true
       go true y = refl
       go false true = refl
       go false false = refl

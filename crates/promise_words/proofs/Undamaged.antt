@@ -1,5 +1,6 @@
 -- 42 never meets a client that opened on words without refusal and hands words and table on as the calls leave them: no call of such a run is answered with
 -- the number 42, whatever body, time bytes, seed and output it is given.
+use Rattle.std.specs.Prelude.{Err, Ok}
 use Prim.Native.Nat.{ℕ}
 use mathlib.Core.Path.{◌≡◌, refl, sym, ap, ◌∙◌}
 use mathlib.Core.List.{List, ◌++◌}
@@ -11,8 +12,7 @@ use Rattle.lists.proofs.Tests.{clash}
 use Rattle.message_type.specs.Questions.{answers_as_dk}
 use Rattle.book.specs.declared.Pool.{Pool}
 use Rattle.book.specs.declared.Reason.{Reason}
-use Rattle.book.specs.declared.Verdict.{Verdict}
-use Rattle.book.specs.declared.Verdict.TheVariants.{Passes, Fails}
+use Rattle.book.specs.Reasons.{Verdict}
 use Rattle.book.specs.declared.Answer.TheVariants.{Rejected, Dked}
 use Rattle.book.specs.Reasons.{number_of, is_traders, code_of, book_unsound}
 use Rattle.book.specs.Messages.{type_of}
@@ -43,8 +43,8 @@ sound_answer c s = rw s
 
 later : (c : Call) (v : Verdict) → first_failing (sender_checks ++ trader_checks) c ≡ v → code_of (answer_to c v) ≡ number_of book_unsound → ⊥
 unfolding sender_checks terms_checks moves_checks
-later c Passes f e = absurd (omega (arith, e))
-later c (Fails r) f e = not_42 r (first_among other c (sender_checks ++ trader_checks) r refl f) (is_traders r && not (answers_as_dk (type_of c.body))) e
+later c (Ok u) f e = absurd (omega (arith, e))
+later c (Err r) f e = not_42 r (first_among other c (sender_checks ++ trader_checks) r refl f) (is_traders r && not (answers_as_dk (type_of c.body))) e
 
 pub sound_undamaged : (c : Call) → is_sound c.book c.table ≡ true → code_of (answer_of c) ≡ number_of book_unsound → ⊥
 sound_undamaged c s e = later c (first_failing (sender_checks ++ trader_checks) c) refl (ap code_of (sym (sound_answer c s)) ∙ e)

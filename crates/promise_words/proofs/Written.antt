@@ -1,6 +1,7 @@
 -- What a frame call writes: into the output its frames, at the front, and not a byte after them; into what is said the two numbers of its answer, and then how
 -- many bytes the frames have. That holds of every call on any words, table, body, time bytes, seed and output; where the call is silent or cannot be made
 -- there are no frames, and the whole output stays.
+use Rattle.std.specs.Prelude.{Err}
 use Prim.Native.Nat.{ℕ, ◌+◌, ◌≤◌}
 use mathlib.Core.Path.{◌≡◌, refl, ◌∙◌}
 use mathlib.Core.List.{List, [], ◌++◌}
@@ -18,8 +19,7 @@ use Rattle.acknowledgment.specs.Frames.{aa_length, tx_length}
 use Rattle.acknowledgment.proofs.Lengths.{length_aa, length_tx}
 use Rattle.book.specs.declared.Pool.{Pool}
 use Rattle.book.specs.declared.Reason.TheVariants.{Operator, Line}
-use Rattle.book.specs.declared.Verdict.{Verdict}
-use Rattle.book.specs.declared.Verdict.TheVariants.{Fails}
+use Rattle.book.specs.Reasons.{Verdict}
 use Rattle.book.specs.declared.Answer.{Answer}
 use Rattle.book.specs.declared.Answer.TheVariants.{Rejected}
 use Rattle.book.specs.Reasons.{silent, is_silent, book_unsound}
@@ -40,7 +40,7 @@ module _ (c : Call) (loud : is_silent (answer_of c) ≡ false) where
   loud_passed = go (unsound c.book (held_in c.book c.table) c.body) (numbers_spent c.book.values c.body) (output_short c.asked) (length_fits c.body) (first_failing (drop 3 sender_checks ++ trader_checks) c) loud
     where
       go : (x y z l : Bool) (v : Verdict)
-          → is_silent (answer_to c (cond x (Fails (Operator 42 silent)) (cond y (Fails (Operator 43 silent)) (cond z (Fails (Operator 44 silent)) (cond (not l) (Fails (Line 10 silent)) v))))) ≡ false
+          → is_silent (answer_to c (cond x (Err (Operator 42 silent)) (cond y (Err (Operator 43 silent)) (cond z (Err (Operator 44 silent)) (cond (not l) (Err (Line 10 silent)) v))))) ≡ false
           → (z ≡ false) × (l ≡ true)
       go true y z l v h = absurd (true≢false h)
       go false true z l v h = absurd (true≢false h)
@@ -68,7 +68,7 @@ module _ (s : Stored) (body time : List ℕ) (seed : ℕ) (out : List ℕ) (imag
   connection_long = length_part (rest_of s.words) 38 4 (omega (arith, rest_long s.words (image_lent s.words image)))
 
   tx_long : length (tx_sent c) ≡ tx_length
-  tx_long = length_tx _ c.book.values.lent.subscriber c.book.values.connection.id subscriber_long connection_long _ _
+  tx_long = length_tx _ subscriber_long connection_long _ _
 
   module _ (loud : is_silent (answer_of c) ≡ false) where
     room : room_least ≤ length out
@@ -77,7 +77,7 @@ module _ (s : Stored) (body time : List ℕ) (seed : ℕ) (out : List ℕ) (imag
     aa_long : length (aa_sent c) ≡ aa_length
     aa_long =
         let l = fit_length body (loud_passed c loud).1 in
-        length_aa _ c.book.values.lent.subscriber c.book.values.connection.id subscriber_long connection_long _
+        length_aa _ subscriber_long connection_long _
         (length_part body 98 16 (omega (arith, l))) (eqb-true (length time) 6 timed) (length_part body 2 6 (omega (arith, l)))
 
   -- on a gap or without one

@@ -1,19 +1,18 @@
 -- What a frame call on words sends (01, "What goes out"): its frames one after another, with nothing else of the output.
 use Rattle.std.specs.Prelude.{ℕ, List, [], ◌++◌, Bool, cond}
-use Rattle.sequence.specs.Sequence.{next_outbound}
-use Rattle.acknowledgment.specs.Frames.{aa_bytes, tx_bytes}
+use Rattle.acknowledgment.specs.Frames.{next_stamp, aa_bytes, tx_bytes}
 use Rattle.book.specs.Reasons.{is_silent}
 use Rattle.book.specs.Checks.{Call, arrived, answer_of}
-use Rattle.book.specs.Step.{gap_at, before_aa, acknowledged, call_with}
+use Rattle.book.specs.Step.{gap_at, before_aa, stamp_at, acknowledged, call_with}
 use Rattle.image.specs.Images.{book_in}
 use Rattle.calls_words.specs.Calls.{caller_of, callable}
 use Rattle.promise_words.specs.Runs.{Stored}
 
 abbrev pub tx_sent : Call → List ℕ
-tx_sent c = tx_bytes (next_outbound c.book.values.connection.outbound) c.book.values.lent.subscriber c.book.values.connection.id c.book.values.connection.line.expected (arrived c.body)
+tx_sent c = tx_bytes (next_stamp (stamp_at c.book c.book.values.connection.outbound)) c.book.values.connection.line.expected (arrived c.body)
 
 abbrev pub aa_sent : Call → List ℕ
-aa_sent c = aa_bytes (next_outbound (before_aa c.book c.body)) c.book.values.lent.subscriber c.book.values.connection.id (acknowledged c.body (answer_of c) c.asked.caller)
+aa_sent c = aa_bytes (next_stamp (stamp_at c.book (before_aa c.book c.body))) (acknowledged c.body (answer_of c) c.asked.caller)
 
 -- a TX and an AA on a gap, else an AA
 abbrev pub frames_on : Call → Bool → List ℕ

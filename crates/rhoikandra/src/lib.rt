@@ -54,7 +54,7 @@ pub extern "C" fn rhoikandra_figures(
     ensures { out.new ≡ pasted out.old 0 (figures_numbers (figures_in image.now pools.now trade)) }
 {
     let book = exports_book::book_of(image);
-    let f = table_figures::table_figures(book, pools, trade, seed);
+    let f = table_figures::table_figures(&book, pools, trade, seed);
     exports_book::put_figures(out, f);
 }
 
@@ -73,7 +73,7 @@ pub extern "C" fn rhoikandra_book_fault(image: &[u64], pools: &[Pool], out: &mut
     ensures { out.new ≡ pasted out.old 0 (fault_numbers (book_fault_in image.now pools.now)) }
 {
     let book = exports_book::book_of(image);
-    let found = table_fault::table_fault(book, pools);
+    let found = table_fault::table_fault(&book, pools);
     exports_fault::put_book_fault(out, image, found);
 }
 

@@ -1,77 +1,87 @@
--- The loop that closes up: the records written and the unmarked ones among those still to come are the answer.
-use mathlib.Core.Path.{◌≡◌, refl, sym, ap, ◌∙◌}
-use mathlib.Core.List.{List, [], ◌∷◌, ◌++◌, append_assoc, append-nil}
-use mathlib.Core.Bool.{cond}
-use Prim.Native.Nat.{ℕ, suc, ◌+◌, ◌-◌, ◌≤◌, ◌<◌}
-use native.Mathlib.Nat.{sub-zero}
-use native.Mathlib.Numerals.{add-one}
-use native.Mathlib.Omega.{arith}
-use lib.ListN.{length, get_or, take, drop, set}
-use lib.Seq.{drop-set-lt, take-suc-set, length-take-le}
-use lib.Dec.{eqb}
-use borrow.Author.Tests.{eq-eqb, ne_eqb}
-use Rattle.lists.proofs.Parts.{drop_turn}
+-- The loop that closes up: the records that were kept stand first, and those not looked at are as they were.
+use Rattle.std.proofs.Common.{◌≡◌, ◌≢◌, ℕ, zero, suc, ◌+◌, ◌-◌, ◌<◌, ◌≤◌, Bool, true, false, cond, eqb, List, [], ◌∷◌, ◌++◌, length, get_or, take, drop, set, replicate, sym, refl, ap, ◌∙◌, arith, eq-eqb, ne_eqb, add-one, append-nil}
+use Rattle.std.proofs.lemmas.List.{get_or_default}
+use borrow.Rule.Slice.PartMut.{put_mid}
+use lib.Seq.{drop-set-lt, take-suc-set, take-suc, length-take-le, drop-drop, get_or-drop}
 use Rattle.book.specs.declared.Pool.{Pool}
-use Rattle.rows.specs.Rows.{record_at, table_of}
-use Rattle.rows.specs.Closed.{unmarked, zeroed, closed_up}
-use Rattle.rows.proofs.Rows.{length_table, table_turn}
+use Rattle.book.specs.Records.{no_pool}
+use Rattle.rows.specs.Closed.{unmarked, closed_up}
 
-module _ (ms : List ℕ) (live : ℕ) (t₀ : List Pool) where
-  -- r records are looked at, w are kept, and those from r on are as they were
+unmarked_none : (ms : List ℕ) → unmarked ms [] ≡ []
+unmarked_none [] = refl
+unmarked_none (m ∷ ms) = refl
+
+-- one more record is looked at
+unmarked_more : (ms : List ℕ) (ps : List Pool) (i : ℕ) → i < length ms → i < length ps
+    → unmarked ms (take (suc i) ps) ≡ unmarked ms (take i ps) ++ cond (eqb (get_or ms i 0) 0) (get_or ps i no_pool ∷ []) []
+unmarked_more [] ps i h l = absurd (omega arith)
+unmarked_more (m ∷ ms) [] i h l = absurd (omega arith)
+unmarked_more (m ∷ ms) (p ∷ ps) zero h l = rw (unmarked_none ms)
+unmarked_more (m ∷ ms) (p ∷ ps) (suc i) h l = go (eqb m 0) (unmarked_more ms ps i (omega arith) (omega arith))
+  where
+    last : List Pool
+    last = cond (eqb (get_or ms i 0) 0) (get_or ps i no_pool ∷ []) []
+
+    go : (b : Bool) → unmarked ms (take (suc i) ps) ≡ unmarked ms (take i ps) ++ cond (eqb (get_or ms i 0) 0) (get_or ps i no_pool ∷ []) []
+        → cond b (p ∷ unmarked ms (take (suc i) ps)) (unmarked ms (take (suc i) ps))
+        ≡ cond b (p ∷ unmarked ms (take i ps)) (unmarked ms (take i ps)) ++ cond (eqb (get_or ms i 0) 0) (get_or ps i no_pool ∷ []) []
+    go true e = ap (λ (l : List Pool). p ∷ l) e
+    go false e = e
+
+module _ (ms : List ℕ) (t₀ : List Pool) where
+  -- r records of a table are looked at and w are kept; the table was t₀
   pub record Closing (t : List Pool) (r w : ℕ) : Type 0 where
-    pub done : take w t ++ unmarked (drop r ms) (take (live - r) (drop r t)) ≡ unmarked ms (take live t₀)
+    pub within : w ≤ r
+    pub kept : take w t ≡ unmarked ms (take r t₀)
     pub rest : drop r t ≡ drop r t₀
 
   pub closing_none : Closing t₀ 0 0
-  closing_none = record { done = simp sub-zero; rest = refl }
+  closing_none = record { within = omega arith; kept = sym (unmarked_none ms); rest = refl }
 
-  -- p is the record at r
-  module _ (t : List Pool) (r w : ℕ) (p : Pool) (inv : Closing t r w) (h : r < live) (l : r < length ms) (row : drop r t ≡ p ∷ drop (r + 1) t)
-      (next : drop (r + 1) t ≡ drop (r + 1) t₀) where
-    turn : take w t ++ cond (eqb (get_or ms r 0) 0) (p ∷ unmarked (drop (r + 1) ms) (take (live - (r + 1)) (drop (r + 1) t))) (unmarked (drop (r + 1) ms) (take (live - (r + 1)) (drop (r + 1) t)))
-        ≡ unmarked ms (take live t₀)
-    turn =
-        let one : live - r ≡ suc (live - (r + 1)) = omega arith in
-        rw (one, row, drop_turn ms r 0 l) at inv.done
+  module _ (t : List Pool) (r w : ℕ) (inv : Closing t r w) (h : r < length ms) (l : r < length t₀) (n : length t ≡ length t₀) where
+    next : (u : List Pool) → drop (r + 1) u ≡ drop (r + 1) t → drop (r + 1) u ≡ drop (r + 1) t₀
+    next u e =
+        e ∙ sym (drop-drop 1 r t) ∙ ap (drop 1) inv.rest ∙ drop-drop 1 r t₀
 
-    pub closing_gone : (get_or ms r 0 ≡ 0 → ⊥) → Closing t (r + 1) w
-    closing_gone e = record { done = rw (ne_eqb _ _ e) at turn; rest = next }
+    same : get_or t r no_pool ≡ get_or t₀ r no_pool
+    same =
+        let z : r + 0 ≡ r = omega arith in
+        rw (← z) (sym (get_or-drop r t 0 no_pool) ∙ ap (λ (xs : List Pool). get_or xs 0 no_pool) inv.rest ∙ get_or-drop r t₀ 0 no_pool)
 
-    pub closing_kept : (u : List Pool) → u ≡ set t w p → w ≤ r → w < length t → get_or ms r 0 ≡ 0 → Closing u (r + 1) (w + 1)
-    closing_kept u q k g e =
-        let d : drop (r + 1) u ≡ drop (r + 1) t = rw q (drop-set-lt (r + 1) t w p (omega arith)) in
-        let a : take (w + 1) u ≡ take w t ++ (p ∷ []) = rw (q, add-one w) (take-suc-set t w p g) in
-        record { done = rw (a, d) (simp append_assoc (rw (eq-eqb _ _ e) at turn)); rest = d ∙ next }
+    more : unmarked ms (take (r + 1) t₀) ≡ take w t ++ cond (eqb (get_or ms r 0) 0) (get_or t r no_pool ∷ []) []
+    more = rw (add-one r, same) (unmarked_more ms t₀ r h l ∙ ap (λ (xs : List Pool). xs ++ cond (eqb (get_or ms r 0) 0) (get_or t₀ r no_pool ∷ []) []) (sym inv.kept))
 
-  module _ (t : List Pool) (r w : ℕ) (inv : Closing t r w) (p : r ≤ live) (q : live ≤ r) (k : w ≤ length t) where
-    kept : take w t ≡ unmarked ms (take live t₀)
-    kept =
-        let end : live - r ≡ 0 = omega arith in
-        sym (append-nil (take w t)) ∙ tidy (drop r ms) (rw end at inv.done)
-      where
-        tidy : (xs : List ℕ) → take w t ++ unmarked xs [] ≡ unmarked ms (take live t₀) → take w t ++ [] ≡ unmarked ms (take live t₀)
-        tidy [] e = e
-        tidy (x ∷ xs) e = e
+    pub closing_gone : get_or ms r 0 ≢ 0 → Closing t (r + 1) w
+    closing_gone e =
+        record {
+          within = omega (arith, inv.within);
+          kept = sym (more ∙ rw (ne_eqb (get_or ms r 0) 0 e) (append-nil (take w t)));
+          rest = next t refl;
+        }
 
-    pub closed_number : w ≡ length (unmarked ms (take live t₀))
-    closed_number = sym (ap length (sym kept) ∙ length-take-le w t k)
+    -- the record is moved to the place after those that were kept
+    pub closing_moved : (u : List Pool) (d : Pool) → w < r → u ≡ set t w (get_or t r d) → get_or ms r 0 ≡ 0 → Closing u (r + 1) (w + 1)
+    closing_moved u d k q e =
+        let p : u ≡ set t w (get_or t r no_pool) = q ∙ ap (set t w) (get_or_default t r d no_pool (omega arith)) in
+        record {
+          within = omega arith;
+          kept = ap (take (w + 1)) p ∙ ap (λ (k : ℕ). take k (set t w (get_or t r no_pool))) (add-one w) ∙ take-suc-set t w (get_or t r no_pool) (omega arith) ∙ sym (more ∙ rw (eq-eqb (get_or ms r 0) 0 e));
+          rest = next u (rw p (drop-set-lt (r + 1) t w (get_or t r no_pool) (omega arith)));
+        }
 
-    pub closed_table : (u : List Pool) → u ≡ zeroed t w live → u ≡ closed_up ms live t₀
-    closed_table u e =
-        let s : r ≡ live = omega arith in
-        let d : drop live t ≡ drop live t₀ = rw s at inv.rest in
-        e ∙ rw (← closed_number, ← kept, d)
+    -- or it stands there
+    pub closing_stays : (u : List Pool) → r ≤ w → u ≡ t → get_or ms r 0 ≡ 0 → Closing u (r + 1) (w + 1)
+    closing_stays u k q e =
+        let s : r ≡ w = omega (arith, inv.within) in
+        record {
+          within = omega arith;
+          kept = ap (take (w + 1)) q ∙ ap (λ (k : ℕ). take k t) (add-one w) ∙ take-suc t w no_pool (omega arith) ∙ ap (λ (i : ℕ). take w t ++ (get_or t i no_pool ∷ [])) (sym s) ∙ sym (more ∙ rw (eq-eqb (get_or ms r 0) 0 e));
+          rest = next u (ap (drop (r + 1)) q);
+        }
 
--- ---- the same over the rows
-module _ (ms : List ℕ) (live : ℕ) (ns₀ ks₀ ns ks : List (List ℕ)) (r w : ℕ) (inv : Closing ms live (table_of ns₀ ks₀) (table_of ns ks) r w)
-    (h : r < live) (l : live ≤ length ms) (k : live ≤ length ns₀) (n : length ns ≡ length ns₀) where
-  next : drop (r + 1) (table_of ns ks) ≡ drop (r + 1) (table_of ns₀ ks₀)
-  next = ap (drop 1) (sym (table_turn ns ks r (omega arith)) ∙ inv.rest ∙ table_turn ns₀ ks₀ r (omega arith))
-
-  pub turn_gone : (get_or ms r 0 ≡ 0 → ⊥) → Closing ms live (table_of ns₀ ks₀) (table_of ns ks) (r + 1) w
-  turn_gone e = closing_gone ms live (table_of ns₀ ks₀) (table_of ns ks) r w (record_at ns ks r) inv h (omega arith) (table_turn ns ks r (omega arith)) next e
-
-  pub turn_kept : (u : List Pool) → u ≡ set (table_of ns ks) w (record_at ns ks r) → w ≤ r → get_or ms r 0 ≡ 0 → Closing ms live (table_of ns₀ ks₀) u (r + 1) (w + 1)
-  turn_kept u q g e =
-      closing_kept ms live (table_of ns₀ ks₀) (table_of ns ks) r w (record_at ns ks r) inv h (omega arith) (table_turn ns ks r (omega arith)) next u q g
-      (rw (length_table ns ks) (omega arith)) e
+  pub closed : (t : List Pool) (live w : ℕ) (zs : List Pool) → Closing t live w → w ≤ length t → zs ≡ replicate (live - w) no_pool
+      → (w ≡ length (unmarked ms (take live t₀))) × (put_mid w (live - w) t zs ≡ closed_up ms live t₀)
+  closed t live w zs inv h e =
+      let n : w ≡ length (unmarked ms (take live t₀)) = sym (ap length (sym inv.kept) ∙ length-take-le w t h) in
+      let s : w + (live - w) ≡ live = omega (arith, inv.within) in
+      (n, rw (← n, ← inv.kept, e, drop-drop (live - w) w t, s, inv.rest))

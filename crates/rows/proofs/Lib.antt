@@ -1,5 +1,3 @@
-pub mod Rows
 pub mod Closing
-pub mod Zeros
-pub mod Whole
 pub mod Runs
+pub mod WordLaws

@@ -9,10 +9,6 @@ unmarked [] ps = []
 unmarked (m ∷ ms) [] = []
 unmarked (m ∷ ms) (p ∷ ps) = cond (eqb m 0) (p ∷ unmarked ms ps) (unmarked ms ps)
 
--- zeros in the places from a up to e
-abbrev pub zeroed : List Pool → ℕ → ℕ → List Pool
-zeroed t a e = take a t ++ (replicate (e - a) no_pool ++ drop e t)
-
 -- the table after its live records that are marked are taken out
 abbrev pub closed_up : List ℕ → ℕ → List Pool → List Pool
 closed_up marks live t = unmarked marks (take live t) ++ (replicate (live - length (unmarked marks (take live t))) no_pool ++ drop live t)

@@ -1,144 +1,116 @@
-// The table of live pools in two lent slices: a row of numbers and a row of bytes for each record.
+// The table of live pools: a record of zeros, records that are zeros, and the live records closed up.
 #![tactic(auto)]
 
-ghost use Rattle.std.specs.Prelude.{◌≡◌, ◌++◌, ◌<◌, ◌≤◌, length, take, set};
-ghost use Rattle.layout.specs.Columns.{lot_id, pool_number, original_face};
-ghost use Rattle.rows.specs.Rows.{key_width, bytes_from, record_at, table_of};
-ghost use Rattle.rows.specs.Closed.{unmarked, zeroed, closed_up};
+ghost use Rattle.std.specs.Prelude.{◌≡◌, ◌≤◌, eqb, length, take, drop, replicate};
+ghost use Rattle.std.specs.Int.{w64, from_le_bytes, to_le_bytes};
+ghost use Rattle.lists.specs.Lists.{all};
+ghost use Rattle.book.specs.Records.{no_pool};
+ghost use Rattle.book.specs.Soundness.{is_none};
+ghost use Rattle.rows.specs.Closed.{unmarked, closed_up};
+ghost use Rattle.rows.specs.Words.{words_of, fields_in};
 
 use book::Pool;
+use layout::Matched;
 
-// The numbers of a row of numbers, and the bytes of a row of bytes: those of the matched fields.
-pub const NUMBERS: usize = 6;
-
-pub const KEY_WIDTH: usize = layout::LOT_ID.width
-    + layout::POOL_NUMBER.width
-    + layout::ORIGINAL_FACE.width;
-
-// The numbers of a row, in their order.
-pub const MESSAGE: usize = 0;
-
-pub const ORDINAL: usize = 1;
-
-pub const TRADE: usize = 2;
-
-pub const CURRENT: usize = 3;
-
-pub const KIND: usize = 4;
-
-pub const MILLIONS: usize = 5;
-
-// The bytes of the matched fields, one by one.
-fn key_bytes(lot: [u8; 6], pool: [u8; 7], original: [u8; 9]) -> [u8; KEY_WIDTH]
-    ensures { result ≡ bytes_from lot 0 lot_id.width ++ (bytes_from pool 0 pool_number.width ++ bytes_from original 0 original_face.width) }
+// The record of zeros.
+pub fn none() -> Pool
+    ensures { result ≡ no_pool }
 {
-    [
-        lot[0],
-        lot[1],
-        lot[2],
-        lot[3],
-        lot[4],
-        lot[5],
-        pool[0],
-        pool[1],
-        pool[2],
-        pool[3],
-        pool[4],
-        pool[5],
-        pool[6],
-        original[0],
-        original[1],
-        original[2],
-        original[3],
-        original[4],
-        original[5],
-        original[6],
-        original[7],
-        original[8],
-    ]
-}
-
-// The matched fields as one row of bytes.
-pub fn key_of(lot: [u8; 6], pool: [u8; 7], original: [u8; 9]) -> [u8; KEY_WIDTH]
-    ensures { result ≡ lot ++ (pool ++ original) }
-{
-    key_bytes(lot, pool, original)
-}
-
-// Stores a record as the i-th.
-pub fn put_record(numbers: &mut [[u64; NUMBERS]], keys: &mut [[u8; KEY_WIDTH]], i: usize, p: Pool)
-    requires { (length keys.old ≡ length numbers.old) × (i < length numbers.old) }
-    ensures { table_of numbers.new keys.new ≡ set (table_of numbers.old keys.old) i p }
-{
-    let row = [p.message, p.ordinal, p.trade, p.current, p.kind, p.millions];
-    let lot = p.lot;
-    let pool = p.pool;
-    let original = p.original;
-    let key = key_of(lot, pool, original);
-    numbers[i] = row;
-    keys[i] = key;
-}
-
-// A row of bytes, taken byte by byte: as a whole it would be copied in two parts that overlap, and wait for them.
-fn bytes_of(key: [u8; KEY_WIDTH]) -> [u8; KEY_WIDTH]
-    ensures { (result ≡ bytes_from key 0 key_width) × (length key ≡ key_width) }
-{
-    [
-        key[0], key[1], key[2], key[3], key[4], key[5], key[6], key[7], key[8], key[9], key[10],
-        key[11], key[12], key[13], key[14], key[15], key[16], key[17], key[18], key[19], key[20],
-        key[21],
-    ]
-}
-
-// Copies a record to another place. One that stays where it is is not copied.
-fn move_record(numbers: &mut [[u64; NUMBERS]], keys: &mut [[u8; KEY_WIDTH]], from: usize, to: usize)
-    requires { (length keys.old ≡ length numbers.old) × (from < length numbers.old) × (to < length numbers.old) }
-    ensures { table_of numbers.new keys.new ≡ set (table_of numbers.old keys.old) to (record_at numbers.old keys.old from) }
-{
-    if from == to {
-        return;
-    }
-    let row = numbers[from];
-    let key = keys[from];
-    let bytes = bytes_of(key);
-    numbers[to] = row;
-    keys[to] = bytes;
-}
-
-// Zeros in the places from a up to e.
-fn zero_records(numbers: &mut [[u64; NUMBERS]], keys: &mut [[u8; KEY_WIDTH]], a: usize, e: usize)
-    requires { (length keys.old ≡ length numbers.old) × (a ≤ e) × (e ≤ length numbers.old) }
-    ensures { table_of numbers.new keys.new ≡ zeroed (table_of numbers.old keys.old) a e }
-{
-    let mut i = a;
-    while i < e {
-        numbers[i] = [0; NUMBERS];
-        keys[i] = [0; KEY_WIDTH];
-        i += 1;
+    Pool {
+        message: 0,
+        ordinal: 0,
+        trade: 0,
+        matched: Matched {
+            lot: [0; layout::LOT_ID.width],
+            pool: [0; layout::POOL_NUMBER.width],
+            original: [0; layout::ORIGINAL_FACE.width],
+        },
+        current: 0,
+        kind: 0,
+        millions: 0,
     }
 }
 
-// Takes the marked records out of the live ones, and gives the number of those that are left.
-pub fn close_up(
-    numbers: &mut [[u64; NUMBERS]],
-    keys: &mut [[u8; KEY_WIDTH]],
-    live: usize,
-    marks: &[u8],
-) -> usize
-    requires { (length keys.old ≡ length numbers.old) × (live ≤ length numbers.old) × (live ≤ length marks.now) }
-    ensures { (result ≡ length (unmarked marks.now (take live (table_of numbers.old keys.old))))
-        × (table_of numbers.new keys.new ≡ closed_up marks.now live (table_of numbers.old keys.old)) }
+// Puts zeros into every record.
+pub fn clear(pools: &mut [Pool])
+    ensures { pools.new ≡ replicate (length pools.old) no_pool }
 {
-    let mut r: usize = 0;
-    let mut w: usize = 0;
-    while r < live {
-        let from = r;
-        r += 1;
-        if marks[from] == 0 {
-            move_record(&mut *numbers, &mut *keys, from, w);
-            w += 1;
+    pools.fill(none());
+}
+
+// Eight bytes as one word, which gives them back.
+fn word(bytes: [u8; 8]) -> u64
+    ensures value { result ≡ from_le_bytes w64 bytes }
+    ensures back { to_le_bytes w64 result ≡ bytes }
+{
+    u64::from_le_bytes(bytes)
+}
+
+// The matched fields as three words, which give them back.
+pub fn words(f: &Matched) -> [u64; 3]
+    ensures value { result ≡ words_of f.now }
+    ensures back { fields_in result ≡ f.now }
+{
+    let Matched {
+        lot: l,
+        pool: p,
+        original: o,
+    } = *f;
+    [
+        word([l[0], l[1], l[2], l[3], l[4], l[5], p[0], p[1]]),
+        word([p[2], p[3], p[4], p[5], p[6], o[0], o[1], o[2]]),
+        word([o[3], o[4], o[5], o[6], o[7], o[8], 0, 0]),
+    ]
+}
+
+// Every bit that stands in some number or byte of a record.
+fn bits(p: &Pool) -> u64
+    ensures { eqb result 0 ≡ is_none p.now }
+{
+    let w = words(&p.matched);
+    p.message | p.ordinal | p.trade | w[0] | w[1] | w[2] | p.current | p.kind | p.millions
+}
+
+// Whether a record is zeros.
+pub fn is_none(p: &Pool) -> bool
+    ensures { result ≡ is_none p.now }
+{
+    bits(p) == 0
+}
+
+// Whether every record is zeros: their bits are joined, and tested once.
+fn blank(pools: &[Pool]) -> bool
+    ensures { result ≡ all is_none pools.now }
+{
+    let mut all = 0;
+    for p in pools {
+        all |= bits(p);
+    }
+    all == 0
+}
+
+// Whether every record from a place on is zeros.
+pub fn blank_from(pools: &[Pool], from: usize) -> bool
+    ensures { result ≡ all is_none (drop from pools.now) }
+{
+    pools.get(from..).is_none_or(|rest| blank(rest))
+}
+
+// Takes the marked records out of the live ones, and gives the number of those that are left. A record that stays where it is is not copied.
+pub fn close_up(pools: &mut [Pool], live: usize, marks: &[u8]) -> usize
+    requires { (live ≤ length pools.old) × (live ≤ length marks.now) }
+    ensures { (result ≡ length (unmarked marks.now (take live pools.old))) × (pools.new ≡ closed_up marks.now live pools.old) }
+{
+    let mut kept = 0;
+    for (i, mark) in marks[..live].iter().enumerate() {
+        let marked = *mark != 0;
+        if !marked {
+            if kept < i {
+                pools[kept] = pools[i];
+            }
+            kept += 1;
         }
     }
-    zero_records(&mut *numbers, &mut *keys, w, live);
-    w
+    pools[kept..live].fill(none());
+    kept
 }

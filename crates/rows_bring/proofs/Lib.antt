@@ -1,4 +1,4 @@
+pub mod Numbers
 pub mod Staging
-pub mod Heads
 pub mod Pools
 pub mod Turns

@@ -5,8 +5,8 @@ use mathlib.Core.Bool.{true}
 use Prim.Native.Nat.{ℕ, ◌+◌, ◌-◌, ◌≤◌, ◌<◌}
 use native.Mathlib.Nat.{zero-add}
 use native.Mathlib.Omega.{arith}
-use lib.ListN.{length, drop, set, replicate, length-replicate, replicate-append-replicate}
-use lib.Seq.{drop_at}
+use lib.ListN.{length, drop, set, replicate, length-replicate}
+use Rattle.std.proofs.lemmas.List.{drop-replicate}
 use Rattle.lists.specs.Lists.{within, tab, pasted}
 use Rattle.lists.proofs.Parts.{in_within}
 use Rattle.lists.proofs.Tables.{length_tab, get_d_tab, map_tab}
@@ -18,13 +18,6 @@ use Rattle.terminator.specs.Lots.{current_cents}
 use Rattle.rows_bring.specs.declared.Staged.{Staged}
 use Rattle.rows_bring.specs.Staged.{padded, terminator_number, staged}
 
-drop_replicate : (most n : ℕ) → n ≤ most → drop {A = ℕ} n (replicate most 0) ≡ replicate (most - n) 0
-drop_replicate most n h =
-    let e : n + (most - n) ≡ most = omega arith in
-    ap (λ (m : ℕ). drop {A = ℕ} n (replicate m 0)) (sym e)
-    ∙ ap (drop {A = ℕ} n) (sym (replicate-append-replicate n (most - n) 0))
-    ∙ drop_at {A = ℕ} (replicate n 0) (replicate (most - n) 0) n (length-replicate {A = ℕ} n 0)
-
 -- a list pasted into zeros has the other zeros after it
 paste_zeros : (most : ℕ) (xs : List ℕ) → length xs ≤ most → pasted (replicate most 0) 0 xs ≡ xs ++ replicate (most - length xs) 0
 paste_zeros most xs h =
@@ -32,7 +25,7 @@ paste_zeros most xs h =
     let w : within {A = ℕ} (replicate most 0) 0 (length xs) ≡ true = in_within (replicate most 0) 0 (length xs) (omega arith) (omega arith) in
     paste_in (replicate most 0) 0 xs w
     ∙ ap (λ (n : ℕ). xs ++ drop {A = ℕ} n (replicate most 0)) (zero-add (length xs))
-    ∙ ap (λ (ys : List ℕ). xs ++ ys) (drop_replicate most (length xs) h)
+    ∙ ap (λ (ys : List ℕ). xs ++ ys) (drop-replicate (length xs) most 0)
 
 -- an array that takes the number f of each pool
 module _ (most : ℕ) (f : Detail → ℕ) (body : List ℕ) (n : ℕ) where

@@ -1,7 +1,7 @@
 -- The pools of a message before anything is stored (01, "The book"): their current faces and terminators, each in an array with zeros after the last pool.
+use Rattle.std.specs.Prelude.{Option, is_some, unwrap_or}
 use Rattle.std.specs.Prelude.{ℕ, ◌+◌, ◌-◌, ◌*◌, ◌/◌, ◌%◌, ◌<◌, ◌≡◌, List, ◌++◌, map, cond, length, get_or, replicate}
-use Rattle.fields.specs.declared.Field.{Field}
-use Rattle.fields.specs.Fields.{read_number, is_number, value_of}
+use Rattle.fields.specs.Fields.{read_number}
 use Rattle.layout.specs.declared.Detail.{Detail}
 use Rattle.layout.specs.Details.{pools_max, pool_count, detail_at, place_of}
 use Rattle.terminator.specs.declared.Terminator.{Terminator}
@@ -10,8 +10,8 @@ use Rattle.terminator.specs.Lots.{current_cents}
 use Rattle.rows_bring.specs.declared.Staged.{Staged}
 
 -- positions two to four as a number; what is not digits is one that no three digits make, and wrong as they are
-abbrev pub three_digits : Field → ℕ
-three_digits f = cond (is_number f) (value_of f) 1000
+abbrev pub three_digits : Option ℕ → ℕ
+three_digits f = unwrap_or f 1000
 
 -- a terminator as one number: the code of position one, and after it the number of positions two to four
 unfoldable pub terminator_number : Detail → ℕ

@@ -1,26 +1,19 @@
--- The records of one new lot: the staged pool that ends it, what its records have in common, and what each pool has for itself.
-use Rattle.std.specs.Prelude.{ℕ, ◌≤◌, ◌<◌, ◌≡◌, List, true, false, get_or}
+-- The records of one new lot: what they have in common, and what each pool has for itself.
+use Rattle.std.specs.Prelude.{ℕ, List}
 use Rattle.lists.specs.Lists.{tab}
 use Rattle.layout.specs.declared.Detail.{Detail}
 use Rattle.layout.specs.Details.{detail_at, place_of}
-use Rattle.terminator.specs.Terminators.{is_end, kind_of, millions_of}
+use Rattle.terminator.specs.declared.Terminator.{Terminator}
+use Rattle.terminator.specs.Terminators.{kind_of, millions_of}
 use Rattle.terminator.specs.Lots.{current_cents}
 use Rattle.book.specs.declared.Pool.{Pool}
 use Rattle.book.specs.Records.{kind_number}
 use Rattle.rows_bring.specs.declared.Common.{Common}
-use Rattle.rows_bring.specs.Staged.{number_term}
-
--- the first of n pools, from one on, whose terminator ends a lot, or n
-pub record Ends (terminators : List ℕ) (first n r : ℕ) : Type 0 where
-  pub begins : first ≤ r
-  pub within : r ≤ n
-  pub middles : (i : ℕ) → first ≤ i → i < r → is_end (number_term (get_or terminators i 0)) ≡ false
-  pub end : r < n → is_end (number_term (get_or terminators r 0)) ≡ true
 
 -- what the records of a lot have in common, by the terminator that ends it
-abbrev pub common_of : ℕ → ℕ → ℕ → ℕ → Common
-common_of number message ordinal trade =
-    record { message = message; ordinal = ordinal; trade = trade; kind = kind_number (kind_of (number_term number)); millions = millions_of (number_term number) }
+abbrev pub common_of : Terminator → ℕ → ℕ → ℕ → Common
+common_of end message ordinal trade =
+    record { message = message; ordinal = ordinal; trade = trade; kind = kind_number (kind_of end); millions = millions_of end }
 
 -- the record of a pool, with its current face in cents
 abbrev pub record_with : Common → Detail → ℕ → Pool
@@ -29,9 +22,7 @@ record_with s d current =
       message = s.message;
       ordinal = s.ordinal;
       trade = s.trade;
-      lot = d.lot;
-      pool = d.pool;
-      original = d.original;
+      matched = d.matched;
       current = current;
       kind = s.kind;
       millions = s.millions;

@@ -3,7 +3,7 @@ use mathlib.Core.Path.{◌≡◌, refl, sym, ap, ◌∙◌}
 use mathlib.Core.List.{List, ◌∷◌}
 use mathlib.Core.Bool.{Bool, true, false, cond, ◌&&◌, ◌||◌}
 use Prim.Native.Nat.{ℕ, zero, suc, ◌+◌, ◌≤◌, ◌<◌}
-use native.Mathlib.Decide.{dec_lt, ℕ_discrete}
+use native.Mathlib.Decide.{ℕ_discrete}
 use native.Mathlib.Omega.{arith}
 use lib.ListN.{length, get_or, set, replicate}
 use lib.Seq.{get_or-set_same, get_or-set_other}
@@ -28,25 +28,6 @@ module _ (ok : ℕ → Bool) (fits : ℕ → ℕ → Bool) (start stop : ℕ) wh
   filled_none n = record { rows = λ e h. absurd (omega (arith, h)); others = λ e h. absurd (omega (arith, h)); past = λ e h. get_d_zeros n e }
 
   module _ (at : List ℕ) (d : ℕ) (inv : Filled at d) where
-    pub filled_skip : ok d ≡ false → Filled at (d + 1)
-    filled_skip o =
-        record {
-          rows = λ e h k. inv.rows e (below e h k) k;
-          others = λ e h k. rest e h k (dec_lt e d);
-          past = λ e h. inv.past e (omega (arith, h));
-        }
-      where
-        below : (e : ℕ) → e < d + 1 → ok e ≡ true → e < d
-        below e h k = go (ℕ_discrete e d)
-          where
-            go : Dec (e ≡ d) → e < d
-            go (yes p) = clash k (ap ok p ∙ o)
-            go (no p) = omega (arith, h, p)
-
-        rest : (e : ℕ) → e < d + 1 → ok e ≡ false → Dec (e < d) → get_or at e 0 ≡ 0
-        rest e h k (yes l) = inv.others e l k
-        rest e h k (no l) = inv.past e (omega (arith, l))
-
     pub filled_more : d < length at → ok d ≡ true → (j : ℕ) → start ≤ j → j < stop → fits d j ≡ true → Filled (set at d j) (d + 1)
     filled_more w o j a b f =
         record {
@@ -58,7 +39,8 @@ module _ (ok : ℕ → Bool) (fits : ℕ → ℕ → Bool) (start stop : ℕ) wh
         here : get_or (set at d j) d 0 ≡ j
         here = get_or-set_same at d j 0 w
 
-        rest : (e : ℕ) → e < d + 1 → ok e ≡ true → Dec (e ≡ d) → (start ≤ get_or (set at d j) e 0) × (get_or (set at d j) e 0 < stop) × (fits e (get_or (set at d j) e 0) ≡ true)
+        rest : (e : ℕ) → e < d + 1 → ok e ≡ true → Dec (e ≡ d)
+            → (start ≤ get_or (set at d j) e 0) × (get_or (set at d j) e 0 < stop) × (fits e (get_or (set at d j) e 0) ≡ true)
         rest e h k (yes p) = rw p (rw (get_or-set_same at d j 0 w) (a, b, f))
         rest e h k (no p) = rw (get_or-set_other at d e j 0 p) (inv.rows e (omega (arith, h, p)) k)
 
@@ -85,7 +67,8 @@ module _ {A : Type 0} (p : A → Bool) (f : ℕ → A) where
     all_kept_in zero i h = refl
     all_kept_in (suc n) i h = go (ok (f i)) refl (all_kept_in n (i + 1) (λ (e : ℕ) a b. h e (omega (arith, a)) (omega (arith, b))))
       where
-        go : (b : Bool) → ok (f i) ≡ b → all p (keep ok (tab f n (i + 1))) ≡ true → all p (cond b (f i ∷ keep ok (tab f n (i + 1))) (keep ok (tab f n (i + 1)))) ≡ true
+        go : (b : Bool) → ok (f i) ≡ b → all p (keep ok (tab f n (i + 1))) ≡ true
+            → all p (cond b (f i ∷ keep ok (tab f n (i + 1))) (keep ok (tab f n (i + 1)))) ≡ true
         go true o t = both (p (f i)) (all p (keep ok (tab f n (i + 1)))) (h i (omega arith) (omega arith) o) t
         go false o t = t
 

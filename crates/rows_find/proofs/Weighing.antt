@@ -2,77 +2,56 @@
 use mathlib.Core.Path.{◌≡◌, refl, sym, ap, ◌∙◌}
 use mathlib.Core.List.{List, [], ◌∷◌}
 use mathlib.Core.Bool.{Bool, true, false, cond, not, ◌&&◌, true≢false}
-use Prim.Native.Nat.{ℕ, suc, ◌+◌, ◌-◌, ◌*◌, ◌≤◌, ◌<◌}
+use Prim.Native.Nat.{ℕ, suc, ◌+◌, ◌≤◌, ◌<◌}
 use native.Mathlib.Omega.{arith}
 use lib.ListN.{length, get_or, take, drop}
 use lib.Dec.{eqb}
+use lib.Seq.{length-take-le, get_or-take}
 use borrow.Author.Tests.{eq-eqb, ne_eqb}
-use Rattle.lists.specs.Lists.{tab, keep}
-use Rattle.lists.proofs.Parts.{drop_turn}
-use Rattle.lists.proofs.Tables.{tab_turn, tab_end, tab_all}
-use Rattle.terminator.specs.Lots.{million_cents}
+use Rattle.std.proofs.lemmas.List.{drop_more, drop_all, get_or_default}
+use Rattle.lists.specs.Lists.{keep}
 use Rattle.book.specs.declared.Pool.{Pool}
 use Rattle.book.specs.Records.{no_pool}
-use Rattle.rows.specs.Rows.{record_at, table_of}
 use Rattle.rows.specs.Closed.{unmarked}
 use Rattle.rows.specs.Runs.{run_sum, weight_share}
-use Rattle.rows.proofs.Rows.{take_table}
-use Rattle.rows_find.specs.Marks.{marked, row_share}
-
--- ---- the share of one record
--- whether a row begins a lot, after a record of a message and an ordinal
-abbrev pub begins : List ℕ → ℕ → ℕ → Bool
-begins row message ordinal = not (eqb (get_or row 0 0) message && eqb (get_or row 1 0) ordinal)
-
-module _ (row : List ℕ) (first : Bool) where
-  pub share_other : (get_or row 4 0 ≡ 1 → ⊥) → get_or row 3 0 ≡ row_share first row
-  share_other e = rw (ne_eqb (get_or row 4 0) 1 e)
-
-  pub share_first : get_or row 4 0 ≡ 1 → first ≡ true → get_or row 5 0 * million_cents ≡ row_share first row
-  share_first e b = rw (eq-eqb (get_or row 4 0) 1 e, b)
-
-  pub share_rest : get_or row 4 0 ≡ 1 → first ≡ false → 0 ≡ row_share first row
-  share_rest e b = rw (eq-eqb (get_or row 4 0) 1 e, b)
+use Rattle.rows_find.specs.Marks.{marked}
 
 marked_nil : (ms : List ℕ) → marked ms [] ≡ []
 marked_nil [] = refl
 marked_nil (m ∷ ms) = refl
 
 -- ---- the loop: the sum, with what is left from i on, is the weight
-module _ (ns : List (List ℕ)) (ms : List ℕ) (live : ℕ) (ks : List (List ℕ)) where
+module _ (ps : List Pool) (ms : List ℕ) (live : ℕ) where
+  abbrev rs : List Pool
+  rs = take live ps
+
   abbrev left : ℕ → List Pool
-  left i = marked (drop i ms) (tab (record_at ns ks) (live - i) i)
+  left i = marked (drop i ms) (drop i rs)
 
   abbrev pub Weighed : ℕ → ℕ → ℕ → ℕ → Type 0
-  Weighed sum message ordinal i = sum + run_sum weight_share message ordinal (left i) ≡ run_sum weight_share 0 0 (marked ms (tab (record_at ns ks) live 0))
+  Weighed sum message ordinal i = sum + run_sum weight_share message ordinal (left i) ≡ run_sum weight_share 0 0 (marked ms rs)
 
-  pub weighed_none : Weighed 0 0 0 0
-  weighed_none = omega (arith, ap (λ (rs : List Pool). run_sum weight_share 0 0 (marked ms rs)) (tab_all (record_at ns ks) live))
+  module _ (l : live ≤ length ps) (m : live ≤ length ms) (sum message ordinal i : ℕ) (inv : Weighed sum message ordinal i) where
+    pub weighed_done : live ≤ i → sum ≡ run_sum weight_share 0 0 (marked ms rs)
+    weighed_done h =
+        let none : left i ≡ [] = ap (marked (drop i ms)) (drop_all i rs (omega (arith, length-take-le live ps l, h))) ∙ marked_nil (drop i ms) in
+        omega (arith, inv, ap (run_sum weight_share message ordinal) none)
 
-  module _ (sum message ordinal i : ℕ) (inv : Weighed sum message ordinal i) where
-    pub weighed_done : live ≤ i → live ≤ length ns → live ≤ length ms → i ≤ live → sum ≡ run_sum weight_share 0 0 (marked ms (take live (table_of ns ks)))
-    weighed_done h l m k =
-        let none : left i ≡ [] = ap (marked (drop i ms)) (tab_end (record_at ns ks) live i h) ∙ marked_nil (drop i ms) in
-        let e : sum + run_sum weight_share message ordinal (left i) ≡ sum = omega (arith, ap (run_sum weight_share message ordinal) none) in
-        sym e ∙ inv ∙ ap (λ (rs : List Pool). run_sum weight_share 0 0 (marked ms rs)) (sym (take_table ns ks live l))
+    module _ (h : i < live) where
+      turn : left i ≡ cond (eqb (get_or ms i 0) 0) (left (i + 1)) (get_or ps i no_pool ∷ left (i + 1))
+      turn = rw (drop_more ms i 0 (omega arith), drop_more rs i no_pool (omega (arith, length-take-le live ps l)), get_or-take live ps i no_pool h)
 
-    module _ (h : i < live) (m : live ≤ length ms) where
-      turn : left i ≡ cond (eqb (get_or ms i 0) 0) (left (i + 1)) (record_at ns ks i ∷ left (i + 1))
-      turn = rw (drop_turn ms i 0 (omega arith), tab_turn (record_at ns ks) live i h)
-
-      pub weighed_skip : get_or ms i 0 ≡ 0 → Weighed sum message ordinal (i + 1)
+      pub weighed_skip : get_or (take live ms) i 0 ≡ 0 → Weighed sum message ordinal (i + 1)
       weighed_skip e =
-          let t : left i ≡ left (i + 1) = turn ∙ rw (eq-eqb (get_or ms i 0) 0 e) in
-          ap (λ (rs : List Pool). sum + run_sum weight_share message ordinal rs) (sym t) ∙ inv
+          let t : left i ≡ left (i + 1) = turn ∙ rw (eq-eqb (get_or ms i 0) 0 (sym (get_or-take live ms i 0 h) ∙ e)) in
+          omega (arith, inv, ap (run_sum weight_share message ordinal) t)
 
-      pub weighed_more : (get_or ms i 0 ≡ 0 → ⊥) → (s : ℕ)
-          → s ≡ row_share (begins (get_or ns i []) message ordinal) (get_or ns i [])
-          → Weighed (sum + s) (get_or (get_or ns i []) 0 0) (get_or (get_or ns i []) 1 0) (i + 1)
-      weighed_more e s is =
-          let t : left i ≡ record_at ns ks i ∷ left (i + 1) = turn ∙ rw (ne_eqb (get_or ms i 0) 0 e) in
-          let u : sum + run_sum weight_share message ordinal (record_at ns ks i ∷ left (i + 1)) ≡ run_sum weight_share 0 0 (marked ms (tab (record_at ns ks) live 0)) =
-          ap (λ (rs : List Pool). sum + run_sum weight_share message ordinal rs) (sym t) ∙ inv in
-          omega (arith, u, is)
+      pub weighed_more : (get_or (take live ms) i 0 ≡ 0 → ⊥) → (d p : Pool) → p ≡ get_or ps i d
+          → (s : ℕ) → s ≡ weight_share (not (eqb p.message message && eqb p.ordinal ordinal)) p → Weighed (sum + s) p.message p.ordinal (i + 1)
+      weighed_more e d p ep s is =
+          let n : eqb (get_or ms i 0) 0 ≡ false = ne_eqb (get_or ms i 0) 0 (λ z. e (get_or-take live ms i 0 h ∙ z)) in
+          let t : left i ≡ p ∷ left (i + 1) = turn ∙ rw (n, ep ∙ get_or_default ps i d no_pool (omega arith)) in
+          omega (arith, inv, ap (run_sum weight_share message ordinal) t, is)
 
 -- ---- marks that tell a test
 module _ (p : Pool → Bool) where

@@ -1,190 +1,139 @@
 // Where the target's records stand in the table, where each listed pool stands among them, and what marked records weigh.
 #![tactic(auto)]
 
-ghost use Rattle.std.specs.Prelude.{◌≡◌, List, ℕ, ◌+◌, ◌-◌, ◌≤◌, ◌<◌, length, take, get_or};
-ghost use Rattle.lists.specs.Lists.{tab};
-ghost use Rattle.fields.specs.declared.Field.TheVariants.{Number};
-ghost use Rattle.book.specs.Records.{same_fields};
-ghost use Rattle.book.specs.Messages.{target_of, under};
+ghost use Rattle.std.specs.Prelude.{◌≡◌, ◌==◌, ◌≤◌, length, take};
+ghost use Rattle.std.specs.List.{position_or_len, prefix_len};
+ghost use Rattle.book.specs.Messages.{target_of};
 ghost use Rattle.book.specs.Opening.{eleven_digits_max};
-ghost use Rattle.rows.specs.Rows.{record_at, table_of};
 ghost use Rattle.rows.specs.Runs.{run_sum, weight_share};
-ghost use Rattle.rows_find.specs.Runs.{ahead, leading, run_of};
-ghost use Rattle.rows_find.specs.Finding.{row_fields, lists, Finds};
-ghost use Rattle.rows_find.specs.Marks.{marked, row_share, Weighable};
+ghost use Rattle.rows_find.specs.Runs.{run_of};
+ghost use Rattle.rows_find.specs.Finding.{lists, Finds};
+ghost use Rattle.rows_find.specs.Marks.{marked, Weighable};
 
+use book::Pool;
 use layout::Detail;
 use message_type::MessageType;
 
-// A good lot, as a record has it.
-const GOOD: u64 = 1;
-
-// The rows from start up to stop.
+// The records from start up to stop.
 #[derive(Clone, Copy)]
 pub struct Run {
     pub start: usize,
     pub stop: usize,
 }
 
-// Whether every listed pool has a row, and the row of each by its index in the message.
-#[derive(Clone, Copy)]
-pub struct Places {
-    pub found: bool,
-    pub at: [usize; layout::POOLS_MAX],
+// How many records stand before the first under a message ID.
+fn ahead(pools: &[Pool], id: u64) -> usize
+    ensures value { result ≡ position_or_len (λ p. p.message == id) pools.now }
+    ensures within { result ≤ length pools.now }
+{
+    pools.iter().take_while(|p| p.message != id).count()
 }
 
-// The first live row under a message ID, or the number of live rows.
-fn first_under(numbers: &[[u64; rows::NUMBERS]], live: usize, id: u64) -> usize
-    requires { live ≤ length numbers.now }
-    ensures { (ks : List (List ℕ)) → result ≡ ahead (under (Number id)) (tab (record_at numbers.now ks) live 0) }
+// How many records from the first on are under a message ID.
+fn leading(pools: &[Pool], id: u64) -> usize
+    ensures value { result ≡ prefix_len (λ p. p.message == id) pools.now }
+    ensures within { result ≤ length pools.now }
 {
-    let mut i: usize = 0;
-    while i < live {
-        let row = numbers[i];
-        if row[rows::MESSAGE] == id {
-            return i;
-        }
-        i += 1;
-    }
-    live
-}
-
-// From a row on, the first live row that is not under a message ID, or the number of live rows.
-fn first_other(numbers: &[[u64; rows::NUMBERS]], from: usize, live: usize, id: u64) -> usize
-    requires { (from ≤ live) × (live ≤ length numbers.now) }
-    ensures { (ks : List (List ℕ)) → result ≡ from + leading (under (Number id)) (tab (record_at numbers.now ks) (live - from) from) }
-{
-    let mut i = from;
-    while i < live {
-        let row = numbers[i];
-        if row[rows::MESSAGE] != id {
-            return i;
-        }
-        i += 1;
-    }
-    live
+    pools.iter().take_while(|p| p.message == id).count()
 }
 
 // Where the target's records stand among the live ones.
-pub fn target_run(numbers: &[[u64; rows::NUMBERS]], live: usize, body: &[u8]) -> Run
-    requires { live ≤ length numbers.now }
-    ensures { (ks : List (List ℕ)) → result ≡ run_of (target_of body.now) (take live (table_of numbers.now ks)) }
+pub fn target_run(pools: &[Pool], live: usize, body: &[u8]) -> Run
+    requires { live ≤ length pools.now }
+    ensures { result ≡ run_of (target_of body.now) (take live pools.now) }
 {
-    let f = layout::number_in(body, layout::TARGET);
-    if !fields::is_number(f) {
-        return Run {
+    match layout::number_in(body, layout::TARGET) {
+        None => Run {
             start: live,
             stop: live,
-        };
-    }
-    let id = fields::value_of(f);
-    let start = first_under(numbers, live, id);
-    let stop = first_other(numbers, start, live, id);
-    Run {
-        start: start,
-        stop: stop,
+        },
+        Some(id) => {
+            let records = &pools[..live];
+            let start = ahead(records, id);
+            let stop = start + leading(&records[start..], id);
+            Run { start, stop }
+        },
     }
 }
 
 // Whether a message of a type lists a pool.
-fn is_listed(t: MessageType, d: Detail) -> bool
-    ensures { result ≡ lists t d }
+fn is_listed(t: MessageType, d: &Detail) -> bool
+    ensures { result ≡ lists t d.now }
 {
-    let bytes = d.terminator;
-    let canceled = bytes[0] == terminator::CANCELED;
-    message_type::lists_lots(t) & (message_type::lists_all(t) | canceled)
+    let canceled = d.terminator[0] == terminator::CANCELED;
+    t.lists_lots() & (t.lists_all() | canceled)
 }
 
-// Whether two rows hold the same matched fields.
-fn same_row(a: [u8; rows::KEY_WIDTH], b: [u8; rows::KEY_WIDTH]) -> bool
-    ensures { result ≡ same_fields (row_fields a) (row_fields b) }
+// For each pool that a message lists, its place among the records of the run, by the pool's index in the message; the search ends at the first pool without one.
+// It goes on from the record after the last one found, then from the start, so that pools listed in the table's order cost one comparison each.
+#[tactic(auto, using(layout::proofs::Lengths::count_max))]
+pub fn find_places(body: &[u8], pools: &[Pool], run: Run) -> Option<[usize; layout::POOLS_MAX]>
+    requires { (run.start ≤ run.stop) × (run.stop ≤ length pools.now) }
+    ensures { Finds body.now pools.now run result }
 {
-    rows_keys::same_key(&a, &b)
-}
-
-// For each pool that a message lists, its row among those of the run; the search ends at the first pool without one.
-// It goes on from the row after the last one found, then from the start, so that pools listed in the table's order cost one comparison each.
-pub fn find_places(body: &[u8], keys: &[[u8; rows::KEY_WIDTH]], run: Run) -> Places
-    requires { (run.start ≤ run.stop) × (run.stop ≤ length keys.now) }
-    ensures { Finds body.now keys.now run result }
-{
-    let start = run.start;
-    let stop = run.stop;
     let t = header::message_type(body);
-    let n = layout::pool_count(body);
     let mut at = [0usize; layout::POOLS_MAX];
-    let mut next = start;
-    let mut d: usize = 0;
-    'listed: while d < n {
+    let mut next = run.start;
+    let mut found = true;
+    'listed: for d in 0..layout::pool_count(body) {
         let pool = layout::pool_at(body, d);
-        if !is_listed(t, pool) {
-            d += 1;
+        if !is_listed(t, &pool) {
             continue 'listed;
         }
-        let key = rows_keys::key_of(pool);
         let mut again = false;
         let mut j = next;
-        let mut end = stop;
+        let mut end = run.stop;
         'live: loop {
             if j < end {
-                if same_row(keys[j], key) {
+                if rows_keys::same_fields(&pools[j].matched, &pool.matched) {
                     break 'live;
                 }
                 j += 1;
             } else {
                 if again {
+                    found = false;
                     break 'listed;
                 }
                 again = true;
-                j = start;
+                j = run.start;
                 end = next;
             }
         }
         at[d] = j;
         next = j + 1;
-        d += 1;
     }
-    if d < n {
-        return Places {
-            found: false,
-            at: [0; layout::POOLS_MAX],
-        };
-    }
-    Places { found: true, at }
+    if found { Some(at) } else { None }
 }
 
 // What a record adds to the weight of its lot, given whether it begins the lot.
-fn row_share(row: [u64; rows::NUMBERS], begins: bool) -> u64
-    requires { (get_or row 3 0 ≤ eleven_digits_max) × (get_or row 5 0 ≤ 99) }
-    ensures { (result ≡ row_share begins row) × (result ≤ eleven_digits_max) }
+fn weight_share(pool: &Pool, begins: bool) -> u64
+    requires { (pool.now.current ≤ eleven_digits_max) × (pool.now.millions ≤ 99) }
+    ensures { (result ≡ weight_share begins pool.now) × (result ≤ eleven_digits_max) }
 {
-    if row[rows::KIND] != GOOD {
-        return row[rows::CURRENT];
+    if pool.kind != book::KIND_GOOD {
+        pool.current
+    } else if begins {
+        pool.millions * terminator::MILLION_CENTS
+    } else {
+        0
     }
-    if begins {
-        return row[rows::MILLIONS] * terminator::MILLION_CENTS;
-    }
-    0
 }
 
 // What the lots of the marked live records weigh, in cents.
-pub fn weight_of_marked(numbers: &[[u64; rows::NUMBERS]], marks: &[u8], live: usize) -> u64
-    requires { Weighable numbers.now marks.now live }
-    ensures { (ks : List (List ℕ)) → result ≡ run_sum weight_share 0 0 (marked marks.now (take live (table_of numbers.now ks))) }
+pub fn weight_of_marked(pools: &[Pool], marks: &[u8], live: usize) -> u64
+    requires { Weighable pools.now marks.now live }
+    ensures { result ≡ run_sum weight_share 0 0 (marked marks.now (take live pools.now)) }
 {
-    let mut sum: u64 = 0;
-    let mut message: u64 = 0;
-    let mut ordinal: u64 = 0;
-    let mut i: usize = 0;
-    while i < live {
-        let row = numbers[i];
-        let mark = marks[i];
-        i += 1;
-        if mark != 0 {
-            let begins = !((row[rows::MESSAGE] == message) & (row[rows::ORDINAL] == ordinal));
-            sum += row_share(row, begins);
-            message = row[rows::MESSAGE];
-            ordinal = row[rows::ORDINAL];
+    let mut sum = 0;
+    let mut message = 0;
+    let mut ordinal = 0;
+    for (i, mark) in marks[..live].iter().enumerate() {
+        if *mark != 0 {
+            let record = &pools[i];
+            let begins = !((record.message == message) & (record.ordinal == ordinal));
+            sum += weight_share(record, begins);
+            message = record.message;
+            ordinal = record.ordinal;
         }
     }
     sum

@@ -6,7 +6,6 @@ use Rattle.book.specs.Dues.{due}
 use Rattle.book.specs.Records.{no_pool, records_of}
 use Rattle.book.specs.Messages.{target_of, listed, brought}
 use Rattle.book.specs.Checks.{is_taken}
-use Rattle.rows.specs.Rows.{table_of}
 
 -- what a message does not take off
 abbrev pub remaining : List ℕ → List Pool → List Pool
@@ -20,10 +19,9 @@ bringing body message trade = records_of message 1 (map (due trade) (brought bod
 abbrev pub filled : ℕ → List Pool → List Pool
 filled n rs = rs ++ replicate (n - length rs) no_pool
 
--- what a move asks: two slices of one length, a mark on each live record that is taken off and on no other, and zeros after the live ones
-pub record Movable (body : List ℕ) (ns ks : List (List ℕ)) (live : ℕ) (ms : List ℕ) : Type 0 where
-  pub paired : length ks ≡ length ns
-  pub within : live ≤ length ns
+-- what a move asks: a mark on each live record that is taken off and on no other, and zeros after the live ones
+pub record Movable (body : List ℕ) (ps : List Pool) (live : ℕ) (ms : List ℕ) : Type 0 where
+  pub within : live ≤ length ps
   pub marks : live ≤ length ms
-  pub told : (i : ℕ) → i < live → eqb (get_or ms i 0) 0 ≡ not (is_taken (target_of body) (listed body) (get_or (take live (table_of ns ks)) i no_pool))
-  pub zeros : drop live (table_of ns ks) ≡ replicate (length ns - live) no_pool
+  pub told : (i : ℕ) → i < live → eqb (get_or ms i 0) 0 ≡ not (is_taken (target_of body) (listed body) (get_or (take live ps) i no_pool))
+  pub zeros : drop live ps ≡ replicate (length ps - live) no_pool

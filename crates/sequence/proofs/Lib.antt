@@ -1,2 +1,1 @@
-pub mod Arrivals
 pub mod Soundness

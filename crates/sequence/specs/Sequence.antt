@@ -1,9 +1,7 @@
 -- Sequence numbers: inbound and outbound are separate counters (01, The book; 11, 12, 42, 43).
-use Rattle.std.specs.Prelude.{ℕ, ◌+◌, Bool, false, cond, ◌&&◌, eqb, leb, ltb}
+use Rattle.std.specs.Prelude.{ℕ, ◌+◌, Option, Some, None, Bool, false, cond, ◌&&◌, eqb, leb, ltb}
 use Rattle.sequence.specs.declared.Inbound.{Inbound}
 use Rattle.sequence.specs.declared.Outbound.{Outbound}
-use Rattle.sequence.specs.declared.Received.{Received}
-use Rattle.sequence.specs.declared.Received.TheVariants.{Nothing, Last}
 use Rattle.sequence.specs.declared.Line.{Line}
 use Rattle.sequence.specs.declared.Arrival.{Arrival}
 use Rattle.sequence.specs.declared.Arrival.TheVariants.{Refused, Duplicate, Expected, Gap}
@@ -34,12 +32,12 @@ outbound n = record { 0 = n }
 
 -- inbound starts expecting 1, none received
 abbrev pub start_line : Line
-start_line = record { received = Nothing; expected = inbound first_number }
+start_line = record { received = None; expected = inbound first_number }
 
 -- whether a number is the last received
-abbrev pub is_last : Received → Inbound → Bool
-is_last Nothing number = false
-is_last (Last last) number = eqb number.0 last.0
+abbrev pub is_last : Option Inbound → Inbound → Bool
+is_last None number = false
+is_last (Some last) number = eqb number.0 last.0
 
 -- 11: the line refuses 999999, and what six digits do not hold
 abbrev pub is_refused : ℕ → Bool
@@ -54,7 +52,7 @@ arrival_of line number =
 
 -- the line once a number is processed: it is received, and one more is expected
 abbrev pub processed : Inbound → Line
-processed number = record { received = Last number; expected = inbound (number.0 + 1) }
+processed number = record { received = Some number; expected = inbound (number.0 + 1) }
 
 -- a line after a number of that arrival: only the expected one and a gap are processed
 abbrev pub moved : Arrival → Line → Inbound → Line
@@ -68,9 +66,9 @@ unfoldable pub line_after : Line → Inbound → Line
 line_after line number = moved (arrival_of line number) line number
 
 -- 42: expected is 1 where none is received
-abbrev pub sound_after : Received → Inbound → Bool
-sound_after Nothing expected = eqb expected.0 first_number
-sound_after (Last last) expected = leb last.0 inbound_max && eqb expected.0 (last.0 + 1)
+abbrev pub sound_after : Option Inbound → Inbound → Bool
+sound_after None expected = eqb expected.0 first_number
+sound_after (Some last) expected = leb last.0 inbound_max && eqb expected.0 (last.0 + 1)
 
 -- 42: received is at most 999998, and expected one more
 unfoldable pub sound_line : Line → Bool

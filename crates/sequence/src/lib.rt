@@ -2,32 +2,25 @@
 #![tactic(auto)]
 
 ghost use Rattle.std.specs.Prelude.{◌≡◌};
-ghost use Rattle.sequence.specs.Sequence.{start_line, is_last, arrival_of, line_after, sound_line, next_outbound, outbound_spent};
+ghost use Rattle.sequence.specs.Sequence.{start_line, arrival_of, line_after, sound_line, next_outbound, outbound_spent};
 
 // A sequence number of the sender's side.
-#[derive(Clone, Copy)]
+#[derive(Clone, Copy, PartialEq, Eq)]
 pub struct Inbound(pub u32);
 
 // The last outbound number used.
-#[derive(Clone, Copy)]
+#[derive(Clone, Copy, PartialEq, Eq)]
 pub struct Outbound(pub u32);
 
-// The last number received, where there is one.
-#[derive(Clone, Copy)]
-pub enum Received {
-    Nothing,
-    Last(Inbound),
-}
-
-// The inbound side as the book keeps it.
-#[derive(Clone, Copy)]
+// The inbound side as the book keeps it: the last number received, where there is one, and the number expected.
+#[derive(Clone, Copy, PartialEq, Eq)]
 pub struct Line {
-    pub received: Received,
+    pub received: Option<Inbound>,
     pub expected: Inbound,
 }
 
 // What a number is to the line.
-#[derive(Clone, Copy)]
+#[derive(Clone, Copy, PartialEq, Eq)]
 pub enum Arrival {
     Refused,
     Duplicate,
@@ -44,89 +37,76 @@ pub const OUTBOUND_MAX: u32 = 999999;
 // The highest last number that leaves a call its two (43).
 const OUTBOUND_LAST_MAX: u32 = 999997;
 
-// A line with nothing received.
-pub fn start() -> Line
-    ensures { result ≡ start_line }
-{
-    Line {
-        received: Received::Nothing,
-        expected: Inbound(FIRST),
+impl Line {
+    // A line with nothing received.
+    pub fn start() -> Line
+        ensures { result ≡ start_line }
+    {
+        Line {
+            received: None,
+            expected: Inbound(FIRST),
+        }
     }
-}
 
-fn is_last(received: Received, number: Inbound) -> bool
-    ensures { result ≡ is_last received number }
-{
-    match received {
-        Received::Nothing => false,
-        Received::Last(last) => number.0 == last.0,
+    // What a number is to the line.
+    #[tactic(auto, unfolding(crate::specs::Sequence::arrival_of))]
+    pub fn judge(self, number: Inbound) -> Arrival
+        ensures { result ≡ arrival_of self number }
+    {
+        if INBOUND_MAX < number.0 {
+            Arrival::Refused
+        } else if self.received == Some(number) {
+            Arrival::Duplicate
+        } else if number == self.expected {
+            Arrival::Expected
+        } else {
+            Arrival::Gap
+        }
     }
-}
 
-// What a number is to a line.
-pub fn judge(line: Line, number: Inbound) -> Arrival
-    ensures { result ≡ arrival_of line number }
-{
-    if INBOUND_MAX < number.0 {
-        return Arrival::Refused;
+    // The line after a number: it moves unless the number is refused or a duplicate.
+    #[tactic(auto, unfolding(crate::specs::Sequence::arrival_of, crate::specs::Sequence::line_after))]
+    pub fn after(self, number: Inbound) -> Line
+        ensures { result ≡ line_after self number }
+    {
+        match self.judge(number) {
+            Arrival::Expected | Arrival::Gap => Line {
+                received: Some(number),
+                expected: Inbound(number.0 + 1),
+            },
+            _ => self,
+        }
     }
-    let received = line.received;
-    if is_last(received, number) {
-        return Arrival::Duplicate;
-    }
-    if number.0 == line.expected.0 {
-        return Arrival::Expected;
-    }
-    Arrival::Gap
-}
 
-// The line after a number: it moves unless the number is refused or a duplicate.
-pub fn after(line: Line, number: Inbound) -> Line
-    ensures { result ≡ line_after line number }
-{
-    if INBOUND_MAX < number.0 {
-        return line;
-    }
-    let received = line.received;
-    if is_last(received, number) {
-        return line;
-    }
-    Line {
-        received: Received::Last(number),
-        expected: Inbound(number.0 + 1),
-    }
-}
-
-// Whether a line can have come about by numbers that were processed (42).
-pub fn sound(line: Line) -> bool
-    ensures { result ≡ sound_line line }
-{
-    let received = line.received;
-    let expected = line.expected;
-    match received {
-        Received::Nothing => expected.0 == FIRST,
-        Received::Last(last) => {
-            if INBOUND_MAX < last.0 {
-                return false;
-            }
-            expected.0 == last.0 + 1
+    // Whether a line can have come about by numbers that were processed (42).
+    #[tactic(auto, unfolding(crate::specs::Sequence::sound_line))]
+    pub fn sound(self) -> bool
+        ensures { result ≡ sound_line self }
+    {
+        match self.received {
+            None => self.expected == Inbound(FIRST),
+            Some(last) => last.0 <= INBOUND_MAX && self.expected.0 == last.0 + 1,
         }
     }
 }
 
-// The next outbound number. The highest stays.
-pub fn next(last: Outbound) -> Outbound
-    ensures { result ≡ next_outbound last }
-{
-    if OUTBOUND_MAX <= last.0 {
-        return last;
+impl Outbound {
+    // The next outbound number. The highest stays.
+    #[tactic(auto, unfolding(crate::specs::Sequence::next_outbound))]
+    pub fn next(self) -> Outbound
+        ensures { result ≡ next_outbound self }
+    {
+        if self.0 < OUTBOUND_MAX {
+            Outbound(self.0 + 1)
+        } else {
+            self
+        }
     }
-    Outbound(last.0 + 1)
-}
 
-// Whether fewer than two outbound numbers are left (43).
-pub fn spent(last: Outbound) -> bool
-    ensures { result ≡ outbound_spent last }
-{
-    OUTBOUND_LAST_MAX < last.0
+    // Whether fewer than two outbound numbers are left (43).
+    pub fn spent(self) -> bool
+        ensures { result ≡ outbound_spent self }
+    {
+        OUTBOUND_LAST_MAX < self.0
+    }
 }

@@ -1,1 +1,3 @@
-pub mod Framing
+pub mod Answering
+pub mod Bounds
+pub mod Accepting

@@ -1,193 +1,97 @@
-// The public calls on a lent table of pool records: a call's rows are its own, so the caller lends the table alone.
+// The frame call on a lent table of pool records: 42 first, then the checks of operator, line and sender, then the trader's; then what an accepted message moves, and what goes out.
 #![tactic(auto)]
 
-ghost use Rattle.std.specs.Prelude.{◌≡◌, ◌-◌, ◌≤◌, leb, length};
-ghost use Rattle.lists.specs.Lists.{part};
-ghost use Rattle.rows_enough.specs.FirstRows.{wanted, rows_of};
-ghost use Rattle.rows_enough.specs.Moving.{StepsRows};
+ghost use Rattle.std.specs.Prelude.{◌≡◌, false, ◌≤◌, length, Ok};
+ghost use Rattle.layout.specs.Columns.{header_width};
+ghost use Rattle.book.specs.Messages.{type_of};
+ghost use Rattle.book.specs.Checks.{call, checks, asked_by};
+ghost use Rattle.book.specs.Reasons.{is_silent, refusal};
+ghost use Rattle.book.specs.Step.{output_for, call_with};
+ghost use Rattle.reply.specs.Counters.{with_counters};
+ghost use Rattle.check_trader.specs.Decisions.{DecidedBy};
 ghost use Rattle.calls.specs.Calls.{Framed};
-ghost use Rattle.table_step.specs.Few.{few_rows};
 
-use book::{Book, Caller, Pool};
+use book::{Answer, Book, Caller, Pool, Reason};
 use calls::Stepped;
-use rows_enough::Moved;
+use check_trader::Decision;
 
-// How many rows a call clears where its live pools and what a message brings are few.
-const FEW: usize = 512;
-
-// Whether the rows of a call are few, on a table of so many records, with the body that lies from one place up to another.
-fn few_enough(book: Book, records: usize, from: usize, to: usize) -> bool
-    ensures { result ≡ leb (rows_of records (wanted book.live (to - from))) few_rows }
-{
-    rows_enough::rows_of(records, rows_enough::rows_wanted(book, from, to)) <= FEW
-}
-
-// The frame call on the rows of a table, with the body that lies in a tape from one place up to another.
-fn step_part_rows(
-    book: Book,
-    numbers: &mut [[u64; rows::NUMBERS]],
-    keys: &mut [[u8; rows::KEY_WIDTH]],
-    records: usize,
-    rest: bool,
-    tape: &[u8],
-    from: usize,
-    to: usize,
+// All checks in their order, for an output with some room: what moves where all pass, or why the first that fails refuses.
+fn decide(
+    book: &Book,
+    pools: &[Pool],
+    body: &[u8],
     caller: Caller,
-    out: &mut [u8],
-) -> Moved
-    requires { (rows_of records (wanted book.live (to - from)) ≤ length numbers.old) × (rows_of records (wanted book.live (to - from)) ≤ length keys.old) × (from ≤ to) × (to ≤ length tape.now) }
-    ensures { StepsRows book numbers.old keys.old records rest (part tape.now from (to - from)) caller out.old result numbers.new keys.new out.new }
+    room: usize,
+) -> Result<Decision, Reason>
+    ensures { DecidedBy checks (call book.now pools.now body.now (asked_by caller room)) result }
 {
-    rows_enough::step_rows(
-        book,
-        &mut *numbers,
-        &mut *keys,
-        records,
-        rest,
-        &tape[from..to],
-        caller,
-        &mut *out,
-    )
-}
-
-// The first record that a call changed.
-fn changed_from(moved: Moved) -> usize
-    ensures { result ≡ moved.from }
-{
-    moved.from
-}
-
-// The end of the records that a call changed.
-fn changed_to(moved: Moved) -> usize
-    ensures { result ≡ moved.to }
-{
-    moved.to
-}
-
-// The book and the answer after a call.
-fn stepped_of(moved: Moved) -> Stepped
-    ensures { result ≡ moved.stepped }
-{
-    moved.stepped
-}
-
-// The frame call on a lent table, by rows that are lent too: the records that it works on are copied into the rows, the engine steps there, and the records that changed are written back.
-fn step_with(
-    book: Book,
-    pools: &mut [Pool],
-    numbers: &mut [[u64; rows::NUMBERS]],
-    keys: &mut [[u8; rows::KEY_WIDTH]],
-    tape: &[u8],
-    from: usize,
-    to: usize,
-    caller: Caller,
-    out: &mut [u8],
-) -> Stepped
-    requires { (rows_of (length pools.old) (wanted book.live (to - from)) ≤ length numbers.old) × (rows_of (length pools.old) (wanted book.live (to - from)) ≤ length keys.old) × (from ≤ to) × (to ≤ length tape.now) }
-    ensures { Framed book pools.old (part tape.now from (to - from)) caller out.old result pools.new out.new }
-{
-    let rest = table_rows::load_rows(
-        pools,
-        rows_enough::rows_wanted(book, from, to),
-        numbers,
-        keys,
-    );
-    let moved = step_part_rows(
-        book,
-        numbers,
-        keys,
-        pools.len(),
-        rest,
-        tape,
-        from,
-        to,
-        caller,
-        out,
-    );
-    let first = changed_from(moved);
-    let end = changed_to(moved);
-    table_store::store(pools, first, end, numbers, keys);
-    stepped_of(moved)
-}
-
-// The frame call by few rows.
-fn step_few(
-    book: Book,
-    pools: &mut [Pool],
-    tape: &[u8],
-    from: usize,
-    to: usize,
-    caller: Caller,
-    out: &mut [u8],
-) -> Stepped
-    requires { (rows_of (length pools.old) (wanted book.live (to - from)) ≤ few_rows) × (from ≤ to) × (to ≤ length tape.now) }
-    ensures { Framed book pools.old (part tape.now from (to - from)) caller out.old result pools.new out.new }
-{
-    let mut numbers = [[0u64; rows::NUMBERS]; FEW];
-    let mut keys = [[0u8; rows::KEY_WIDTH]; FEW];
-    step_with(
-        book,
-        pools,
-        &mut numbers,
-        &mut keys,
-        tape,
-        from,
-        to,
-        caller,
-        out,
-    )
-}
-
-// The frame call by as many rows as a table can have.
-fn step_many(
-    book: Book,
-    pools: &mut [Pool],
-    tape: &[u8],
-    from: usize,
-    to: usize,
-    caller: Caller,
-    out: &mut [u8],
-) -> Stepped
-    requires { (from ≤ to) × (to ≤ length tape.now) }
-    ensures { Framed book pools.old (part tape.now from (to - from)) caller out.old result pools.new out.new }
-{
-    let mut numbers = [[0u64; rows::NUMBERS]; book::RECORDS_MAX];
-    let mut keys = [[0u8; rows::KEY_WIDTH]; book::RECORDS_MAX];
-    step_with(
-        book,
-        pools,
-        &mut numbers,
-        &mut keys,
-        tape,
-        from,
-        to,
-        caller,
-        out,
-    )
-}
-
-// The frame call on the body that lies in a tape from one place up to another.
-pub fn step_part(
-    book: Book,
-    pools: &mut [Pool],
-    tape: &[u8],
-    from: usize,
-    to: usize,
-    caller: Caller,
-    out: &mut [u8],
-) -> Stepped
-    requires { (from ≤ to) × (to ≤ length tape.now) }
-    ensures { Framed book pools.old (part tape.now from (to - from)) caller out.old result pools.new out.new }
-{
-    if few_enough(book, pools.len(), from, to) {
-        return step_few(book, pools, tape, from, to, caller, out);
+    if !check_soundness::is_sound(book, pools, caller.seed) {
+        return Err(Reason::Operator(42, book::SILENT));
     }
-    step_many(book, pools, tape, from, to, caller, out)
+    check_sender::first_of_sender(book, body, room)?;
+    check_trader::decide(book, pools, body, caller.seed)
+}
+
+// A refused frame: what goes out, and the counters.
+#[tactic(auto, unfolding(book::specs::Step::output_for))]
+fn refuse(book: Book, body: &[u8], reason: Reason, caller: Caller, out: &mut [u8]) -> Stepped
+    requires { is_silent (refusal (type_of body.now) reason) ≡ false → header_width ≤ length body.now }
+    ensures { (result.answer ≡ refusal (type_of body.now) reason)
+        × (result.book ≡ with_counters book body.now (refusal (type_of body.now) reason))
+        × (out.new ≡ output_for book body.now (refusal (type_of body.now) reason) caller out.old) }
+{
+    let number = header::arrived(body);
+    let answer = Answer::refusal(header::message_type(body), reason);
+    if !answer.is_silent() {
+        reply::put_reply(&book, body, number, answer, caller, out);
+    }
+    Stepped {
+        book: reply::with_counters(book, number, answer),
+        answer,
+    }
+}
+
+// An accepted frame: the table, the trade's open par and the last ID move, and the answer goes out.
+fn accept(
+    book: Book,
+    pools: &mut [Pool],
+    body: &[u8],
+    decision: &Decision,
+    caller: Caller,
+    out: &mut [u8],
+) -> Stepped
+    requires { DecidedBy checks (call_with book pools.old body.now caller out.old) (Ok decision.now) }
+    ensures framed { Framed book pools.old body.now caller out.old result pools.new out.new }
+{
+    let number = header::arrived(body);
+    let message = book.values.lastMessageId + 1;
+    let trade = decision.trade;
+    let par = book.values.trades[trade].openPar + decision.off - decision.brought;
+    let answer = Answer::Accepted(message);
+    reply::put_reply(&book, body, number, answer, caller, out);
+    let mut after = reply::with_counters(book, number, answer);
+    after.live = rows_move::move_table(
+        pools,
+        book.live,
+        body,
+        &decision.marks,
+        message,
+        trade as u64,
+    );
+    after.values.lastMessageId = message;
+    after.values.trades[trade].openPar = par;
+    Stepped {
+        book: after,
+        answer,
+    }
 }
 
 // The frame call, on any book, table, body, caller and output.
 pub fn step(book: Book, pools: &mut [Pool], body: &[u8], caller: Caller, out: &mut [u8]) -> Stepped
     ensures { Framed book pools.old body.now caller out.old result pools.new out.new }
 {
-    step_part(book, pools, body, 0, body.len(), caller, out)
+    match decide(&book, pools, body, caller, out.len()) {
+        Ok(decision) => accept(book, pools, body, &decision, caller, out),
+        Err(reason) => refuse(book, body, reason, caller, out),
+    }
 }

@@ -1,5 +1,5 @@
 -- The tally of four types by three answers (01, What goes out).
-use Rattle.std.specs.Prelude.{ℕ, ◌+◌, List, [], cond, get_or, set, ltb}
+use Rattle.std.specs.Prelude.{ℕ, ◌+◌, Option, Some, None, List, [], cond, get_or, set, ltb}
 use Rattle.message_type.specs.declared.MessageType.{MessageType}
 use Rattle.message_type.specs.declared.MessageType.TheVariants.{On, Cc, Dk, Cx, Other}
 use Rattle.tally.specs.declared.Outcome.{Outcome}
@@ -17,6 +17,14 @@ row_dk = 2
 
 abbrev pub row_cx : ℕ
 row_cx = 3
+
+-- the row of a type; a type that is not in the tally has none
+abbrev pub row_of : MessageType → Option ℕ
+row_of On = Some row_on
+row_of Cc = Some row_cc
+row_of Dk = Some row_dk
+row_of Cx = Some row_cx
+row_of Other = None
 
 -- the columns in their order: accepted, rejected, DKed
 abbrev pub column_of : Outcome → ℕ
@@ -40,10 +48,11 @@ more count = cond (ltb count full_cell) (count + 1) count
 unfoldable pub one_more : List (List ℕ) → ℕ → ℕ → List (List ℕ)
 one_more tally row column = set tally row (set (get_or tally row []) column (more (cell tally row column)))
 
+-- the tally with a cell of a row raised, where there is a row
+abbrev pub raised_in : List (List ℕ) → Option ℕ → ℕ → List (List ℕ)
+raised_in tally (Some row) column = one_more tally row column
+raised_in tally None column = tally
+
 -- the tally after an answer: other types are not in it
 abbrev pub raised : List (List ℕ) → MessageType → Outcome → List (List ℕ)
-raised tally On outcome = one_more tally row_on (column_of outcome)
-raised tally Cc outcome = one_more tally row_cc (column_of outcome)
-raised tally Dk outcome = one_more tally row_dk (column_of outcome)
-raised tally Cx outcome = one_more tally row_cx (column_of outcome)
-raised tally Other outcome = tally
+raised tally kind outcome = raised_in tally (row_of kind) (column_of outcome)

@@ -1,8 +1,8 @@
 -- Lots (01, "Terminators"): the pools of a message put together by their terminators, their weight, and check 19.
-use Rattle.std.specs.Prelude.{ℕ, ◌*◌, List, [], ◌∷◌, ◌++◌, Bool, true, cond, not, ◌&&◌, ◌||◌, length, eqb}
+use Rattle.std.specs.Prelude.{ℕ, unwrap_or, ◌*◌, List, [], ◌∷◌, ◌++◌, Bool, true, cond, not, ◌&&◌, ◌||◌, length, eqb}
 use Rattle.std.specs.Bool.{beq}
 use Rattle.lists.specs.Lists.{sum_of, keep}
-use Rattle.fields.specs.Fields.{read_number, value_of}
+use Rattle.fields.specs.Fields.{read_number}
 use Rattle.layout.specs.declared.Detail.{Detail}
 use Rattle.layout.specs.Columns.{current_face}
 use Rattle.terminator.specs.declared.Kind.{Kind}
@@ -35,7 +35,7 @@ lots ds = lots_from [] ds
 -- ---- weight
 -- a pool's current face in cents, 0 where it is not digits (34 refuses that)
 unfoldable pub current_cents : Detail → ℕ
-current_cents d = value_of (read_number d.current 0 current_face.width)
+current_cents d = unwrap_or (read_number d.current 0 current_face.width) 0
 
 -- the cents of a million dollars
 abbrev pub million_cents : ℕ

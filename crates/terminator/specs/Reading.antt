@@ -1,28 +1,12 @@
 -- The code's form of a terminator, a lot and a CC's groups: what functions hand over, in the words of Terminators, Lots and Groups.
-use Rattle.std.specs.Prelude.{ℕ, ◌+◌, List, [], ◌∷◌, length}
+use Rattle.std.specs.Prelude.{ℕ, Option, Some, None, ◌+◌, List, [], ◌∷◌, length}
 use Rattle.lists.specs.Lists.{sum_of}
 use Rattle.layout.specs.declared.Detail.{Detail}
-use Rattle.terminator.specs.declared.Mark.{Mark}
 use Rattle.terminator.specs.declared.LotHead.{LotHead}
-use Rattle.terminator.specs.declared.LotRead.{LotRead}
-use Rattle.terminator.specs.declared.LotRead.TheVariants.{Found, Nothing}
 use Rattle.terminator.specs.declared.Groups.{Groups}
-use Rattle.terminator.specs.Terminators.{is_end, is_wrong, is_bad, kind_of, millions_of, one, term, is_good, is_odd}
+use Rattle.terminator.specs.Terminators.{kind_of, millions_of, one, term}
 use Rattle.terminator.specs.Lots.{Lot, pools_of, current_cents, weight_of}
 use Rattle.terminator.specs.Groups.{groups_formed, groups_balanced}
-
--- all that a pool's terminator says, taken apart
-unfoldable pub mark_of : Detail → Mark
-mark_of d =
-    record {
-      one = one d;
-      wrong = is_wrong (term d);
-      end = is_end (term d);
-      bad = is_bad (term d);
-      good = is_good (kind_of (term d));
-      odd = is_odd (kind_of (term d));
-      millions = millions_of (term d);
-    }
 
 -- a lot by the pool that ends it, the places of its first and last pool and the sum of its faces
 unfoldable pub lot_ended : Detail → ℕ → ℕ → ℕ → LotHead
@@ -37,9 +21,9 @@ lot_ended d first last faces =
     }
 
 -- the first of a list of lots, which begins at the pool first
-abbrev pub first_lot : ℕ → List Lot → LotRead
-first_lot first [] = Nothing
-first_lot first (l ∷ ls) = Found (lot_ended l.last first (first + length l.middles) (sum_of current_cents (pools_of l)))
+abbrev pub first_lot : ℕ → List Lot → Option LotHead
+first_lot first [] = None
+first_lot first (l ∷ ls) = Some (lot_ended l.last first (first + length l.middles) (sum_of current_cents (pools_of l)))
 
 -- 20 and 21 together
 abbrev pub groups_judged : List Detail → Groups

@@ -1,7 +1,6 @@
 -- Terminators (01, "Terminators"; 001, section 3): what the four positions of one pool say.
-use Rattle.std.specs.Prelude.{ℕ, List, Bool, true, false, cond, get_or, eqb, leb}
-use Rattle.fields.specs.declared.Field.{Field}
-use Rattle.fields.specs.Fields.{read_number, is_number, value_of}
+use Rattle.std.specs.Prelude.{ℕ, Option, Some, None, List, Bool, true, false, cond, not, get_or, eqb, leb}
+use Rattle.fields.specs.Fields.{read_number}
 use Rattle.layout.specs.declared.Detail.{Detail}
 use Rattle.terminator.specs.declared.Terminator.{Terminator}
 use Rattle.terminator.specs.declared.Terminator.TheVariants.{Middle, BadMiddle, GoodEnd, OddEnd, BadEnd, Wrong}
@@ -33,8 +32,9 @@ positions n =
     (cond (eqb n 999) OddEnd Wrong))))
 
 -- what is not digits is wrong too
-abbrev pub positions_of : Field → Terminator
-positions_of f = cond (is_number f) (positions (value_of f)) Wrong
+abbrev pub positions_of : Option ℕ → Terminator
+positions_of (Some n) = positions n
+positions_of None = Wrong
 
 -- the four bytes of a terminator: position one, and what the others say
 abbrev pub position_one : List ℕ → ℕ
@@ -78,6 +78,12 @@ kind_of OddEnd = Odd
 kind_of BadEnd = Bad
 kind_of Wrong = Odd
 
+-- the number of a kind, as a record has it
+abbrev pub kind_number : Kind → ℕ
+kind_number Good = 1
+kind_number Odd = 2
+kind_number Bad = 3
+
 -- the millions of the lot that it ends: 0 unless good
 abbrev pub millions_of : Terminator → ℕ
 millions_of Middle = 0
@@ -100,6 +106,10 @@ is_canceled d = eqb (one d) digit_canceled
 
 abbrev pub is_replacement : Detail → Bool
 is_replacement d = eqb (one d) digit_replacement
+
+-- a new pool: one of an ON, or of a CC and not canceled
+abbrev pub is_new : Detail → Bool
+is_new d = not (is_canceled d)
 
 abbrev pub is_good : Kind → Bool
 is_good Good = true

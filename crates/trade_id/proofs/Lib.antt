@@ -1,3 +1,3 @@
-pub mod Marks
-pub mod Runs
+mod Marks
+mod Runs
 pub mod Found

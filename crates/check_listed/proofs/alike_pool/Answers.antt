@@ -1,12 +1,15 @@
 -- An end closes its lot; a middle goes on with it, or begins it.
-use Rattle.check_listed.proofs.Passes.{alike_end, alike_begun, alike_first}
+use mathlib.Core.Path.{ap, ◌∙◌}
+use Rattle.terminator.specs.Terminators.{is_end}
+use Rattle.check_listed.proofs.Passes.{alike_end, alike_on}
 use Rattle.check_listed.proofs.alike_pool.Goals as goal
 
 pub returns-then-is_end : goal.returns-then-is_end
-returns-then-is_end c = let a = c.args in alike_end a.s a.d a.row _ _ c.terminator_of-t.ensures c.is_end.ensures c.if-is_end.true _ c.last_fits.ensures
+returns-then-is_end c =
+    alike_end c.args.s _ _ _ _ c.ordinal_in-ordinal.ensures c.unwrap_or-begun.ensures _ (c.is_end.ensures
+    ∙ ap is_end c.terminator_of.ensures) c.if-is_end.true _
+    c.last_fits.ensures
 
-pub returns-then-s : goal.returns-then-s
-returns-then-s c = let a = c.args in alike_begun a.s a.d a.row _ _ c.terminator_of-t.ensures c.is_end.ensures c.if-is_end.false c.if-s.true
-
-pub returns : goal.returns
-returns c = let a = c.args in alike_first a.s a.d a.row _ _ c.terminator_of-t.ensures c.is_end.ensures c.if-is_end.false c.if-s.false
+pub returns-else-is_end : goal.returns-else-is_end
+returns-else-is_end c =
+    alike_on c.args.s _ _ _ _ c.ordinal_in-ordinal.ensures c.unwrap_or-begun.ensures _ (c.is_end.ensures ∙ ap is_end c.terminator_of.ensures) c.if-is_end.false

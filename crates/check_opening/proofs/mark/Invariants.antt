@@ -1,11 +1,8 @@
--- The loop's invariant: what is left of the bytes still gives the mark, which after i bytes is small enough that a byte more fits.
-use Prim.Native.Nat.{◌≤◌, ◌-◌}
-use lib.ListN.{length}
-use Rattle.check_opening.proofs.Marked.{Room, Marking}
+-- What the bytes so far make up is their mark, and small enough that a byte more fits.
+use Rattle.std.proofs.Common.{◌≡◌, take}
+use Rattle.check_opening.specs.Marks.{mark_of}
+use Rattle.check_opening.proofs.Marked.{Room}
 use Rattle.check_opening.proofs.mark.Given as goal
 
-abbrev pub invariant-loop-i : goal.invariant-loop-i
-invariant-loop-i l = (l.i ≤ length l.id) × Room l.m l.i × Marking l.id l.m l.i
-
-abbrev pub decreases-loop-i : goal.decreases-loop-i
-decreases-loop-i l = length l.id - l.i
+abbrev pub invariant-loop-b : goal.invariant-loop-b
+invariant-loop-b l = record { room : Room l.m l.b-index; marked : l.m ≡ mark_of (take l.b-index l.id) }

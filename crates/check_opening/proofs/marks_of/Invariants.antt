@@ -1,13 +1,8 @@
--- The loop's invariant: the marks before i, and those of the trades from i on, of the first count, are those of all of them; the array keeps its 64 numbers.
-use mathlib.Core.Path.{◌≡◌}
-use Prim.Native.Nat.{◌≤◌, ◌-◌}
-use lib.ListN.{length}
+-- The marks filled so far are those of the trades so far.
+use Rattle.std.proofs.Common.{◌≡◌, length, take, map}
 use Rattle.book.specs.Trades.{trade_name}
-use Rattle.check_opening.proofs.Marked.{Filling}
+use Rattle.check_opening.specs.Marks.{mark_of}
 use Rattle.check_opening.proofs.marks_of.Given as goal
 
 abbrev pub invariant-loop-i : goal.invariant-loop-i
-invariant-loop-i l = (l.i ≤ l.count) × (length l.marks ≡ 64) × Filling trade_name l.trades l.count l.marks l.i
-
-abbrev pub decreases-loop-i : goal.decreases-loop-i
-decreases-loop-i l = l.count - l.i
+invariant-loop-i l = record { room : length l.marks ≡ 64; filled : take l.i l.marks ≡ map mark_of (map trade_name (take l.i l.trades)) }

@@ -1,30 +1,18 @@
--- The loop's invariant: the checks from the i-th on still give the verdict, whatever the table.
-use mathlib.Core.List.{List}
-use native.Mathlib.Omega.{arith}
-use Rattle.book.specs.declared.Caller.{Caller}
-use Rattle.book.specs.declared.Pool.{Pool}
-use Rattle.book.specs.Checks.{call, sender_checks, asked_by}
-use Rattle.check_sender.proofs.Trying.{left_none, left_done, left_fails, left_more}
+-- The four parts, one after another.
+use Rattle.std.proofs.Common.{◌∙◌, ◌++◌, rules}
+use Rattle.book.specs.Checks.{call, asked_by}
+use Rattle.check_sender.specs.Parts.{line_checks, common_checks, cc_checks, dk_checks}
+use Rattle.check_sender.proofs.Trying.{parted, part_stops, part_goes}
 use Rattle.check_sender.proofs.first_of_sender.Goals as goal
 
-pub loop-i-init : goal.loop-i-init
-loop-i-init c = (omega arith, λ (table : List Pool) (caller : Caller). left_none (call c.args.book table c.args.body.now (asked_by caller c.args.room)))
+pub returns-in_err-first_of_line : goal.returns-in_err-first_of_line
+returns-in_err-first_of_line c = λ table caller. part_stops (call c.args.book.now table c.args.body.now (asked_by caller c.args.room)) line_checks (common_checks ++ (cc_checks ++ dk_checks)) _ _ _ (c.first_of_line.ensures table caller) c.in_err-first_of_line.was (search rules) ∙ parted (call c.args.book.now table c.args.body.now (asked_by caller c.args.room))
 
-pub loop-i-smaller : goal.loop-i-smaller
-unfolding sender_checks
-loop-i-smaller c = omega (arith, c.loop-i-test.true)
+pub returns-in_err-first_of_common : goal.returns-in_err-first_of_common
+returns-in_err-first_of_common c = λ table caller. part_goes (call c.args.book.now table c.args.body.now (asked_by caller c.args.room)) line_checks (common_checks ++ (cc_checks ++ dk_checks)) _ _ (c.first_of_line.ensures table caller) c.in_ok-first_of_line.was (part_stops (call c.args.book.now table c.args.body.now (asked_by caller c.args.room)) common_checks (cc_checks ++ dk_checks) _ _ _ (c.first_of_common.ensures table caller c.args.room) c.in_err-first_of_common.was (search rules)) ∙ parted (call c.args.book.now table c.args.body.now (asked_by caller c.args.room))
 
-pub loop-i-preserved : goal.loop-i-preserved
-unfolding sender_checks
-loop-i-preserved c = (
-  omega (arith, c.loop-i-test.true),
-  λ (table : List Pool) (caller : Caller). left_more (call c.args.book table c.args.body.now (asked_by caller c.args.room)) c.loop-i.i (c.loop-i.invariant.1 table caller) (omega (arith, c.loop-i-test.true)) _ c.in-Passes.is (c.verdict_of-said.ensures table caller),
-)
-
-pub returns-in_default : goal.returns-in_default
-unfolding sender_checks
-returns-in_default c = λ (table : List Pool) (caller : Caller). left_fails (call c.args.book table c.args.body.now (asked_by caller c.args.room)) c.loop-i.i (c.loop-i.invariant.1 table caller) (omega (arith, c.loop-i-test.true)) _ _ c.in_default.is (c.verdict_of-said.ensures table caller)
+pub returns-in_err-first_of_cc : goal.returns-in_err-first_of_cc
+returns-in_err-first_of_cc c = λ table caller. part_goes (call c.args.book.now table c.args.body.now (asked_by caller c.args.room)) line_checks (common_checks ++ (cc_checks ++ dk_checks)) _ _ (c.first_of_line.ensures table caller) c.in_ok-first_of_line.was (part_goes (call c.args.book.now table c.args.body.now (asked_by caller c.args.room)) common_checks (cc_checks ++ dk_checks) _ _ (c.first_of_common.ensures table caller c.args.room) c.in_ok-first_of_common.was (part_stops (call c.args.book.now table c.args.body.now (asked_by caller c.args.room)) cc_checks dk_checks _ _ _ (c.first_of_cc.ensures table caller c.args.room) c.in_err-first_of_cc.was (search rules))) ∙ parted (call c.args.book.now table c.args.body.now (asked_by caller c.args.room))
 
 pub returns : goal.returns
-unfolding sender_checks
-returns c = λ (table : List Pool) (caller : Caller). left_done (call c.args.book table c.args.body.now (asked_by caller c.args.room)) c.loop-i.i (c.loop-i.invariant.1 table caller) (omega (arith, c.loop-i-test.false))
+returns c = λ table caller. part_goes (call c.args.book.now table c.args.body.now (asked_by caller c.args.room)) line_checks (common_checks ++ (cc_checks ++ dk_checks)) _ _ (c.first_of_line.ensures table caller) c.in_ok-first_of_line.was (part_goes (call c.args.book.now table c.args.body.now (asked_by caller c.args.room)) common_checks (cc_checks ++ dk_checks) _ _ (c.first_of_common.ensures table caller c.args.room) c.in_ok-first_of_common.was (part_goes (call c.args.book.now table c.args.body.now (asked_by caller c.args.room)) cc_checks dk_checks _ _ (c.first_of_cc.ensures table caller c.args.room) c.in_ok-first_of_cc.was (c.first_of_dk.ensures table caller c.args.room))) ∙ parted (call c.args.book.now table c.args.body.now (asked_by caller c.args.room))

@@ -1,45 +1,44 @@
 -- Each test decides one fact of 42 in its order; a fact that holds is handed to the tests after it.
-use native.Mathlib.Omega.{arith}
-use Rattle.check_soundness.proofs.Whole.{unlike, values_fail, few, table_long, line_fails, live_long, rows_fail, ordered, rows_fine, all_light, once_fails, zeros_fail, all_hold}
-use mathlib.Core.Path.{ap}
-use mathlib.Core.Bool.{not}
+use Rattle.std.proofs.Common.{sym, arith, ◌∙◌, take, length-take}
+use Rattle.lists.specs.Lists.{all}
+use Rattle.lists.proofs.Tests.{and_left, and_right, clash}
+use Rattle.book.specs.Soundness.{record_fine, in_order}
+use Rattle.check_soundness.proofs.Whole.{few, short, book_fails, records_fail, others_decide}
 use Rattle.check_soundness.proofs.is_sound.Goals as goal
+use Rattle.check_soundness.proofs.is_sound.Goals.{then-fields_once, else-fields_once}
 
-pub returns-then-keys-numbers : goal.returns-then-keys-numbers
-returns-then-keys-numbers c = unlike c.args.book c.args.numbers.now c.args.keys.now c.if-keys-numbers.true
+pub returns-then-not-book_fine : goal.returns-then-not-book_fine
+returns-then-not-book_fine c = book_fails c.args.book.now c.args.pools.now (sym c.book_fine.ensures ∙ c.if-not-book_fine.true)
 
-pub returns-then-not-values_fine : goal.returns-then-not-values_fine
-returns-then-not-values_fine c = values_fail c.args.book c.args.numbers.now c.args.keys.now c.if-keys-numbers.false _ c.values_fine.ensures (ap not c.if-not-values_fine.true)
-
-pub returns-then-numbers-gt-RECORDS_MAX : goal.returns-then-numbers-gt-RECORDS_MAX
-returns-then-numbers-gt-RECORDS_MAX c = table_long c.args.book c.args.numbers.now c.args.keys.now c.if-keys-numbers.false _ c.values_fine.ensures (ap not c.if-not-values_fine.false) c.if-numbers-gt-RECORDS_MAX.true
-
-pub returns-then-not-sound : goal.returns-then-not-sound
-returns-then-not-sound c = line_fails c.args.book c.args.numbers.now c.args.keys.now c.if-keys-numbers.false _ c.values_fine.ensures (ap not c.if-not-values_fine.false) c.if-numbers-gt-RECORDS_MAX.false _ c.sound.ensures (ap not c.if-not-sound.true)
-
-pub returns-then-numbers-live : goal.returns-then-numbers-live
-returns-then-numbers-live c = live_long c.args.book c.args.numbers.now c.args.keys.now c.if-keys-numbers.false _ c.values_fine.ensures (ap not c.if-not-values_fine.false) c.if-numbers-gt-RECORDS_MAX.false _ c.sound.ensures (ap not c.if-not-sound.false) c.if-numbers-live.true
-
-pub rows_fine-requires : goal.rows_fine-requires
-rows_fine-requires c = omega arith
-
-pub returns-then-not-rows_fine : goal.returns-then-not-rows_fine
-returns-then-not-rows_fine c = rows_fail c.args.book c.args.numbers.now c.args.keys.now c.if-keys-numbers.false _ c.values_fine.ensures (ap not c.if-not-values_fine.false) c.if-numbers-gt-RECORDS_MAX.false _ c.sound.ensures (ap not c.if-not-sound.false) c.if-numbers-live.false _ c.rows_fine.ensures (ap not c.if-not-rows_fine.true)
-
-pub fields_once-requires : goal.fields_once-requires
-fields_once-requires c = (c.if-keys-numbers.false, omega arith, omega arith, ordered c.args.book c.args.numbers.now c.args.keys.now c.if-keys-numbers.false _ c.values_fine.ensures (ap not c.if-not-values_fine.false) c.if-numbers-gt-RECORDS_MAX.false _ c.sound.ensures (ap not c.if-not-sound.false) c.if-numbers-live.false _ c.rows_fine.ensures (ap not c.if-not-rows_fine.false))
-
-pub returns-then-not-fields_once : goal.returns-then-not-fields_once
-returns-then-not-fields_once c = once_fails c.args.book c.args.numbers.now c.args.keys.now c.if-keys-numbers.false _ c.values_fine.ensures (ap not c.if-not-values_fine.false) c.if-numbers-gt-RECORDS_MAX.false _ c.sound.ensures (ap not c.if-not-sound.false) c.if-numbers-live.false _ c.rows_fine.ensures (ap not c.if-not-rows_fine.false) _ c.fields_once.ensures (ap not c.if-not-fields_once.true)
-
-pub zeros_after-requires : goal.zeros_after-requires
-zeros_after-requires c = (c.if-keys-numbers.false, omega arith)
-
-pub returns-then-not-zeros_after : goal.returns-then-not-zeros_after
-returns-then-not-zeros_after c = zeros_fail c.args.book c.args.numbers.now c.args.keys.now c.if-keys-numbers.false _ c.values_fine.ensures (ap not c.if-not-values_fine.false) c.if-numbers-gt-RECORDS_MAX.false _ c.sound.ensures (ap not c.if-not-sound.false) c.if-numbers-live.false _ c.rows_fine.ensures (ap not c.if-not-rows_fine.false) _ c.fields_once.ensures (ap not c.if-not-fields_once.false) _ c.zeros_after.ensures (ap not c.if-not-zeros_after.true)
+pub returns-then-not-records_fine : goal.returns-then-not-records_fine
+returns-then-not-records_fine c =
+    records_fail c.args.book.now c.args.pools.now (sym c.book_fine.ensures ∙ c.if-not-book_fine.false) (sym c.records_fine.ensures ∙ c.if-not-records_fine.true)
 
 pub pars_fine-requires : goal.pars_fine-requires
-pars_fine-requires c = (few c.args.book c.args.numbers.now c.args.keys.now c.if-keys-numbers.false _ c.values_fine.ensures (ap not c.if-not-values_fine.false), omega arith, omega arith, all_light c.args.book c.args.numbers.now c.args.keys.now c.if-keys-numbers.false _ c.values_fine.ensures (ap not c.if-not-values_fine.false) c.if-numbers-gt-RECORDS_MAX.false _ c.sound.ensures (ap not c.if-not-sound.false) c.if-numbers-live.false _ c.rows_fine.ensures (ap not c.if-not-rows_fine.false), rows_fine c.args.book c.args.numbers.now c.args.keys.now c.if-keys-numbers.false _ c.values_fine.ensures (ap not c.if-not-values_fine.false) c.if-numbers-gt-RECORDS_MAX.false _ c.sound.ensures (ap not c.if-not-sound.false) c.if-numbers-live.false _ c.rows_fine.ensures (ap not c.if-not-rows_fine.false))
+pars_fine-requires c =
+    let b = c.args.book.now in
+    let t = c.args.pools.now in
+    let live = take b.live t in
+    let h = sym c.book_fine.ensures ∙ c.if-not-book_fine.false in
+    let r = sym c.records_fine.ensures ∙ c.if-not-records_fine.false in
+    (few b t h, omega (arith, short b t h, length-take b.live t), and_left (all (record_fine b.values) live) (in_order live) r, and_right (all (record_fine b.values) live) (in_order live) r)
 
-pub returns : goal.returns
-returns c = all_hold c.args.book c.args.numbers.now c.args.keys.now c.if-keys-numbers.false _ c.values_fine.ensures (ap not c.if-not-values_fine.false) c.if-numbers-gt-RECORDS_MAX.false _ c.sound.ensures (ap not c.if-not-sound.false) c.if-numbers-live.false _ c.rows_fine.ensures (ap not c.if-not-rows_fine.false) _ c.fields_once.ensures (ap not c.if-not-fields_once.false) _ c.zeros_after.ensures (ap not c.if-not-zeros_after.false) _ c.pars_fine.ensures
+pub returns-then-blank_from : goal.returns-then-blank_from
+returns-then-blank_from c =
+    others_decide c.args.book.now c.args.pools.now (sym c.book_fine.ensures ∙ c.if-not-book_fine.false) (sym c.records_fine.ensures ∙ c.if-not-records_fine.false) _
+    (elim c.if-fields_once.branch [
+      | then-fields_once w ↦
+          let z = sym w.blank_from.ensures ∙ sym w.value-is ∙ c.if-blank_from.true in
+          rw (sym c.fields_once.ensures ∙ w.if-fields_once.true, z) c.pars_fine.ensures
+      | else-fields_once w ↦ clash c.if-blank_from.true (w.value-is ∙ w.if-fields_once.false)
+    ])
+
+pub returns-else-blank_from : goal.returns-else-blank_from
+returns-else-blank_from c =
+    others_decide c.args.book.now c.args.pools.now (sym c.book_fine.ensures ∙ c.if-not-book_fine.false) (sym c.records_fine.ensures ∙ c.if-not-records_fine.false) _
+    (elim c.if-fields_once.branch [
+      | then-fields_once w ↦
+          let z = sym w.blank_from.ensures ∙ sym w.value-is ∙ c.if-blank_from.false in
+          rw (sym c.fields_once.ensures ∙ w.if-fields_once.true, z) c.if-blank_from.false
+      | else-fields_once w ↦ rw (sym c.fields_once.ensures ∙ w.if-fields_once.false) (w.value-is ∙ w.if-fields_once.false)
+    ])

@@ -1,53 +1,25 @@
--- The loop's invariant: whether the trades from i on have their open par is still the answer.
-use mathlib.Core.Path.{refl}
-use native.Mathlib.Omega.{arith}
-use Rattle.check_soundness.proofs.Pars.{pars_done, pars_heavy, pars_other, pars_more}
+-- Fine records are light, and their weights by place are those of the trades.
+use Rattle.std.proofs.Common.{List, ◌≡◌, ◌≤◌, ℕ, arith, rules, take, length, ap, ◌∙◌, length-take}
+use Rattle.std.specs.List.{zip}
+use Rattle.lists.specs.Lists.{all}
+use Rattle.book.specs.declared.Trade.{Trade}
+use Rattle.book.specs.Records.{trade_weight}
+use Rattle.rows.proofs.Runs.{trade_weight_runs}
+use Rattle.check_soundness.specs.Parts.{makes_up}
+use Rattle.check_soundness.proofs.Whole.{light, pars_zip}
 use Rattle.check_soundness.proofs.pars_fine.Goals as goal
 
-pub weights-sums-requires : goal.weights-sums-requires
-weights-sums-requires c = (omega arith, omega arith, c.requires.3)
-
-pub loop-i-init : goal.loop-i-init
-loop-i-init c = (omega arith, λ ks. refl)
-
-pub offset_bounds-v-i : goal.offset_bounds-v-i
-offset_bounds-v-i c = omega arith
-
-pub bounds-v-i : goal.bounds-v-i
-bounds-v-i c = omega (arith, c.well_formed.0.1.1.0.1.0.1)
-
-pub offset_bounds-sums-i : goal.offset_bounds-sums-i
-offset_bounds-sums-i c = omega arith
-
-pub bounds-sums-i : goal.bounds-sums-i
-bounds-sums-i c = omega arith
-
-pub overflow_add-i : goal.overflow_add-i
-overflow_add-i c = omega arith
-
-pub returns-then-t-sum : goal.returns-then-t-sum
-returns-then-t-sum c =
-    let a = c.args in
-    let l = c.loop-i in
-    pars_heavy a.v.trades a.v.lent.tradeCount a.numbers.now a.live l.i l.invariant.1 c.weights-sums.result c.weights-sums.ensures a.v c.requires.4 (omega arith) c.well_formed.0.1.1.0.1.0.1 (omega arith) c.if-t-sum.true
-
-pub returns-then-t-sum-2 : goal.returns-then-t-sum-2
-returns-then-t-sum-2 c =
-    let a = c.args in
-    let l = c.loop-i in
-    pars_other a.v.trades a.v.lent.tradeCount a.numbers.now a.live l.i l.invariant.1 c.weights-sums.result c.weights-sums.ensures a.v c.requires.4 (omega arith) c.well_formed.0.1.1.0.1.0.1 (omega arith) c.if-t-sum.false c.if-t-sum-2.true
-
-pub loop-i-smaller : goal.loop-i-smaller
-loop-i-smaller c = omega arith
-
-pub loop-i-preserved : goal.loop-i-preserved
-loop-i-preserved c =
-    let a = c.args in
-    let l = c.loop-i in
-    (omega arith, pars_more a.v.trades a.v.lent.tradeCount a.numbers.now a.live l.i l.invariant.1 c.weights-sums.result c.weights-sums.ensures a.v c.requires.4 (omega arith) c.well_formed.0.1.1.0.1.0.1 (omega arith) c.if-t-sum.false c.if-t-sum-2.false)
+pub weights-requires : goal.weights-requires
+weights-requires c = (c.requires.1, light c.args.values.now c.requires.0 c.args.live.now c.requires.2)
 
 pub returns : goal.returns
 returns c =
-    let a = c.args in
-    let l = c.loop-i in
-    pars_done a.v.trades a.v.lent.tradeCount a.numbers.now a.live l.i l.invariant.1 c.loop-i-test.false
+    let v = c.args.values.now in
+    let rs = c.args.live.now in
+    let p = c.requires in
+    let few : length (take v.lent.tradeCount v.trades) ≤ 64 = omega (arith, length-take v.lent.tradeCount v.trades) in
+    let long : length c.weights.result ≡ 64 = search rules in
+    c.all_make_up.ensures
+    ∙ ap (λ (ts : List Trade). all makes_up (zip ts c.weights.result)) c.opened_trades.ensures
+    ∙ pars_zip (take v.lent.tradeCount v.trades) c.weights.result rs 0 (omega arith)
+    (λ k h. c.weights.ensures k (omega arith) ∙ trade_weight_runs v rs p.3 p.2 k ∙ ap (λ (n : ℕ). trade_weight n rs) (omega arith))

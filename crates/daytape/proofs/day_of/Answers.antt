@@ -1,6 +1,6 @@
--- The day with the program's values.
-use Rattle.daytape.proofs.Given.{given_reports}
+-- The program's values are in range.
+use Rattle.daytape.proofs.Given.{given_fine}
 use Rattle.daytape.proofs.day_of.Goals as goal
 
 pub returns : goal.returns
-returns c = given_reports _ _ _ c.values-v.ensures c.day_over.ensures
+returns c = (rw c.values.ensures at c.day_over.ensures) given_fine

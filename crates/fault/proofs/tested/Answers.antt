@@ -6,6 +6,6 @@ pub returns-then-passes : goal.returns-then-passes
 unfolding test
 returns-then-passes c = rw c.if-passes.true
 
-pub returns : goal.returns
+pub returns-else-passes : goal.returns-else-passes
 unfolding test
-returns c = rw c.if-passes.false
+returns-else-passes c = rw c.if-passes.false

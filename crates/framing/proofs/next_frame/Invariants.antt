@@ -1,11 +1,11 @@
--- The loop's invariant: what is left of the tape still gives the answer; the last 02 stands from the place on, not after i; no more bytes are passed than the tape has from the place on.
-use Rattle.framing.proofs.Scan.{Left}
-use lib.ListN.{length}
-use Prim.Native.Nat.{◌≤◌, ◌-◌}
+-- What is left of the tape still gives the answer; the last 02 stands from the place on, and before i.
+use Rattle.std.proofs.Common.{◌≡◌, ◌≤◌, ◌<◌, drop, IfSome}
+use Rattle.framing.specs.Framing.{next_frame}
+use Rattle.framing.proofs.Scan.{from}
 use Rattle.framing.proofs.next_frame.Given as goal
 
 abbrev pub invariant-loop-i : goal.invariant-loop-i
-invariant-loop-i l = (l.at ≤ l.mark) × (l.mark ≤ l.i) × (l.i - l.at ≤ length l.tape - l.at) × Left l.tape l.at l.started l.mark l.i
-
-abbrev pub decreases-loop-i : goal.decreases-loop-i
-decreases-loop-i l = length l.tape - l.i
+invariant-loop-i l = record {
+  passed : IfSome l.started (λ mark. (l.at ≤ mark) × (mark < l.i));
+  left : from l.started l.i (drop l.i l.tape) ≡ next_frame l.tape l.at;
+}

@@ -1,12 +1,11 @@
--- The last digits of the field are written, and the list with the digits that are left to write is the list that is wanted.
-use Prim.Native.Nat.{◌≤◌}
-use mathlib.Core.Path.{◌≡◌}
-use lib.ListN.{length}
-use Rattle.output.proofs.Written.{to_write}
+-- The last digits of the column are written, and the list with the digits that are left to write is the list that is wanted.
+use Rattle.std.proofs.Common.{◌≡◌, ◌≤◌, ◌-◌}
+use Rattle.lists.specs.Lists.{pasted}
+use Rattle.output.specs.Output.{digits_of}
 use Rattle.output.proofs.put_digits.Given as goal
 
 abbrev pub invariant-loop-i : goal.invariant-loop-i
-invariant-loop-i l = (l.i ≤ l.width) × (length l.out ≡ length l.initial.out) × (to_write l.out l.at l.i l.v ≡ to_write l.initial.out l.at l.width l.value)
-
-abbrev pub decreases-loop-i : goal.decreases-loop-i
-decreases-loop-i l = l.i
+invariant-loop-i l = record {
+  inside : l.at ≤ l.i;
+  left : pasted l.out l.at (digits_of (l.i - l.at) l.left) ≡ pasted l.initial.out l.at (digits_of l.width l.value);
+}

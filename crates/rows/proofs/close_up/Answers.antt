@@ -1,52 +1,35 @@
--- The loop's invariant: the records written and the unmarked ones still to come are the answer, and those to come are as they were.
-use native.Mathlib.Omega.{arith}
-use Prim.Native.Nat.{◌≤◌}
-use mathlib.Core.Path.{refl, ◌∙◌}
-use lib.ListN.{length}
-use Rattle.rows.specs.Rows.{table_of}
-use Rattle.rows.proofs.Rows.{length_table}
-use Rattle.rows.proofs.Closing.{closing_none, turn_gone, turn_kept, closed_number, closed_table}
+-- A record with no mark is kept, behind those that were.
+use Rattle.std.proofs.Common.{◌<◌, ◌≡◌, take, get_or, length, rules, ◌∙◌, sym}
+use lib.Seq.{get_or-take}
+use Rattle.rows.proofs.Closing.{closing_none, closing_gone, closing_moved, closing_stays, closed}
 use Rattle.rows.proofs.close_up.Goals as goal
+use Rattle.rows.proofs.close_up.Goals.{then-not-marked, then-kept-i, else-kept-i, else-not-marked}
 
-pub loop-r-init : goal.loop-r-init
-loop-r-init c = (omega arith, omega arith, refl, refl, closing_none _ _ _)
+pub loop-i-init : goal.loop-i-init
+loop-i-init c = closing_none _ _
 
-pub loop-r-preserved-then-marks-from-eq0 : goal.loop-r-preserved-then-marks-from-eq0
-loop-r-preserved-then-marks-from-eq0 c =
-    let a = c.args in
-    let l = c.loop-r in
-    let m = c.move_record in (
-      omega arith,
-      omega arith,
-      m.auto.numbers ∙ l.invariant.2,
-      m.auto.keys ∙ l.invariant.3,
-      turn_kept a.marks.now a.live a.numbers.now a.keys.now l.numbers l.keys l.r l.w l.invariant.4 (omega arith) (omega arith) (omega arith) l.invariant.2 _ m.ensures (omega arith) c.if-marks-from-eq0.true,
-    )
-
-pub loop-r-preserved : goal.loop-r-preserved
-loop-r-preserved c =
-    let a = c.args in
-    let l = c.loop-r in (
-      omega arith,
-      omega arith,
-      l.invariant.2,
-      l.invariant.3,
-      turn_gone a.marks.now a.live a.numbers.now a.keys.now l.numbers l.keys l.r l.w l.invariant.4 (omega arith) (omega arith) (omega arith) l.invariant.2 c.if-marks-from-eq0.false,
-    )
-
-pub shape_of-numbers : goal.shape_of-numbers
-shape_of-numbers c = c.zero_records.auto.numbers ∙ c.loop-r.invariant.2
-
-pub shape_of-keys : goal.shape_of-keys
-shape_of-keys c = c.zero_records.auto.keys ∙ c.loop-r.invariant.3
+pub loop-i-preserved : goal.loop-i-preserved
+loop-i-preserved c =
+    let ms = c.args.marks.now in
+    let ps = c.args.pools.now in
+    let l = c.loop-i in
+    let g : l.i < c.args.live = search rules in
+    let same : get_or (take c.args.live ms) l.i 0 ≡ get_or ms l.i 0 = get_or-take c.args.live ms l.i 0 g in
+    let h : l.i < length c.args.marks.now = search rules in
+    let k : l.i < length c.args.pools.now = search rules in
+    elim c.if-not-marked.branch [
+      | then-not-marked w ↦
+          let z = sym same ∙ w.if-not-marked.true in
+          rw w.kept-is
+          (elim w.if-kept-i.branch [
+            | then-kept-i v ↦ closing_moved ms ps l.pools l.i l.kept l.invariant h k l.auto.pools _ _ v.if-kept-i.true (w.pools-is ∙ v.pools-is) z
+            | else-kept-i v ↦ closing_stays ms ps l.pools l.i l.kept l.invariant h k l.auto.pools _ v.if-kept-i.false (w.pools-is ∙ v.pools-is) z
+          ])
+      | else-not-marked w ↦ rw (w.kept-is, w.pools-is) (closing_gone ms ps l.pools l.i l.kept l.invariant h k l.auto.pools (search rules))
+    ]
 
 pub returns : goal.returns
 returns c =
-    let a = c.args in
-    let l = c.loop-r in
-    let t₀ = table_of a.numbers.now a.keys.now in
-    let t = table_of l.numbers l.keys in
-    let k : l.w ≤ length (table_of l.numbers l.keys) = rw (length_table l.numbers l.keys) (omega arith) in (
-      closed_number a.marks.now a.live t₀ t l.r l.w l.invariant.4 (omega arith) (omega arith) k,
-      closed_table a.marks.now a.live t₀ t l.r l.w l.invariant.4 (omega arith) (omega arith) k _ c.zero_records.ensures,
-    )
+    let l = c.loop-i in
+    let e : l.i ≡ c.args.live = search rules in
+    closed c.args.marks.now c.args.pools.now l.pools c.args.live l.kept _ (rw e at l.invariant) (search rules) (search rules)

@@ -1,104 +1,65 @@
--- The loop's invariant: the table with the records of the lots still to come pasted in is the answer; no more ordinals are used than pools are passed.
+-- A pool that ends a lot brings the lot's records, where it is not canceled; another goes on with its lot.
+use mathlib.Core.Path.{◌≡◌, refl, sym, ◌∙◌}
+use Prim.Native.Nat.{ℕ, ◌≤◌, ◌<◌}
 use native.Mathlib.Omega.{arith}
-use Prim.Native.Nat.{◌≤◌, ◌-◌, ◌+◌}
-use mathlib.Core.Path.{refl, sym, ◌∙◌}
-use lib.ListN.{length}
+use mathlib.Core.List.{List}
+use lib.ListN.{length, get_or, take, length-take}
+use lib.Seq.{get_or-take}
+use Rattle.layout.specs.Details.{pool_count, detail_at, place_of}
 use Rattle.layout.proofs.Lengths.{count_max}
-use Rattle.rows.specs.Rows.{table_of}
-use Rattle.rows.proofs.Rows.{length_table}
-use Rattle.rows_bring.proofs.Heads.{heads, no_lots}
-use Rattle.rows_bring.proofs.Turns.{storing_none, storing_canceled, storing_new, room, none_left, place_after_law, table_after_law}
+use Rattle.rows_bring.specs.Staged.{terminator_number, AreStaged}
+use Rattle.rows_bring.proofs.Turns.{storing_none, place_after_law, table_after_law, storing_on, storing_canceled, room, storing_new}
 use Rattle.rows_bring.proofs.put_lots.Goals as goal
+use Rattle.rows_bring.proofs.put_lots.Goals.{then-is_end, then-number-from, else-number-from, else-is_end}
 
-pub loop-next-init : goal.loop-next-init
-loop-next-init c =
+-- the number that is read is that of the pool
+number_there : (body ts : List ℕ) (n i : ℕ) → AreStaged terminator_number body ts → n ≡ pool_count body → i < length (take n ts)
+    → (i < pool_count body) × (get_or (take n ts) i 0 ≡ terminator_number (detail_at body (place_of i)))
+number_there body ts n i s e h =
+    let l : i < pool_count body = omega (arith, e, h, length-take n ts) in
+    let m : i < n = omega (arith, e, l) in
+    (l, rw get_or-take (s i l))
+
+pub loop-last-init : goal.loop-last-init
+loop-last-init c = let a = c.args in storing_none a.message a.trade a.at a.body.now a.pools.now
+
+pub slice_bounds-own-end : goal.slice_bounds-own-end
+slice_bounds-own-end c =
     let a = c.args in
-    (refl, refl, omega arith, omega arith, storing_none a.message a.trade a.at a.body.now (table_of a.numbers.now a.keys.now))
+    let l = c.loop-last in
+    let s = number_there a.body.now _ _ l.last c.requires.are_staged.1 c.pool_count.ensures c.loop-last-test.true in
+    let r = room l.invariant s.0 s.1 c.staged_term-end.ensures (sym c.is_end.ensures ∙ c.if-is_end.true)
+    (λ q. c.if-number-from.true (q ∙ sym c.from.ensures)) c.of-lot.ensures in
+    omega (arith, r, c.requires.room, l.auto.pools)
 
-pub lot_end-last-requires : goal.lot_end-last-requires
-lot_end-last-requires c = (omega arith, omega (arith, c.pool_count-n.ensures, count_max c.args.body.now))
-
-pub returns-then-n-last : goal.returns-then-n-last
-returns-then-n-last c =
+pub loop-last-preserved : goal.loop-last-preserved
+loop-last-preserved c =
     let a = c.args in
-    let l = c.loop-next in
-    let t₀ = table_of a.numbers.now a.keys.now in
-    let t = table_of l.numbers l.keys in
-    let e = no_lots a.body.now c.pool_count-n.result a.terminators.now c.requires.are_staged.1 c.pool_count-n.ensures l.next c.lot_end-last.result c.lot_end-last.ensures c.if-n-last.true in (
-      place_after_law a.message a.trade a.at a.body.now t₀ t l.place l.ordinal l.next l.invariant.4 e,
-      table_after_law a.message a.trade a.at a.body.now t₀ t l.place l.ordinal l.next l.invariant.4 e,
-    )
-
-pub offset_bounds-terminators-last : goal.offset_bounds-terminators-last
-offset_bounds-terminators-last c = omega (arith, c.pool_count-n.ensures, count_max c.args.body.now)
-
-pub bounds-terminators-last : goal.bounds-terminators-last
-bounds-terminators-last c = omega (arith, c.pool_count-n.ensures, count_max c.args.body.now)
-
-pub overflow_add-next : goal.overflow_add-next
-overflow_add-next c = omega (arith, c.pool_count-n.ensures, count_max c.args.body.now)
-
-pub overflow_sub-pools : goal.overflow_sub-pools
-overflow_sub-pools c = omega (arith, (heads c.args.body.now c.pool_count-n.result c.args.terminators.now c.requires.are_staged.1 c.pool_count-n.ensures c.loop-next.next c.lot_end-last.result c.lot_end-last.ensures c.if-n-last.false).begins)
-
-pub put_pools-requires : goal.put_pools-requires
-put_pools-requires c =
-    let a = c.args in
-    let l = c.loop-next in
-    let h = heads c.args.body.now c.pool_count-n.result c.args.terminators.now c.requires.are_staged.1 c.pool_count-n.ensures c.loop-next.next c.lot_end-last.result c.lot_end-last.ensures c.if-n-last.false in
-    let r = room a.message a.trade a.at a.body.now (table_of a.numbers.now a.keys.now) (table_of l.numbers l.keys) l.place l.ordinal l.next l.invariant.4 _ h _ (c.requires.are_staged.1 c.lot_end-last.result (omega (arith, c.pool_count-n.ensures))) c.if-number.true _ c.common_of-s.ensures in
-    let n : l.place + (c.lot_end-last.result + 1 - l.next) ≤ length l.numbers = omega (arith, r, c.requires.keys_len.1, l.invariant.0) in
-    (l.invariant.1 ∙ c.requires.keys_len.0 ∙ sym l.invariant.0, n, omega (arith, h.begins, h.ends), c.requires.are_staged.0)
-
-pub overflow_add-place : goal.overflow_add-place
-overflow_add-place c =
-    let a = c.args in
-    let l = c.loop-next in
-    let r = room a.message a.trade a.at a.body.now (table_of a.numbers.now a.keys.now) (table_of l.numbers l.keys) l.place l.ordinal l.next l.invariant.4 _ (heads c.args.body.now c.pool_count-n.result c.args.terminators.now c.requires.are_staged.1 c.pool_count-n.ensures c.loop-next.next c.lot_end-last.result c.lot_end-last.ensures c.if-n-last.false) _ (c.requires.are_staged.1 c.lot_end-last.result (omega (arith, c.pool_count-n.ensures))) c.if-number.true _ c.common_of-s.ensures in
-    omega (arith, r, c.requires.keys_len.1, c.ranges)
-
-pub overflow_add-ordinal : goal.overflow_add-ordinal
-overflow_add-ordinal c = omega (arith, c.loop-next.invariant.2, c.loop-next.invariant.3, c.pool_count-n.ensures, count_max c.args.body.now)
-
-pub loop-next-smaller-then-number : goal.loop-next-smaller-then-number
-loop-next-smaller-then-number c = omega (arith, (heads c.args.body.now c.pool_count-n.result c.args.terminators.now c.requires.are_staged.1 c.pool_count-n.ensures c.loop-next.next c.lot_end-last.result c.lot_end-last.ensures c.if-n-last.false).begins, c.if-n-last.false)
-
-pub loop-next-preserved-then-number : goal.loop-next-preserved-then-number
-loop-next-preserved-then-number c =
-    let a = c.args in
-    let l = c.loop-next in
-    let h = heads c.args.body.now c.pool_count-n.result c.args.terminators.now c.requires.are_staged.1 c.pool_count-n.ensures c.loop-next.next c.lot_end-last.result c.lot_end-last.ensures c.if-n-last.false in
-    let m = c.put_pools in (
-      m.auto.numbers ∙ l.invariant.0,
-      m.auto.keys ∙ l.invariant.1,
-      omega (arith, c.if-n-last.false),
-      omega (arith, l.invariant.3, h.begins),
-      storing_new a.message a.trade a.at a.body.now (table_of a.numbers.now a.keys.now) (table_of l.numbers l.keys) l.place l.ordinal l.next l.invariant.4 _ h _ (c.requires.are_staged.1 c.lot_end-last.result (omega (arith, c.pool_count-n.ensures))) c.if-number.true _ c.common_of-s.ensures
-          _ m.ensures (rw (length_table l.numbers l.keys, l.invariant.0) c.requires.keys_len.1),
-    )
-
-pub loop-next-smaller : goal.loop-next-smaller
-loop-next-smaller c = omega (arith, (heads c.args.body.now c.pool_count-n.result c.args.terminators.now c.requires.are_staged.1 c.pool_count-n.ensures c.loop-next.next c.lot_end-last.result c.lot_end-last.ensures c.if-n-last.false).begins)
-
-pub loop-next-preserved : goal.loop-next-preserved
-loop-next-preserved c =
-    let a = c.args in
-    let l = c.loop-next in
-    let h = heads c.args.body.now c.pool_count-n.result c.args.terminators.now c.requires.are_staged.1 c.pool_count-n.ensures c.loop-next.next c.lot_end-last.result c.lot_end-last.ensures c.if-n-last.false in (
-      l.invariant.0,
-      l.invariant.1,
-      omega arith,
-      omega (arith, l.invariant.3, h.begins),
-      storing_canceled a.message a.trade a.at a.body.now (table_of a.numbers.now a.keys.now) (table_of l.numbers l.keys) l.place l.ordinal l.next l.invariant.4 _ h _ (c.requires.are_staged.1 c.lot_end-last.result (omega (arith, c.pool_count-n.ensures))) c.if-number.false,
-    )
+    let l = c.loop-last in
+    let s = number_there a.body.now _ _ l.last c.requires.are_staged.1 c.pool_count.ensures c.loop-last-test.true in
+    elim c.if-is_end.branch [
+      | then-is_end w ↦ elim w.if-number-from.branch [
+        | then-number-from v ↦
+            rw (w.pools-is, w.place-is, w.ordinal-is, w.first-is, v.pools-is, v.place-is, v.ordinal-is)
+            (storing_new l.invariant s.0 s.1 c.staged_term-end.ensures (sym c.is_end.ensures ∙ w.if-is_end.true)
+            (λ q. v.if-number-from.true (q ∙ sym w.from.ensures)) v.of-lot.ensures (omega arith) v.put_lot.ensures refl
+            (omega (arith, c.requires.room, l.auto.pools)))
+        | else-number-from v ↦
+            rw (w.pools-is, w.place-is, w.ordinal-is, w.first-is, v.pools-is, v.place-is, v.ordinal-is)
+            (storing_canceled l.invariant s.0 s.1 c.staged_term-end.ensures (sym c.is_end.ensures ∙ w.if-is_end.true)
+            (v.if-number-from.false ∙ w.from.ensures))
+      ]
+      | else-is_end w ↦
+          rw (w.pools-is, w.place-is, w.ordinal-is, w.first-is)
+          (storing_on l.invariant s.0 s.1 c.staged_term-end.ensures (sym c.is_end.ensures ∙ w.if-is_end.false))
+    ]
 
 pub returns : goal.returns
 returns c =
     let a = c.args in
-    let l = c.loop-next in
-    let t₀ = table_of a.numbers.now a.keys.now in
-    let t = table_of l.numbers l.keys in
-    let e = none_left a.message a.trade a.at a.body.now t₀ t l.place l.ordinal l.next l.invariant.4 (omega (arith, c.loop-next-test.false, c.pool_count-n.ensures)) in (
-      place_after_law a.message a.trade a.at a.body.now t₀ t l.place l.ordinal l.next l.invariant.4 e,
-      table_after_law a.message a.trade a.at a.body.now t₀ t l.place l.ordinal l.next l.invariant.4 e,
+    let l = c.loop-last in
+    let h : pool_count a.body.now ≤ l.last =
+    omega (arith, c.pool_count.ensures, count_max a.body.now, length-take c.pool_count.result a.staged.now.terminators, c.loop-last-test.false) in (
+      place_after_law l.invariant h,
+      table_after_law l.invariant h,
     )

@@ -1,25 +1,11 @@
--- The two ends of the run, or the number of live rows twice where the target is no number.
-use native.Mathlib.Omega.{arith}
-use mathlib.Core.List.{[]}
-use Rattle.fields.specs.declared.Field.TheVariants.{Number}
-use Rattle.book.specs.Messages.{under}
-use Rattle.rows.specs.Rows.{record_at}
-use Rattle.rows_find.proofs.Running.{ahead_tab, run_found, run_none}
-use mathlib.Core.Path.{ap}
-use mathlib.Core.Bool.{not}
+-- The two ends of the run, or the number of live records twice where the target is no number.
+use mathlib.Core.Path.{sym, ◌∙◌}
+use lib.Seq.{length-take-le}
+use Rattle.rows_find.proofs.Running.{run_none, run_found}
 use Rattle.rows_find.proofs.target_run.Goals as goal
 
-pub returns-then-not-is_number : goal.returns-then-not-is_number
-returns-then-not-is_number c =
-    let a = c.args in
-    λ ks. run_none a.numbers.now ks a.live (omega arith) _ _ c.number_in-f.ensures _ c.is_number.ensures (ap not c.if-not-is_number.true)
+pub returns-in-None : goal.returns-in-None
+returns-in-None c = rw (sym c.number_in.ensures ∙ c.in-None.is) (run_none _ c.args.live (sym (length-take-le _ _ c.requires)))
 
-pub first_other-stop-requires : goal.first_other-stop-requires
-first_other-stop-requires c =
-    let a = c.args in
-    (omega (arith, c.first_under-start.ensures [], ahead_tab (under (Number c.value_of-id.result)) (record_at a.numbers.now []) a.live 0), omega arith)
-
-pub returns : goal.returns
-returns c =
-    let a = c.args in
-    λ ks. run_found a.numbers.now ks a.live (omega arith) _ _ c.number_in-f.ensures _ c.is_number.ensures (ap not c.if-not-is_number.false) _ _ _ c.value_of-id.ensures (c.first_under-start.ensures ks) (c.first_other-stop.ensures ks)
+pub returns-in-Some : goal.returns-in-Some
+returns-in-Some c = rw (sym c.number_in.ensures ∙ c.in-Some.is) (run_found c.in-Some.id _ _ _ c.ahead-start.ensures.value c.leading.ensures.value)

@@ -1,17 +1,12 @@
--- The body is a part of itself, the whole of it.
-use mathlib.Core.Path.{◌≡◌}
-use mathlib.Core.List.{List}
-use Prim.Native.Nat.{ℕ, ◌-◌}
-use native.Mathlib.Omega.{arith}
-use lib.ListN.{length}
-use lib.Seq.{take_all}
-use Rattle.lists.specs.Lists.{part}
+-- What some check fails is refused, and what all let pass is accepted.
+use Rattle.table_step.proofs.Answering.{header_sent, refused_frame}
 use Rattle.table_step.proofs.step.Goals as goal
 
--- the whole body, as a part of itself
-all_of_it : (s : List ℕ) → part s 0 (length s - 0) ≡ s
-unfolding part
-all_of_it s = take_all (length s - 0) s (omega arith)
+pub refuse-requires : goal.refuse-requires
+refuse-requires c =
+    let a = c.args in header_sent a.book a.pools.now a.body.now a.caller a.out.now _ c.in-Err.ensures
 
-pub returns : goal.returns
-returns c = rw (all_of_it c.args.body.now) at c.step_part.ensures
+pub returns-in-Err : goal.returns-in-Err
+returns-in-Err c =
+    let a = c.args in
+    refused_frame a.book a.pools.now a.body.now a.caller a.out.now _ c.in-Err.ensures _ _ c.refuse.ensures.0 c.refuse.ensures.1 c.refuse.ensures.2

@@ -1,11 +1,7 @@
--- Invariant: the first mark from i on is the first mark of the whole list.
-use Rattle.trade_id.proofs.Marks.{Left}
-use lib.ListN.{length}
-use Prim.Native.Nat.{◌-◌}
+-- While no mark stands at the places passed, the first one from here on is the first one of all.
+use Rattle.std.proofs.Common.{◌≡◌, drop}
+use Rattle.trade_id.specs.SpecialInstructions.{mark_from, mark_in}
 use Rattle.trade_id.proofs.find_mark.Given as goal
 
-abbrev pub invariant-loop-i : goal.invariant-loop-i
-invariant-loop-i l = Left l.special l.i
-
-abbrev pub decreases-loop-i : goal.decreases-loop-i
-decreases-loop-i l = length l.special - l.i
+abbrev pub invariant-loop-at : goal.invariant-loop-at
+invariant-loop-at l = mark_from l.at (drop l.at l.special) ≡ mark_in l.special

@@ -1,2 +1,0 @@
-mod HeaderColumns
-mod Written

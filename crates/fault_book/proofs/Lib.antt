@@ -1,3 +1,0 @@
-pub mod Pars
-pub mod Table
-pub mod Enough

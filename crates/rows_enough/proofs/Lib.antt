@@ -1,9 +1,0 @@
-pub mod Sound
-pub mod Calls
-pub mod Changed
-pub mod Rows
-pub mod Storing
-pub mod Staging
-pub mod Stepping
-pub mod Saying
-pub mod Opening

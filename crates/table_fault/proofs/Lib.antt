@@ -1,0 +1,3 @@
+pub mod Live
+pub mod ByPlace
+pub mod Before

@@ -1,5 +1,0 @@
-pub mod Row
-pub mod Loaded
-pub mod Zeros
-pub mod Blank
-pub mod Joining

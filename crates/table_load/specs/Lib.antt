@@ -1,4 +1,0 @@
-pub mod Fit
-pub mod Loaded
-pub mod Joined
-pub mod Zeros

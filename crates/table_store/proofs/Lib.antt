@@ -1,2 +1,0 @@
-mod Bytes
-pub mod Written
