@@ -22,9 +22,9 @@
 extern "C" {
 #endif
 
-/* The stack of a thread that calls: rhoikandra_step takes 433 KiB of it at most, rhoikandra_figures 333, rhoikandra_book_fault 323,
-   rhoikandra_open 41, rhoikandra_opening_fault 27 and the others under 1; the rest is for the thread itself and for whoever calls. */
-#define RHOIKANDRA_STACK_BYTES (512 * 1024)
+/* The stack of a thread that calls: rhoikandra_step takes 86 KiB of it at most, rhoikandra_open 67, rhoikandra_book_fault 42,
+   rhoikandra_figures 37, rhoikandra_opening_fault 26 and the others under 1; the rest is for the thread itself and for whoever calls. */
+#define RHOIKANDRA_STACK_BYTES (128 * 1024)
 
 /* A book is kept as words: 42 for each of 64 trades (ID 16, its length, seller 4, buyer 4, contra 4, CUSIP 9, settlement, price,
    par, open par), then the number of trades, 32 holidays, their number, subscriber 4, connection 4, the four limits, the last
