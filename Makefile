@@ -23,8 +23,7 @@ all: $(archive)
 
 # Proves the library and compiles it: some minutes, and none where nothing changed.
 $(archive): $(sources)
-	@command -v $(RT) >/dev/null || { echo 'make: $(RT) is not found: the Rattle toolchain proves and compiles $@' >&2; exit 1; }
-	tools/build rhoikandra
+	RT='$(RT)' tools/build rhoikandra
 
 install: $(archive)
 	$(INSTALL) -d '$(top)/lib/pkgconfig' '$(top)/include' '$(share)/rust/src' '$(share)/examples'

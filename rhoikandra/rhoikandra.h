@@ -1,5 +1,5 @@
-/* The proved allocation book for C (C99 on) and C++ (C++11 on), on Linux on x86-64. `make install` installs it, and
-   `pkg-config --cflags --libs rhoikandra` says how to link it.
+/* The proved allocation book for C (C99 on) and C++ (C++11 on), on Linux on x86-64-v2, that is, on processors with SSE4.2.
+   `make install` installs it, and `pkg-config --cflags --libs rhoikandra` says how to link it.
 
    Threads: the calls keep nothing of their own, so any number of threads may call at once, each on memory of its own. A book with its
    table, an output, what is said and a tally belong to one thread at a time; while none writes a book and its table, several threads
@@ -11,7 +11,9 @@
 
    Stack: a thread that calls needs RHOIKANDRA_STACK_BYTES. On fewer a call may end the program at the guard page below the stack.
 
-   Lengths: every call is defined for all of them, and reads and writes nothing outside. What it answers is said beside each. */
+   Lengths: every call is defined for all of them, and reads and writes nothing outside. What it answers is said beside each.
+
+   numbers.tsv and rules.tsv, installed into PREFIX/share/rhoikandra, say what each number means and what each rule of 41 and 42 is. */
 #ifndef RHOIKANDRA_H
 #define RHOIKANDRA_H
 
@@ -22,8 +24,8 @@
 extern "C" {
 #endif
 
-/* The stack of a thread that calls: rhoikandra_step takes 86 KiB of it at most, rhoikandra_open 67, rhoikandra_book_fault 42,
-   rhoikandra_figures 37, rhoikandra_opening_fault 26 and the others under 1; the rest is for the thread itself and for whoever calls. */
+/* The stack of a thread that calls: rhoikandra_step takes 90 KiB of it at most, rhoikandra_open 70, rhoikandra_book_fault 45,
+   rhoikandra_figures 40, rhoikandra_opening_fault 30 and the others under 1; the rest is for the thread itself and for whoever calls. */
 #define RHOIKANDRA_STACK_BYTES (128 * 1024)
 
 /* A book is kept as words: 42 for each of 64 trades (ID 16, its length, seller 4, buyer 4, contra 4, CUSIP 9, settlement, price,
@@ -60,7 +62,8 @@ extern "C" {
 
 /* A record of the table: the message ID that brought the pool, its lot's ordinal there, its trade, the matched fields as bytes, its
    current face in cents, its lot's kind (1 good, 2 odd, 3 bad) and millions. A record that is not used is zeros. spare is no part of
-   a record: no call reads it; an accepted opening clears it, and no frame call moves it, so that memory can be saved as it lies. */
+   a record: no call reads it; an accepted opening clears it, and where it is zeros a frame call leaves zeros, so that memory can be saved
+   as it lies. */
 typedef struct {
     uint64_t message;
     uint64_t ordinal;
@@ -87,12 +90,14 @@ static inline uint64_t rhoikandra_open_cleared(uint64_t *book, size_t book_len, 
 }
 #define rhoikandra_open rhoikandra_open_cleared
 
-/* Puts a frame's body to a book. said gets three numbers: 0 and the message ID, 1 and the number of a rejection, or 2 and that of a
-   DK; then how many bytes at the front of out are the call's own and are to be sent: 0, 64 or 217. seed is a random number, drawn once
-   or for each call: no answer depends on it, and while whoever sends frames does not know it, no choice of pools makes a call slow.
-   Refused, in this order, and everything else stays: time bytes that are not six with 90; words that are not RHOIKANDRA_BOOK_WORDS or
-   no book's, a table over 4,096 records and a damaged book with 42; an out under 217 bytes with 44; a body of another length than that
-   of 1 to 250 pools with 10. A said under three numbers stays, though the call is made; a longer one keeps its tail, and so does out. */
+/* Puts a frame's body to a book. said gets three numbers: 0 and the message ID, 1 and the number of a rejection, or 2 and that of a DK,
+   by which numbers.tsv says the cause and what to do; then how many bytes at the front of out are the call's own and are to be sent: 0,
+   64 or 217. seed is a random number, drawn once or for each call: no answer depends on it, and while whoever sends frames does not know
+   it, no choice of pools makes a call slow. Refused, in this order, and everything else stays: time bytes that are not six with 90; words
+   that are not RHOIKANDRA_BOOK_WORDS or no book's, a table over 4,096 records and a damaged book with 42; message IDs or outbound numbers
+   that are used up with 43; an out under 217 bytes with 44; a body of another length than that of 1 to 250 pools with 10; a sequence that
+   is not digits, or is 999999, with 11. A said under three numbers stays, though the call is made; a longer one keeps its tail, and so
+   does out. */
 void rhoikandra_step(uint64_t *book, size_t book_len, rhoikandra_pool *pools, size_t pools_len, const uint8_t *body, size_t body_len,
                      const uint8_t *time, size_t time_len, uint64_t seed, uint8_t *out, size_t out_len, uint64_t *said, size_t said_len);
 
@@ -106,7 +111,7 @@ void rhoikandra_figures(const uint64_t *book, size_t book_len, const rhoikandra_
    and the place of the holiday, trade or record that it is about, counted from 0, or 0 where it is about none; or two zeros where no
    rule is broken. Words that are not RHOIKANDRA_BOOK_WORDS, or of which one is too wide for what it stands for, are rule 101. Nothing
    else is written; an out under two numbers stays, a longer one keeps its tail. They are not for each frame: fields that stand twice
-   are sought pair by pair, on a full table for ten to twenty milliseconds. */
+   are sought pair by pair, on a full table for some milliseconds. */
 void rhoikandra_opening_fault(const uint64_t *book, size_t book_len, size_t records, uint64_t *out, size_t out_len);
 void rhoikandra_book_fault(const uint64_t *book, size_t book_len, const rhoikandra_pool *pools, size_t pools_len, uint64_t *out,
                            size_t out_len);

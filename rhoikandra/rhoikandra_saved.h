@@ -6,8 +6,9 @@
    2^64. The engine's 42 tells a book that can no longer have come about by calls; a changed price may be a sound other book, and the
    checksum alone tells that.
 
-   After a call save the book: write the bytes to a new file, sync it, rename it over the last one, and sync the folder; then send what
-   the call wrote. Nothing is allocated; a call takes under 20 KiB of stack. */
+   After a call save the book: write the bytes to a new file, and after them those that are to be sent, sync it, rename it over the last
+   one, and sync the folder; then send them. After a restart send them again; rhoikandra_saved_size says where the book ends in the file.
+   Nothing is allocated; a call takes under 20 KiB of stack. */
 #ifndef RHOIKANDRA_SAVED_H
 #define RHOIKANDRA_SAVED_H
 
@@ -113,12 +114,12 @@ static inline size_t rhoikandra_save(const uint64_t *book, const rhoikandra_pool
 /* What is wrong with bytes from a disk, if anything is. Where nothing is, records gets the number of records of the table. */
 static inline rhoikandra_loaded rhoikandra_saved_check(const uint8_t *bytes, size_t size, size_t *records) {
     uint64_t count;
+    if (size > 0 && memcmp(bytes, RHOIKANDRA_SAVED_MARK, size < 8 ? size : 8) != 0)
+        return RHOIKANDRA_DAMAGED_MARK;
+    if (size >= 12 && rhoikandra_number_at(bytes + 8, 4) != RHOIKANDRA_SAVED_VERSION)
+        return RHOIKANDRA_DAMAGED_VERSION;
     if (size < RHOIKANDRA_SAVED_HEAD_BYTES)
         return RHOIKANDRA_DAMAGED_LENGTH;
-    if (memcmp(bytes, RHOIKANDRA_SAVED_MARK, 8) != 0)
-        return RHOIKANDRA_DAMAGED_MARK;
-    if (rhoikandra_number_at(bytes + 8, 4) != RHOIKANDRA_SAVED_VERSION)
-        return RHOIKANDRA_DAMAGED_VERSION;
     count = rhoikandra_number_at(bytes + 12, 4);
     if (size != rhoikandra_saved_size((size_t)count))
         return RHOIKANDRA_DAMAGED_LENGTH;

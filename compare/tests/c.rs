@@ -9,6 +9,7 @@ use std::path::Path;
 use std::process::Command;
 
 use compare::engine::held;
+use compare::full;
 use reference::desk::{pool, Desk};
 use rhoikandra::Book;
 
@@ -61,6 +62,19 @@ fn spare_bytes_by_each_standard() {
 fn lengths_from_c() {
     for flags in &C {
         run("cc", "compare/tests/lengths.c", flags, &[]);
+    }
+}
+
+/// On memory that ends or begins where nothing can be touched, and on threads: on a full book, for lengths that are asked for and others.
+#[test]
+fn memory_and_threads_from_c() {
+    let (book, day) = (built::kept("memory.book"), built::kept("memory.tape"));
+    let desk = full::desk();
+    let bodies = full::bodies(&desk);
+    full::write(&desk, &bodies, &book, &day);
+    for flags in &C {
+        let printed = run("cc", "compare/tests/memory.c", flags, &[&book, &day]);
+        assert_eq!(printed, format!("{} frames\n", bodies.len()));
     }
 }
 

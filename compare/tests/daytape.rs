@@ -57,6 +57,19 @@ fn the_tapes_of_the_vectors() {
     assert!(met >= 10, "{met} tapes");
 }
 
+/// What README says that its first commands print.
+#[test]
+fn the_lines_of_the_readme() {
+    let readme = fs::read_to_string(top().join("README.md")).unwrap();
+    let tape = "vectors/tape-2003.bin";
+    assert_eq!(readme.matches(&format!("< {tape}\n")).count(), 2);
+    let lines = printed(&fs::read(top().join(tape)).unwrap());
+    let shown: String = lines.lines().map(|line| format!("    {line}\n")).collect();
+    assert!(readme.contains(&format!("\n\n{shown}\n")), "{shown}");
+    let nothing: Vec<String> = printed(b"").lines().map(|line| format!("`{line}`")).collect();
+    assert!(readme.contains(&nothing.join(" and ")), "{nothing:?}");
+}
+
 #[test]
 fn random_tapes_whole_and_damaged() {
     let mut cases = Cases::of("random tapes, whole and damaged");

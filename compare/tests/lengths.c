@@ -100,6 +100,22 @@ static void steps(void) {
     EXPECT(said(1, 10, 0) && stays(3));
     step(0, 0, 0, 0, 0, 0);
     EXPECT(stays(0));
+
+    /* Numbers that are used up come before a short output, and a sequence after the length. */
+    opened.book[RHOIKANDRA_OUTBOUND] = 999998;
+    step(WORDS, 0, 0, 6, 0, 3);
+    EXPECT(said(1, 43, 0) && stays(3));
+    opened.book[RHOIKANDRA_OUTBOUND] = 0;
+    opened.book[RHOIKANDRA_LAST] = 99999999999;
+    step(WORDS, 0, 0, 6, 0, 3);
+    EXPECT(said(1, 43, 0) && stays(3));
+    opened.book[RHOIKANDRA_LAST] = 0;
+    memcpy(body + 2, "999999", 6);
+    step(WORDS, RECORDS, BODY + 1, 6, RHOIKANDRA_OUTPUT_LENGTH, 3);
+    EXPECT(said(1, 10, 0) && stays(3));
+    step(WORDS, RECORDS, BODY, 6, RHOIKANDRA_OUTPUT_LENGTH, 3);
+    EXPECT(said(1, 11, 0) && stays(3));
+    memcpy(body + 2, "000001", 6);
 }
 
 /* A message of a type that is unknown is answered with an AA, also over a table of no records: the call is made, whether its answer has

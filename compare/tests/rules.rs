@@ -1,6 +1,7 @@
 //! The rules of 41 and 42 stand in `rhoikandra/rules.tsv`: the Rust crate, the rules in docs and the engine's definitions have the same, in the same order.
 
 use std::collections::BTreeMap;
+use std::ops::RangeInclusive;
 use std::path::Path;
 
 use reference::rule_damage::{OF_BOOK, OF_OPENING};
@@ -95,6 +96,52 @@ fn the_documented_rules_have_the_numbers() {
     assert_eq!(others[0].1, [table], "opening's rule of the table");
     assert_eq!(all, numbers());
     assert!(text("docs/RULES.md").contains("as the first broken rule this is 101"));
+}
+
+/// A rule's label in numbers: its section and its place there.
+type Label = (u16, u16);
+
+fn label(text: &str) -> Option<Label> {
+    let (section, place) = text.strip_prefix('R')?.split_once('.')?;
+    Some((section.parse().ok()?, place.parse().ok()?))
+}
+
+/// The rules and sections that a cell names, one by one or from one to another: `R1.1, R2.2 to R2.4, sections 11 to 13`.
+fn pointed_at(cell: &str) -> Vec<RangeInclusive<Label>> {
+    let part = |part: &str| {
+        let part = part.trim();
+        let sections = part.strip_prefix("sections ").or(part.strip_prefix("section "));
+        let (first, last) = match sections.unwrap_or(part).split_once(" to ") {
+            Some(ends) => ends,
+            None => (sections.unwrap_or(part), sections.unwrap_or(part)),
+        };
+        let end = |text: &str, place| match sections {
+            Some(_) => text.parse().ok().map(|section| (section, place)),
+            None => label(text),
+        };
+        end(first, 0).zip(end(last, u16::MAX)).unwrap_or_else(|| panic!("no rule: {part}"))
+    };
+    cell.split(',').map(part).map(|(first, last)| first..=last).collect()
+}
+
+/// Every rule in docs/RULES.md is in the first cell of a row in docs/TRACE.md, and every such cell names rules that are there.
+#[test]
+fn every_rule_is_traced() {
+    let (rules, trace) = (text("docs/RULES.md"), text("docs/TRACE.md"));
+    let labels: Vec<Label> = rules.split("**").filter_map(label).collect();
+    assert!(labels.len() > 100, "{} rules", labels.len());
+    let mut pointed = Vec::new();
+    for table in trace.split("\n| rule |").skip(1) {
+        let rows = table.lines().skip(2).take_while(|line| line.starts_with('|'));
+        let cells = rows.map(|row| row.split('|').nth(1).expect("a cell").trim());
+        pointed.extend(cells.filter(|cell| !cell.is_empty()).flat_map(pointed_at));
+    }
+    for rules in &pointed {
+        assert!(labels.iter().any(|label| rules.contains(label)), "{rules:?} are no rules");
+    }
+    for label in labels {
+        assert!(pointed.iter().any(|rules| rules.contains(&label)), "{label:?} is not traced");
+    }
 }
 
 /// The bodies of a file's definitions, by their names.

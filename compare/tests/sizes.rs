@@ -3,6 +3,7 @@
 
 use std::collections::BTreeMap;
 use std::path::Path;
+use std::process::Command;
 
 use rhoikandra::columns::{Column, DETAIL, HEADER};
 
@@ -31,6 +32,15 @@ fn products() -> Numbers {
         Some((name.to_string(), one.parse::<usize>().ok()? * other.parse::<usize>().ok()?))
     };
     text("rhoikandra/rhoikandra.h").lines().filter_map(product).collect()
+}
+
+/// The header's numbers that are written as one numeral, by their names without the library's.
+fn numerals() -> Numbers {
+    let numeral = |line: &str| {
+        let (name, number) = line.strip_prefix("#define RHOIKANDRA_")?.split_once(' ')?;
+        Some((name.to_string(), number.parse().ok()?))
+    };
+    text("rhoikandra/rhoikandra.h").lines().filter_map(numeral).collect()
 }
 
 /// The engine's constants: the places of words, and the sizes of what a book holds.
@@ -64,6 +74,59 @@ fn the_header_has_the_engines_table() {
     // The stack is measured, and no number of the engine's.
     assert!(products.remove("STACK_BYTES").is_some());
     hold("rhoikandra.h", &products, &[("RECORDS_MAX", &["RECORDS_MAX"])]);
+}
+
+/// The words of a book and where each value stands among them, the length of an output, and the rows of a tally.
+#[test]
+fn the_header_has_the_engines_places() {
+    hold(
+        "rhoikandra.h",
+        &numerals(),
+        &[
+            ("BOOK_WORDS", &["BOOK_WORDS"]),
+            ("TRADE_WORDS", &["TRADE_WORDS"]),
+            ("TRADE_LENGTH", &["LENGTH"]),
+            ("TRADE_SELLER", &["SELLER"]),
+            ("TRADE_BUYER", &["BUYER"]),
+            ("TRADE_CONTRA", &["CONTRA"]),
+            ("TRADE_CUSIP", &["CUSIP"]),
+            ("TRADE_SETTLEMENT", &["SETTLEMENT"]),
+            ("TRADE_PRICE", &["PRICE"]),
+            ("TRADE_PAR", &["PAR"]),
+            ("TRADE_OPEN_PAR", &["OPEN_PAR"]),
+            ("COUNT", &["REST", "TRADE_COUNT"]),
+            ("HOLIDAYS", &["REST", "HOLIDAYS"]),
+            ("DAYS", &["REST", "HOLIDAY_COUNT"]),
+            ("SUBSCRIBER", &["REST", "SUBSCRIBER"]),
+            ("CONNECTION", &["REST", "CONNECTION"]),
+            ("LIMITS", &["REST", "CEILING"]),
+            ("LAST", &["REST", "LAST_MESSAGE_ID"]),
+            ("OUTBOUND", &["REST", "OUTBOUND"]),
+            ("LIVE", &["REST", "LIVE"]),
+            ("OUTPUT_LENGTH", &["TX_LENGTH", "AA_LENGTH"]),
+            ("TALLY_ROWS", &["TYPES"]),
+        ],
+    );
+}
+
+/// What the wrapper knows of words and outputs.
+#[test]
+fn the_wrapper_has_the_engines_places() {
+    hold(
+        "the wrapper",
+        &constants("rhoikandra/src/lib.rs"),
+        &[("OUTPUT_LENGTH", &["TX_LENGTH", "AA_LENGTH"]), ("BOOK_WORDS", &["BOOK_WORDS"])],
+    );
+    hold(
+        "the wrapper's opening",
+        &constants("rhoikandra/src/opening.rs"),
+        &[
+            ("TRADES_MAX", &["TRADES_MAX"]),
+            ("TRADE_WORDS", &["TRADE_WORDS"]),
+            ("HOLIDAYS_MAX", &["HOLIDAYS_MAX"]),
+            ("ID_MAX", &["ID_LENGTH_MAX"]),
+        ],
+    );
 }
 
 #[test]
@@ -114,6 +177,15 @@ fn the_wrapper_has_the_engines_columns() {
     let columns: Vec<_> = HEADER.iter().chain(DETAIL).map(parts).collect();
     assert_eq!(columns, engine_columns());
     assert_eq!(text("crates/layout/src/lib.rt").matches(": Column = ").count(), columns.len());
+}
+
+/// They come from the engine's source, and not by hand.
+#[test]
+fn the_wrappers_columns_are_written_by_the_tool() {
+    let top = Path::new(env!("CARGO_MANIFEST_DIR")).join("..");
+    let told = Command::new(top.join("tools/columns")).output().expect("tools/columns");
+    assert!(told.status.success());
+    assert_eq!(String::from_utf8(told.stdout).unwrap(), text("rhoikandra/src/columns.rs"));
 }
 
 /// The bytes that start and end a frame.

@@ -5,93 +5,38 @@ mod built;
 use std::fs;
 use std::process::Command;
 
-use compare::engine::held;
+use compare::engine::{held, told};
+use compare::full::{bodies, desk, write};
 use reference::answer::Answer;
-use reference::columns::SEQUENCE;
-use reference::desk::{pool, Desk};
-use reference::draft::DraftPool;
-use reference::opening::{CENTS_MAX, TABLE_MAX};
 
-const POOLS: u64 = 250;
-const MILLION_CENTS: u64 = 100_000_000;
-/// The message that brought good lots of one pool each; the others brought one odd lot each.
-const SINGLE_LOTS: u64 = 8;
+/// What the crate's first page states.
+const STATED: usize = 128 * 1024;
 /// What a thread takes of its stack for itself.
 const THREAD_BYTES: usize = 16 * 1024;
-
-type Listed = Vec<(DraftPool, [u8; 4])>;
-
-fn single_lots(first: u64, count: u64, terminator: [u8; 4]) -> Listed {
-    (first..first + count).map(|number| (pool(number, MILLION_CENTS), terminator)).collect()
-}
-
-fn odd_lot(first: u64, count: u64) -> Listed {
-    let last = first + count - 1;
-    let terminator = |number| if number == last { *b"0999" } else { *b"0000" };
-    (first..=last).map(|number| (pool(number, 100), terminator(number))).collect()
-}
-
-fn lent(pools: &Listed) -> Vec<(DraftPool, &[u8; 4])> {
-    pools.iter().map(|(pool, terminator)| (*pool, terminator)).collect()
-}
-
-/// A desk to which one message of 250 pools more brings the last record.
-fn desk() -> Desk {
-    let mut values = reference::day::opening_values();
-    values.trades[0].par_cents = CENTS_MAX;
-    let mut desk = Desk::open(&values, TABLE_MAX);
-    let live = TABLE_MAX as u64 - POOLS;
-    for (message, first) in (1..).zip((0..live).step_by(POOLS as usize)) {
-        let on = if message == SINGLE_LOTS {
-            desk.on(0, POOLS, &lent(&single_lots(first, POOLS, *b"0001")))
-        } else {
-            desk.on(0, 0, &lent(&odd_lot(first, POOLS.min(live - first))))
-        };
-        assert_eq!(desk.send(&on), Answer::Accepted);
-    }
-    desk
-}
-
-/// What is put to that desk, each to the same book: messages that are accepted, one with a gap before it, and refusals of every kind.
-fn bodies(desk: &Desk) -> Vec<(&'static str, Vec<u8>)> {
-    let first = (SINGLE_LOTS - 1) * POOLS;
-    let on = desk.on(0, 0, &lent(&odd_lot(9_000, POOLS)));
-    let mut gap = on.clone();
-    gap.put_number(SEQUENCE, 900_000);
-    let canceled = single_lots(first, POOLS / 2, *b"6001");
-    let new = single_lots(9_000, POOLS / 2, *b"7001");
-    let replaced: Listed =
-        canceled.into_iter().zip(new).flat_map(|(old, new)| [old, new]).collect();
-    let listed: Vec<DraftPool> =
-        (first..first + POOLS).rev().map(|number| pool(number, MILLION_CENTS)).collect();
-    let mut twice = odd_lot(9_000, POOLS);
-    twice[1].0 = twice[0].0;
-    vec![
-        ("ON 0 17", on.body()),
-        ("ON 0 17", gap.body()),
-        ("CC 0 17", desk.cc(0, SINGLE_LOTS, &lent(&replaced)).body()),
-        ("DK 0 17", desk.dk(0, SINGLE_LOTS, &listed).body()),
-        ("DK 1 37", desk.dk(0, SINGLE_LOTS - 1, &listed).body()),
-        ("ON 2 36", desk.on(0, 0, &lent(&twice)).body()),
-        ("CX 1 18", [b"CX", &on.body()[2..]].concat()),
-        ("ON 1 10", b"ON".to_vec()),
-    ]
-}
 
 /// The number at the end of a line.
 fn number(line: &str) -> usize {
     line.rsplit(' ').next().unwrap().parse().unwrap()
 }
 
+/// The bytes that the header says a call takes at most, which it gives in KiB, of those under 1 in one for all.
+fn told_of(call: &str) -> usize {
+    let header = fs::read_to_string(built::top().join("rhoikandra/rhoikandra.h")).unwrap();
+    let (_, stack) = header.split_once("/* The stack of a thread that calls:").unwrap();
+    let (stack, _) = stack.split_once("*/").unwrap();
+    let words: Vec<&str> = stack.split([' ', ',', '\n']).filter(|word| !word.is_empty()).collect();
+    let at = words.iter().position(|word| *word == call);
+    let kibibytes =
+        at.map_or("1", |at| words[at + 1..].iter().find(|word| **word != "takes").unwrap());
+    1024 * kibibytes.parse::<usize>().expect("a number of KiB")
+}
+
 #[test]
 fn the_stack_that_is_stated_is_enough() {
     let desk = desk();
     let bodies = bodies(&desk);
-    let tape: Vec<u8> =
-        bodies.iter().flat_map(|(_, body)| [&[2][..], body, &[3]].concat()).collect();
     let (book, day) = (built::kept("full.book"), built::kept("full.tape"));
-    fs::write(&book, held(&desk.book, &desk.table).save()).unwrap();
-    fs::write(&day, tape).unwrap();
+    write(&desk, &bodies, &book, &day);
 
     let program = built::program("cc", "compare/tests/stack.c", &["-std=c99", "-O2"]);
     let ran = Command::new(program).args([&book, &day]).output().unwrap();
@@ -106,5 +51,35 @@ fn the_stack_that_is_stated_is_enough() {
         println!("{line} bytes of stack, {stated}");
         let depth = number(line);
         assert!(0 < depth && depth + THREAD_BYTES <= number(stated), "{line}");
+        let told = told_of(line.split(' ').next().unwrap());
+        assert!(depth <= told, "{line}, and the header says {told}");
     }
+}
+
+/// The same from Rust, by every safe call.
+#[test]
+fn the_stack_that_is_stated_is_enough_for_rust() {
+    let desk = desk();
+    let bodies = bodies(&desk);
+    let opening = compare::engine::opening(&desk.book.values);
+    let book = held(&desk.book, &desk.table);
+    let calls = move || {
+        for (expected, body) in bodies {
+            let mut book = book.clone();
+            let answer = book.step(&body, b"093000").answer;
+            let code = match told(answer) {
+                Answer::Accepted => "0 17".to_string(),
+                Answer::Rejected(number) => format!("1 {number}"),
+                Answer::DKed(number) => format!("2 {number}"),
+            };
+            assert_eq!(format!("{} {code}", String::from_utf8_lossy(&body[..2])), expected);
+            rhoikandra::Tally::default().count(&body, answer);
+            assert!(book.figures(0).is_some() && book.fault().is_none());
+            assert_eq!(rhoikandra::Book::load(&book.save()), Ok(book));
+        }
+        assert!(opening.open(4096).is_ok() && opening.fault(4096).is_none());
+        assert_eq!(rhoikandra::frames(b"\x02ON\x03").count(), 1);
+    };
+    let thread = std::thread::Builder::new().stack_size(STATED).spawn(calls).unwrap();
+    thread.join().unwrap();
 }

@@ -67,7 +67,7 @@ fn every_length() {
     let (desk, [on, ..]) = desk_and_bodies();
     let long = [&on[..], &on[HEADER_WIDTH..], &on[HEADER_WIDTH..]].concat();
     for length in 0..long.len() {
-        let whole = length > HEADER_WIDTH && (length - HEADER_WIDTH).is_multiple_of(DETAIL_WIDTH);
+        let whole = length > HEADER_WIDTH && (length - HEADER_WIDTH) % DETAIL_WIDTH == 0;
         let answer = put(&desk, &long[..length], &mut [0; 217]);
         assert_eq!(answer == Rejected(10), !whole, "{length}");
     }

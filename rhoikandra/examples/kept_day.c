@@ -99,7 +99,8 @@ static int sync_folder(const char *path) {
     return (opened < 0 || close(opened) != 0) || failed;
 }
 
-/* Writes the book to a new file, and puts that in the place of the last one when it is on the disk. */
+/* Writes the book to a new file, and puts that in the place of the last one when it is on the disk. A desk writes what is to be sent
+   after the book, and sends it again after a restart, as README says. */
 static void save(const char *path) {
     char next[4096];
     size_t size = rhoikandra_save(book, pools, RECORDS, saved, sizeof saved);

@@ -79,7 +79,7 @@ Book opened() {
 }
 
 // Writes the book to a new file, and puts that in the place of the last one. A desk syncs file and folder too, as the
-// example in C does.
+// example in C does, writes what is to be sent after the book, and sends it again after a restart, as README says.
 void save(const Book &book, const std::string &path) {
     Bytes bytes(rhoikandra_saved_size(book.pools.size()));
     rhoikandra_save(book.words.data(), book.pools.data(), book.pools.size(), bytes.data(), bytes.size());

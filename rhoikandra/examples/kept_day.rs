@@ -76,7 +76,8 @@ pub fn lines() -> Vec<String> {
         while let Some(message) = line.next_body() {
             let stepped = book.step(message, b"093000");
             tally.count(message, stepped.answer);
-            // The book is saved before the answer goes out, so that a program that starts again goes on from here.
+            // The book is saved before the answer goes out, so that a program that starts again goes on from here. A desk
+            // keeps what is to be sent with it, and sends it again after a restart, as README says.
             let saved = book.save();
             sent.extend(stepped.to_send());
             book = Book::load(&saved).expect("nothing changed meanwhile");

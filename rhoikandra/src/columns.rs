@@ -1,4 +1,4 @@
-//! The columns of a message body, as the engine has them.
+//! The columns of a message body, as the engine has them. `tools/columns` writes this file by the engine's own constants.
 
 /// A column by the engine's name of it, its first byte and its width.
 #[derive(Clone, Copy, Debug, PartialEq, Eq)]

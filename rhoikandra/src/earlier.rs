@@ -1,5 +1,6 @@
 //! A book by the earlier interface: its words and its records are open, it is opened in its place, and a call writes to an output of
-//! the caller's. A book of [`crate::Opening::open`] cannot be stepped before it is opened, nor opened twice; this one can, and gets 42.
+//! the caller's. A book of [`crate::Opening::open`] cannot be stepped before it is opened, nor opened twice; this one can. Before it
+//! is opened a frame gets 42 only where a value is out of range, and to open it again drops what it holds.
 
 use std::mem::take;
 

@@ -4,7 +4,7 @@
 //! send. A book is all that the engine keeps. It may be cloned, saved to a disk and loaded later ([`saved`] says what is wrong
 //! with bytes that changed meanwhile). One that was damaged in memory is refused with 42 by the next call where it can no
 //! longer have come about by calls, and nothing moves. [`Opening::fault`] and [`Book::fault`] name the first rule of 41 or 42
-//! that is broken ([`rules`]).
+//! that is broken ([`rules`]). A thread that calls needs 128 KiB of stack.
 //!
 //! ```
 //! use rhoikandra::{Book, Line, Number, Opening};
@@ -273,7 +273,7 @@ impl Book {
     }
 
     /// The first rule that the book breaks: there is one exactly where every frame gets 42. It is not for each frame: on a
-    /// full table it takes ten to twenty milliseconds.
+    /// full table it takes some milliseconds.
     pub fn fault(&self) -> Option<Fault> {
         self.raw.book_fault()
     }

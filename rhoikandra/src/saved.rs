@@ -25,7 +25,7 @@ pub enum Damaged {
     Mark,
     /// They have a version of the format that this library does not read.
     Version(u32),
-    /// They are not as long as they must be by their number of records.
+    /// They are not as long as they must be by their number of records; where that is cut off too, as without any.
     Length { expected: usize, found: usize },
     /// Something in them changed since they were saved.
     Checksum,
@@ -41,8 +41,11 @@ impl fmt::Display for Damaged {
             Damaged::Version(version) => {
                 write!(f, "a saved book of version {version}, and this library reads version {VERSION}; load it with the library that saved it")
             }
+            Damaged::Length { found, .. } if *found < HEAD_BYTES => {
+                write!(f, "a saved book of which only {found} bytes are here; restore the last good copy")
+            }
             Damaged::Length { expected, found } => {
-                write!(f, "a saved book of {expected} bytes of which {found} are here; restore the last good copy")
+                write!(f, "a saved book of {expected} bytes, and {found} are here; restore the last good copy")
             }
             Damaged::Checksum => write!(
                 f,
@@ -74,6 +77,11 @@ const TABLE: [u64; 256] = {
 /// The checksum of bytes.
 pub fn checksum(bytes: &[u8]) -> u64 {
     !bytes.iter().fold(!0, |sum, byte| TABLE[(sum as u8 ^ byte) as usize] ^ sum >> 8)
+}
+
+/// The bytes of a saved book with a table of so many records.
+pub fn size(records: usize) -> usize {
+    HEAD_BYTES + BOOK_WORDS * 8 + records * POOL_BYTES + CHECKSUM_BYTES
 }
 
 fn word(bytes: &[u8]) -> u64 {
@@ -108,13 +116,12 @@ fn pool(bytes: &[u8]) -> Pool {
 }
 
 impl Book {
-    /// The book as bytes for a disk. Write them to a new file, sync it, and rename it over the last one, before what the
-    /// calls wrote is sent.
+    /// The book as bytes for a disk. After a call write them to a new file, and after them what is to be sent, sync it, rename
+    /// it over the last one, and sync the folder; then send. After a restart send it again: [`size`] says where the book ends
+    /// in the file.
     pub fn save(&self) -> Vec<u8> {
         let Raw { words, pools } = &self.raw;
-        let mut bytes = Vec::with_capacity(
-            HEAD_BYTES + words.len() * 8 + pools.len() * POOL_BYTES + CHECKSUM_BYTES,
-        );
+        let mut bytes = Vec::with_capacity(size(pools.len()));
         bytes.extend(MARK);
         bytes.extend(VERSION.to_le_bytes());
         bytes.extend((pools.len() as u32).to_le_bytes());
@@ -127,18 +134,14 @@ impl Book {
 
     /// A book from such bytes, or what is wrong with them. Whether it is a sound one is judged by the next call.
     pub fn load(bytes: &[u8]) -> Result<Book, Damaged> {
-        let Some((head, rest)) = bytes.split_at_checked(HEAD_BYTES) else {
-            let expected = HEAD_BYTES + BOOK_WORDS * 8 + CHECKSUM_BYTES;
-            return Err(Damaged::Length { expected, found: bytes.len() });
-        };
-        if head[..8] != MARK {
+        if !MARK.starts_with(&bytes[..bytes.len().min(8)]) {
             return Err(Damaged::Mark);
         }
-        if half(&head[8..12]) != VERSION {
-            return Err(Damaged::Version(half(&head[8..12])));
+        if let Some(version) = bytes.get(8..12).map(half).filter(|version| *version != VERSION) {
+            return Err(Damaged::Version(version));
         }
-        let records = half(&head[12..]) as usize;
-        let expected = HEAD_BYTES + BOOK_WORDS * 8 + records * POOL_BYTES + CHECKSUM_BYTES;
+        let records = bytes.get(12..HEAD_BYTES).map_or(0, half) as usize;
+        let expected = size(records);
         if bytes.len() != expected {
             return Err(Damaged::Length { expected, found: bytes.len() });
         }
@@ -146,7 +149,7 @@ impl Book {
         if checksum(summed) != word(sum) {
             return Err(Damaged::Checksum);
         }
-        let (words, pools) = rest[..rest.len() - CHECKSUM_BYTES].split_at(BOOK_WORDS * 8);
+        let (words, pools) = summed[HEAD_BYTES..].split_at(BOOK_WORDS * 8);
         let words = words.chunks_exact(8).map(word).collect();
         let pools = pools.chunks_exact(POOL_BYTES).map(pool).collect();
         Ok(Book { raw: Raw { words, pools } })
