@@ -118,12 +118,12 @@ fn opening_of(kind: [u8; 2], stamp: Stamp) -> [u8; OPENING_LENGTH]
     ensures { result ≡ opening kind stamp }
 {
     let mut frame = [0; OPENING_LENGTH];
-    output::put_bytes(&mut frame, 0, &START);
-    output::put_bytes(&mut frame, KIND_AT, &kind);
+    output::put(&mut frame, 0, &START);
+    output::put(&mut frame, KIND_AT, &kind);
     put_sequence(&mut frame, NUMBER_AT, stamp.number.0);
-    output::put_bytes(&mut frame, VERSION_AT, b"002");
-    output::put_bytes(&mut frame, SUBSCRIBER_AT, &stamp.subscriber);
-    output::put_bytes(&mut frame, CONNECTION_AT, &stamp.connection);
+    output::put(&mut frame, VERSION_AT, b"002");
+    output::put(&mut frame, SUBSCRIBER_AT, &stamp.subscriber);
+    output::put(&mut frame, CONNECTION_AT, &stamp.connection);
     frame
 }
 
@@ -144,13 +144,13 @@ fn aa_frame(stamp: Stamp, a: Acknowledged) -> [u8; AA_LENGTH]
     ensures { result ≡ aa_bytes stamp a }
 {
     let mut frame = [0; AA_LENGTH];
-    output::put_bytes(&mut frame, 0, &opening_of(AA, stamp));
-    output::put_bytes(&mut frame, INTERNAL_AT, &a.internal);
+    output::put(&mut frame, 0, &opening_of(AA, stamp));
+    output::put(&mut frame, INTERNAL_AT, &a.internal);
     put_message_id(&mut frame, MESSAGE_AT, a.message, a.code);
     output::put_digits(&mut frame, CODE_AT, CODE_WIDTH, a.code);
-    output::put_bytes(&mut frame, TIME_AT, &a.time);
-    output::put_bytes(&mut frame, ORIGINAL_AT, &a.original);
-    output::put_bytes(&mut frame, AA_END_AT, &END);
+    output::put(&mut frame, TIME_AT, &a.time);
+    output::put(&mut frame, ORIGINAL_AT, &a.original);
+    output::put(&mut frame, AA_END_AT, &END);
     frame
 }
 
@@ -159,9 +159,9 @@ fn gap_text(expected: Inbound, received: Inbound) -> [u8; TEXT_LENGTH]
     ensures { result ≡ text expected received }
 {
     let mut words = [0; TEXT_LENGTH];
-    output::put_bytes(&mut words, 0, b"EXPECTED SEQ # ");
+    output::put(&mut words, 0, b"EXPECTED SEQ # ");
     put_sequence(&mut words, EXPECTED_AT, expected.0);
-    output::put_bytes(&mut words, BETWEEN_AT, b", RECEIVED SEQ # ");
+    output::put(&mut words, BETWEEN_AT, b", RECEIVED SEQ # ");
     put_sequence(&mut words, RECEIVED_AT, received.0);
     output::put_blanks(&mut words, BLANKS_AT, BLANKS_LENGTH);
     words
@@ -172,10 +172,10 @@ fn tx_frame(stamp: Stamp, expected: Inbound, received: Inbound) -> [u8; TX_LENGT
     ensures { result ≡ tx_bytes stamp expected received }
 {
     let mut frame = [0; TX_LENGTH];
-    output::put_bytes(&mut frame, 0, &opening_of(TX, stamp));
-    output::put_bytes(&mut frame, CATEGORY_AT, b"GD");
-    output::put_bytes(&mut frame, TEXT_AT, &gap_text(expected, received));
-    output::put_bytes(&mut frame, TX_END_AT, &END);
+    output::put(&mut frame, 0, &opening_of(TX, stamp));
+    output::put(&mut frame, CATEGORY_AT, b"GD");
+    output::put(&mut frame, TEXT_AT, &gap_text(expected, received));
+    output::put(&mut frame, TX_END_AT, &END);
     frame
 }
 
@@ -185,7 +185,7 @@ pub fn put_aa(out: &mut [u8], at: usize, last: Stamp, a: Acknowledged) -> Stamp
     ensures stamped { result ≡ next_stamp last }
 {
     let stamp = last.next();
-    output::put_bytes(out, at, &aa_frame(stamp, a));
+    output::put(out, at, &aa_frame(stamp, a));
     stamp
 }
 
@@ -195,6 +195,6 @@ pub fn put_tx(out: &mut [u8], at: usize, last: Stamp, expected: Inbound, receive
     ensures stamped { result ≡ next_stamp last }
 {
     let stamp = last.next();
-    output::put_bytes(out, at, &tx_frame(stamp, expected, received));
+    output::put(out, at, &tx_frame(stamp, expected, received));
     stamp
 }

@@ -43,7 +43,7 @@ use Rattle.book.proofs.Stepping.{on_move, on_lots, dk_move, dk_lots, cc_move, cc
 
 -- a state in step with the history of the same calls
 abbrev pub InStep : Values → State → History → Type 0
-InStep v s h = Beside v s.book.values.lastMessageId (trades_of s.book.values) (live_of s.book s.table) h
+InStep v s h = Beside v s.book.values.last_message_id (trades_of s.book.values) (live_of s.book s.table) h
 
 -- ---- an accepted call is a move
 
@@ -61,34 +61,34 @@ canceled_exact c e f =
     (by_record c (ap lists_lots e) f))
     (ap is_cc e)
 
-module _ (v : Values) (c : Call) (h : History) (w : Beside v c.book.values.lastMessageId (trades c) (live c) h) where
+module _ (v : Values) (c : Call) (h : History) (w : Beside v c.book.values.last_message_id (trades c) (live c) h) where
   -- the flags of a message's lots, its move, and that the history makes the same lots of it
   pub record Moves (by_on by_dk : Bool) : Type 0 where
     pub moves : Move (trades c) (live c) h.lots (target_of c.body) (listed c.body) (dues c) by_on by_dk
-    pub makes : moved_lots h.lastMessageId h.lots (target_of c.body) (listed c.body) (dues c) by_on by_dk
-        ≡ lots_after (type_of c.body) v (h.lastMessageId + 1) c.body h.lots
+    pub makes : moved_lots h.last_message_id h.lots (target_of c.body) (listed c.body) (dues c) by_on by_dk
+        ≡ lots_after (type_of c.body) v (h.last_message_id + 1) c.body h.lots
 
   moves_on : type_of c.body ≡ On → Fine c → Moves true false
   moves_on e f =
       record {
-        moves = on_move v c.book.values.lastMessageId (trades c) (live c) h w c.body e (is_cc (type_of c.body)) (f.formed (ap brings_lots e)) (f.repeated (ap brings_lots e))
+        moves = on_move v c.book.values.last_message_id (trades c) (live c) h w c.body e (is_cc (type_of c.body)) (f.formed (ap brings_lots e)) (f.repeated (ap brings_lots e))
             (f.par_enough (ap brings_lots e));
-        makes = rw e (on_lots v c.book.values.lastMessageId (trades c) (live c) h w c.body e);
+        makes = rw e (on_lots v c.book.values.last_message_id (trades c) (live c) h w c.body e);
       }
 
   moves_dk : type_of c.body ≡ Dk → Fine c → Moves false true
   moves_dk e f =
       record {
-        moves = dk_move v c.book.values.lastMessageId (trades c) (live c) h w c.body (f.target_live (ap lists_lots e)) (listed_exact_law c (ap lists_lots e) f) e;
-        makes = rw e (dk_lots v c.book.values.lastMessageId (trades c) (live c) h w c.body (f.target_live (ap lists_lots e)) (listed_exact_law c (ap lists_lots e) f) e);
+        moves = dk_move v c.book.values.last_message_id (trades c) (live c) h w c.body (f.target_live (ap lists_lots e)) (listed_exact_law c (ap lists_lots e) f) e;
+        makes = rw e (dk_lots v c.book.values.last_message_id (trades c) (live c) h w c.body (f.target_live (ap lists_lots e)) (listed_exact_law c (ap lists_lots e) f) e);
       }
 
   moves_cc : type_of c.body ≡ Cc → Fine c → Moves false false
   moves_cc e f =
       record {
-        moves = cc_move v c.book.values.lastMessageId (trades c) (live c) h w c.body (f.target_live (ap lists_lots e)) (listed_exact_law c (ap lists_lots e) f) e
+        moves = cc_move v c.book.values.last_message_id (trades c) (live c) h w c.body (f.target_live (ap lists_lots e)) (listed_exact_law c (ap lists_lots e) f) e
             (is_cc (type_of c.body)) (f.formed (ap brings_lots e)) (f.repeated (ap brings_lots e)) (f.balanced (ap is_cc e)) (canceled_exact c e f) (f.par_enough (ap brings_lots e));
-        makes = rw e (cc_lots v c.book.values.lastMessageId (trades c) (live c) h w c.body (f.target_live (ap lists_lots e)) (listed_exact_law c (ap lists_lots e) f) e
+        makes = rw e (cc_lots v c.book.values.last_message_id (trades c) (live c) h w c.body (f.target_live (ap lists_lots e)) (listed_exact_law c (ap lists_lots e) f) e
             (is_cc (type_of c.body)) (f.formed (ap brings_lots e)) (f.grouped (ap is_cc e)));
       }
 
@@ -106,32 +106,32 @@ module _ (v : Values) (c : Call) (h : History) (w : Beside v c.book.values.lastM
 -- ---- every call
 
 carry : (v : Values) (last : ℕ) (ts : List Trade) (rs : List Pool) (id : ℕ) (xs ys : List Brought) → xs ≡ ys
-    → Beside v last ts rs (record { lastMessageId = id; lots = xs }) → Beside v last ts rs (record { lastMessageId = id; lots = ys })
+    → Beside v last ts rs (record { last_message_id = id; lots = xs }) → Beside v last ts rs (record { last_message_id = id; lots = ys })
 carry v last ts rs id xs ys p w = rw p at w
 
-moved : (v : Values) (c : Call) (h : History) → Beside v c.book.values.lastMessageId (trades c) (live c) h → is_accepted (answer_of c) ≡ true
-    → Beside v (c.book.values.lastMessageId + 1) (take c.book.values.lent.tradeCount (trades_moved c)) (live_moved c)
-    (record { lastMessageId = h.lastMessageId + 1; lots = lots_after (type_of c.body) v (h.lastMessageId + 1) c.body h.lots })
+moved : (v : Values) (c : Call) (h : History) → Beside v c.book.values.last_message_id (trades c) (live c) h → is_accepted (answer_of c) ≡ true
+    → Beside v (c.book.values.last_message_id + 1) (take c.book.values.lent.trade_count (trades_moved c)) (live_moved c)
+    (record { last_message_id = h.last_message_id + 1; lots = lots_after (type_of c.body) v (h.last_message_id + 1) c.body h.lots })
 unfolding live_moved trades_moved
 moved v c h w a =
     let (by_on, (by_dk, m)) = accepted_moves v c h w a in
-    rw (take_moved (taken c) (dues c) 0 c.book.values.lent.tradeCount c.book.values.trades)
-    (carry v (c.book.values.lastMessageId + 1) (moved_trades (trades c) (live c) (target_of c.body) (listed c.body) (dues c))
-    (moved_records c.book.values.lastMessageId (live c) (target_of c.body) (listed c.body) (dues c)) (h.lastMessageId + 1)
-    (moved_lots h.lastMessageId h.lots (target_of c.body) (listed c.body) (dues c) by_on by_dk)
-    (lots_after (type_of c.body) v (h.lastMessageId + 1) c.body h.lots) m.makes
-    (move v c.book.values.lastMessageId (trades c) (live c) h w (target_of c.body) (listed c.body) (dues c) by_on by_dk m.moves))
+    rw (take_moved (taken c) (dues c) 0 c.book.values.lent.trade_count c.book.values.trades)
+    (carry v (c.book.values.last_message_id + 1) (moved_trades (trades c) (live c) (target_of c.body) (listed c.body) (dues c))
+    (moved_records c.book.values.last_message_id (live c) (target_of c.body) (listed c.body) (dues c)) (h.last_message_id + 1)
+    (moved_lots h.last_message_id h.lots (target_of c.body) (listed c.body) (dues c) by_on by_dk)
+    (lots_after (type_of c.body) v (h.last_message_id + 1) c.body h.lots) m.makes
+    (move v c.book.values.last_message_id (trades c) (live c) h w (target_of c.body) (listed c.body) (dues c) by_on by_dk m.moves))
 
-pub call_in_step : (v : Values) (c : Call) (h : History) → Beside v c.book.values.lastMessageId (trades c) (live c) h
-    → Beside v (book_after c).values.lastMessageId (trades_of (book_after c).values) (live_of (book_after c) (table_after c)) (feed v h c.body (is_accepted (answer_of c)))
+pub call_in_step : (v : Values) (c : Call) (h : History) → Beside v c.book.values.last_message_id (trades c) (live c) h
+    → Beside v (book_after c).values.last_message_id (trades_of (book_after c).values) (live_of (book_after c) (table_after c)) (feed v h c.body (is_accepted (answer_of c)))
 unfolding book_after table_after feed table_moved
 call_in_step v c h w = go (is_accepted (answer_of c)) refl
   where
     go : (a : Bool) → is_accepted (answer_of c) ≡ a
-        → Beside v (cond a (c.book.values.lastMessageId + 1) c.book.values.lastMessageId)
-        (take c.book.values.lent.tradeCount (cond a (trades_moved c) c.book.values.trades))
+        → Beside v (cond a (c.book.values.last_message_id + 1) c.book.values.last_message_id)
+        (take c.book.values.lent.trade_count (cond a (trades_moved c) c.book.values.trades))
         (take (cond a (length (live_moved c)) c.book.live) (cond a (live_moved c ++ replicate (length c.table - length (live_moved c)) no_pool) c.table))
-        (cond a (record { lastMessageId = h.lastMessageId + 1; lots = lots_after (type_of c.body) v (h.lastMessageId + 1) c.body h.lots }) h)
+        (cond a (record { last_message_id = h.last_message_id + 1; lots = lots_after (type_of c.body) v (h.last_message_id + 1) c.body h.lots }) h)
     go true e = rw (take-append_seam (live_moved c) (replicate (length c.table - length (live_moved c)) no_pool)) (moved v c h w e)
     go false e = w
 
@@ -143,8 +143,8 @@ opened_in_step v table =
     record {
       last = refl;
       table = refl;
-      terms = rw (take_map at_par v.lent.tradeCount v.trades) (at_par_blind at_par (λ t. refl) (trades_of v));
-      pars = λ t lt. rw (take_map at_par v.lent.tradeCount v.trades) (omega (arith, ap (λ (x : Trade). x.openPar) (get_or-map at_par (trades_of v) t no_trade)));
+      terms = rw (take_map at_par v.lent.trade_count v.trades) (at_par_blind at_par (λ t. refl) (trades_of v));
+      pars = λ t lt. rw (take_map at_par v.lent.trade_count v.trades) (omega (arith, ap (λ (x : Trade). x.open_par) (get_or-map at_par (trades_of v) t no_trade)));
       lots = record { fine = λ g m. absurd (Memᴰ.not-nil m); apart = tt; pair = λ g k m n e. absurd (Memᴰ.not-nil m) };
       millions = λ t. refl;
     }
@@ -172,11 +172,11 @@ pub in_step_millions : (v : Values) (s : State) (h : History) → InStep v s h �
 in_step_millions v s h w t = omega (arith, standing_millions_law v s h w t, w.millions t)
 
 -- the open pars agree with the table: what the soundness of a book asks of them
-pars_from_law : (i : ℕ) (ts : List Trade) (rs : List Pool) → ((j : ℕ) → j < length ts → (trade_at ts j).openPar + trade_weight (i + j) rs ≡ (trade_at ts j).par) → pars_from i ts rs ≡ true
+pars_from_law : (i : ℕ) (ts : List Trade) (rs : List Pool) → ((j : ℕ) → j < length ts → (trade_at ts j).open_par + trade_weight (i + j) rs ≡ (trade_at ts j).par) → pars_from i ts rs ≡ true
 pars_from_law i [] rs k = refl
 pars_from_law i (t ∷ ts) rs k =
-    both (eqb (t.openPar + trade_weight i rs) t.par) (pars_from (i + 1) ts rs)
-    (eq-eqb (t.openPar + trade_weight i rs) t.par (rw add-zero at (k 0 (omega arith))))
+    both (eqb (t.open_par + trade_weight i rs) t.par) (pars_from (i + 1) ts rs)
+    (eq-eqb (t.open_par + trade_weight i rs) t.par (rw add-zero at (k 0 (omega arith))))
     (pars_from_law (i + 1) ts rs (λ j lt. let e : i + 1 + j ≡ i + suc j = omega arith in rw e (k (suc j) (omega arith))))
 
 pub in_step_pars : (v : Values) (s : State) (h : History) → InStep v s h → pars_hold s ≡ true
@@ -190,13 +190,13 @@ in_step_pars v s h w =
     ∙ ap (λ (t : Trade). t.par) (get_or-map at_par (trades_of v) j no_trade) in
     rw zero-add (omega (arith, par, standing_weight_law v s h w j, w.pars j (omega (arith, same_count v ts w.terms)))))
 
-module _ (v : Values) (c : Call) (h : History) (w : Beside v c.book.values.lastMessageId (trades c) (live c) h) (a : is_accepted (answer_of c) ≡ true) where
+module _ (v : Values) (c : Call) (h : History) (w : Beside v c.book.values.last_message_id (trades c) (live c) h) (a : is_accepted (answer_of c) ≡ true) where
   exact_flat : lists_lots (type_of c.body) ≡ true → Exact (target_of c.body) (listed c.body) (flat stands h.lots)
   exact_flat e = rw w.table at (exact (target_of c.body) (listed c.body) (live c) (listed_exact_law c e (fine c a)))
 
   touched_stands : lists_lots (type_of c.body) ≡ true → (g : Brought) → g ∈ h.lots → touches (target_of c.body) (listed c.body) g ≡ true → g.offs ≡ 0
   touched_stands e g m q =
-      eqb-true g.offs 0 (first_time (target_of c.body) (listed c.body) h.lots (length (trades_of v)) h.lastMessageId w.lots (exact_flat e).live g m q)
+      eqb-true g.offs 0 (first_time (target_of c.body) (listed c.body) h.lots (length (trades_of v)) h.last_message_id w.lots (exact_flat e).live g m q)
 
   pub taken_stands : (g : Brought) → g ∈ h.lots → takes_off c.body g ≡ true → g.offs ≡ 0
   unfolding takes_off

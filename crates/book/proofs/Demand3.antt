@@ -111,7 +111,7 @@ demand3 v table o ps = traced v table o (after_all (opened_state v table) ps) (f
 
 -- a refused call moves no trade, no live pool and no message ID: trades, last ID, live count and table are as they were
 pub refused_keeps : (s : State) (p : Put) → is_accepted (answer_of (call_of s p)) ≡ false
-    → ((after s p).book.values.trades ≡ s.book.values.trades) × ((after s p).book.values.lastMessageId ≡ s.book.values.lastMessageId)
+    → ((after s p).book.values.trades ≡ s.book.values.trades) × ((after s p).book.values.last_message_id ≡ s.book.values.last_message_id)
     × ((after s p).book.live ≡ s.book.live) × ((after s p).table ≡ s.table)
 unfolding after book_after table_after
 refused_keeps s p e = (rw e, rw e, rw e, rw e)

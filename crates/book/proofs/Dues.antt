@@ -67,23 +67,23 @@ module _ (ts : List Trade) (off : List Pool) (ds : List Due) (e : dues_fit ts of
   pub held_range : (d : Due) → d ∈ ds → d.to < length ts
   held_range d m = ltb-true d.to (length ts) (and_left (ltb d.to (length ts)) _ (held d m))
 
-  pub held_room : (u : ℕ) → due_weight u ds ≤ (trade_at ts u).openPar + trade_weight u off
+  pub held_room : (u : ℕ) → due_weight u ds ≤ (trade_at ts u).open_par + trade_weight u off
   unfolding due_weight
   held_room u = go (due_or_none lot_weight u ds)
     where
-      go : ((d : Due) × (d ∈ ds) × (d.to ≡ u)) ⊎ (sum_of (due_share u lot_weight) ds ≡ 0) → due_weight u ds ≤ (trade_at ts u).openPar + trade_weight u off
+      go : ((d : Due) × (d ∈ ds) × (d.to ≡ u)) ⊎ (sum_of (due_share u lot_weight) ds ≡ 0) → due_weight u ds ≤ (trade_at ts u).open_par + trade_weight u off
       go (inl (d, m, q)) =
-          leb-true (due_weight u ds) ((trade_at ts u).openPar + trade_weight u off)
-          (and_right (ltb u (length ts)) (leb (due_weight u ds) ((trade_at ts u).openPar + trade_weight u off)) (rw q at (held d m)))
+          leb-true (due_weight u ds) ((trade_at ts u).open_par + trade_weight u off)
+          (and_right (ltb u (length ts)) (leb (due_weight u ds) ((trade_at ts u).open_par + trade_weight u off)) (rw q at (held d m)))
       go (inr z) = omega arith
 
 -- where all go to one trade, and some lot does, it is asked of that trade alone
 pub fit_one : (ts : List Trade) (off : List Pool) (t : ℕ) (l : Lot) (ls : List Lot)
-    → dues_fit ts off (map (due t) (l ∷ ls)) ≡ (ltb t (length ts) && leb (sum_of lot_weight (l ∷ ls)) ((trade_at ts t).openPar + trade_weight t off))
+    → dues_fit ts off (map (due t) (l ∷ ls)) ≡ (ltb t (length ts) && leb (sum_of lot_weight (l ∷ ls)) ((trade_at ts t).open_par + trade_weight t off))
 unfolding due_weight
 fit_one ts off t l ls =
     alike (map (due t) ls) (all_due t ls)
-    ∙ ap (λ (n : ℕ). ltb t (length ts) && leb n ((trade_at ts t).openPar + trade_weight t off)) (sum_due t lot_weight t (l ∷ ls) ∙ rw (eq-eqb t t refl))
+    ∙ ap (λ (n : ℕ). ltb t (length ts) && leb n ((trade_at ts t).open_par + trade_weight t off)) (sum_due t lot_weight t (l ∷ ls) ∙ rw (eq-eqb t t refl))
   where
     alike : (ds : List Due) → AllTo t ds → (par_holds ts off (map (due t) (l ∷ ls)) t && all (λ (d : Due). par_holds ts off (map (due t) (l ∷ ls)) d.to) ds) ≡ par_holds ts off (map (due t) (l ∷ ls)) t
     alike ds k = go (par_holds ts off (map (due t) (l ∷ ls)) t) refl
@@ -123,7 +123,7 @@ module _ (body : List ℕ) (ts : List Trade) (rs : List Pool) where
   -- 38 of them, where there is one
   pub dues_fit_law : (off : List Pool) (l : Lot) (ls : List Lot) → brought body ≡ l ∷ ls
       → dues_fit ts off (dues_by body ts rs)
-      ≡ (ltb (trade_due body ts rs) (length ts) && leb (brought_weight body) ((trade_at ts (trade_due body ts rs)).openPar + trade_weight (trade_due body ts rs) off))
+      ≡ (ltb (trade_due body ts rs) (length ts) && leb (brought_weight body) ((trade_at ts (trade_due body ts rs)).open_par + trade_weight (trade_due body ts rs) off))
   unfolding dues_by brought_weight
   dues_fit_law off l ls e = rw e (fit_one ts off (trade_due body ts rs) l ls)
 

@@ -41,14 +41,14 @@ module _ {B : Type 0} (f : Trade → B) (blind : (t : Trade) (cents : ℕ) → f
 -- where one trade has all that goes and comes, it alone moves
 module _ (off : List Pool) (ds : List Due) (t n m : ℕ) (goes : (u : ℕ) → trade_weight u off ≡ cond (eqb t u) n 0) (comes : (u : ℕ) → due_weight u ds ≡ cond (eqb t u) m 0) where
   abbrev one : Trade → Trade
-  one x = with_open_par x ((x.openPar + n) - m)
+  one x = with_open_par x ((x.open_par + n) - m)
 
   here : (i : ℕ) → t ≡ i → (x : Trade) → trade_moved off ds i x ≡ one x
   here i e x = rw (goes i, comes i, eq-eqb t i e)
 
   elsewhere : (i : ℕ) → (t ≡ i → ⊥) → (x : Trade) → trade_moved off ds i x ≡ x
   elsewhere i e x =
-      let z : (x.openPar + 0) - 0 ≡ x.openPar = omega arith in
+      let z : (x.open_par + 0) - 0 ≡ x.open_par = omega arith in
       rw (goes i, comes i, ne_eqb t i e) (ap (with_open_par x) z)
 
   after_it : (i : ℕ) → t < i → (ts : List Trade) → ts ≡ pars_moved off ds i ts
@@ -93,35 +93,35 @@ exchange v ts last l o =
     record {
       trades = ts;
       lent = v.lent;
-      lastMessageId = last;
+      last_message_id = last;
       connection = record { id = v.connection.id; line = l; outbound = o };
     }
 
 pub values_stay : (v : Values) (ts : List Trade) (last : ℕ) (l : Line) (o : Outbound) → values_fine v ≡ true → leb last eleven_digits_max ≡ true → leb o.0 outbound_max ≡ true
-    → trades_fine (holidays_of v) (take v.lent.tradeCount ts) ≡ trades_fine (holidays_of v) (trades_of v) → values_fine (exchange v ts last l o) ≡ true
+    → trades_fine (holidays_of v) (take v.lent.trade_count ts) ≡ trades_fine (holidays_of v) (trades_of v) → values_fine (exchange v ts last l o) ≡ true
 unfolding values_fine
 values_stay v ts last l o e p q r =
-    exchanged (leb v.lent.tradeCount trades_max && leb v.lent.holidayCount holidays_max) (all is_date (holidays_of v)) (account_fine v.lent.subscriber) (account_fine v.connection.id) (limits_fine v.lent.limits)
-    (leb v.lastMessageId eleven_digits_max) (leb v.connection.outbound.0 outbound_max) (trades_fine (holidays_of v) (trades_of v)) e
-    (leb last eleven_digits_max) (leb o.0 outbound_max) (trades_fine (holidays_of v) (take v.lent.tradeCount ts)) p q r
+    exchanged (leb v.lent.trade_count trades_max && leb v.lent.holiday_count holidays_max) (all is_date (holidays_of v)) (account_fine v.lent.subscriber) (account_fine v.connection.id) (limits_fine v.lent.limits)
+    (leb v.last_message_id eleven_digits_max) (leb v.connection.outbound.0 outbound_max) (trades_fine (holidays_of v) (trades_of v)) e
+    (leb last eleven_digits_max) (leb o.0 outbound_max) (trades_fine (holidays_of v) (take v.lent.trade_count ts)) p q r
 
 module _ (v : Values) (e : values_fine v ≡ true) where
-  ranges : (leb v.lastMessageId eleven_digits_max && (leb v.connection.outbound.0 outbound_max && trades_fine (holidays_of v) (trades_of v))) ≡ true
+  ranges : (leb v.last_message_id eleven_digits_max && (leb v.connection.outbound.0 outbound_max && trades_fine (holidays_of v) (trades_of v))) ≡ true
   unfolding values_fine
   ranges =
       past (limits_fine v.lent.limits) (past (account_fine v.connection.id) (past (account_fine v.lent.subscriber) (past (all is_date (holidays_of v))
-      (past (leb v.lent.tradeCount trades_max && leb v.lent.holidayCount holidays_max) e))))
+      (past (leb v.lent.trade_count trades_max && leb v.lent.holiday_count holidays_max) e))))
     where
       past : (a : Bool) {b : Bool} → (a && b) ≡ true → b ≡ true
       past a {b} h = and_right a b h
 
-  pub last_within : leb v.lastMessageId eleven_digits_max ≡ true
-  last_within = and_left (leb v.lastMessageId eleven_digits_max) (leb v.connection.outbound.0 outbound_max && trades_fine (holidays_of v) (trades_of v)) ranges
+  pub last_within : leb v.last_message_id eleven_digits_max ≡ true
+  last_within = and_left (leb v.last_message_id eleven_digits_max) (leb v.connection.outbound.0 outbound_max && trades_fine (holidays_of v) (trades_of v)) ranges
 
   pub outbound_within : leb v.connection.outbound.0 outbound_max ≡ true
   outbound_within =
       and_left (leb v.connection.outbound.0 outbound_max) (trades_fine (holidays_of v) (trades_of v))
-      (and_right (leb v.lastMessageId eleven_digits_max) (leb v.connection.outbound.0 outbound_max && trades_fine (holidays_of v) (trades_of v)) ranges)
+      (and_right (leb v.last_message_id eleven_digits_max) (leb v.connection.outbound.0 outbound_max && trades_fine (holidays_of v) (trades_of v)) ranges)
 
 -- ---- the outbound number stops at its highest
 pub next_within : (o : Outbound) → leb o.0 outbound_max ≡ true → leb (next_outbound o).0 outbound_max ≡ true

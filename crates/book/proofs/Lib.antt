@@ -23,3 +23,4 @@ pub mod Calls
 pub mod Demand3
 pub mod Undamaged
 pub mod Unsound
+pub mod Zeros

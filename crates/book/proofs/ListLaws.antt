@@ -1,17 +1,13 @@
 -- Laws of tests, of lists kept by a test and of a search, that nothing of the book stands in.
-use Prim.Native.Nat.{ℕ, zero, suc, ◌+◌, ◌≤◌, ◌<◌}
+use Prim.Native.Nat.{ℕ, zero, suc, ◌+◌, ◌≤◌}
 use mathlib.Core.Path.{◌≡◌, refl, sym, ap, ◌∙◌}
 use mathlib.Core.Logic.{◌⊎◌, inl, inr}
 use mathlib.Core.List.Memᴰ
 use mathlib.Core.List.{List, [], ◌∷◌, ◌++◌, map}
 use mathlib.Core.Bool.{Bool, true, false, cond, not, ◌&&◌, ◌||◌, false≢true, true≢false}
 use native.Mathlib.Omega.{arith}
-use lib.ListN.{length, get_or, drop, replicate, drop_of_length-le}
-use lib.Dec.{eqb}
-use borrow.Author.Tests.{eq-eqb, ne_eqb}
+use lib.ListN.{length, replicate}
 use Rattle.lists.specs.Lists.{keep, any, all, sum_of}
-use Rattle.lists.proofs.Parts.{drop_turn}
-use Rattle.lists.proofs.Looking.{any_stop, any_more}
 use Rattle.lists.proofs.Tests.{◌∈◌, and_left, and_right, both}
 
 -- ---- tests
@@ -158,14 +154,3 @@ pairwise_map {A} before over f h (x ∷ xs) e =
     let near : all (λ (y : A). over (f x) (f y)) xs ≡ true = sym (all_of_map (over (f x)) f xs) ∙ and_left (all (over (f x)) (map f xs)) (pairwise over (map f xs)) e in
     both (all (before x) xs) (pairwise before xs) (all_implied (λ (y : A). over (f x) (f y)) (before x) (h x) xs near)
     (pairwise_map before over f h xs (and_right (all (over (f x)) (map f xs)) (pairwise over (map f xs)) e))
-
--- ---- a number looked for, one after another: where it stands in none before i, what is left at i decides
-module _ (n : ℕ) (xs : List ℕ) (i : ℕ) (left : any (eqb n) (drop i xs) ≡ any (eqb n) xs) where
-  pub looked_found : i < length xs → n ≡ get_or xs i 0 → true ≡ any (eqb n) xs
-  looked_found h e = sym (any_stop (eqb n) (drop_turn xs i 0 h) (eq-eqb n (get_or xs i 0) e)) ∙ left
-
-  pub looked_on : i < length xs → (n ≡ get_or xs i 0 → ⊥) → any (eqb n) (drop (i + 1) xs) ≡ any (eqb n) xs
-  looked_on h e = sym (any_more (eqb n) (drop_turn xs i 0 h) (ne_eqb n (get_or xs i 0) e)) ∙ left
-
-  pub looked_through : length xs ≤ i → false ≡ any (eqb n) xs
-  looked_through h = sym (ap (any (eqb n)) (drop_of_length-le xs {i = i} h)) ∙ left

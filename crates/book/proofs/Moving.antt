@@ -31,12 +31,12 @@ use Rattle.book.proofs.Bringing.{standing_bring, ons_bring, dks_bring, lots_brin
 
 -- the last ID, the trades and the live records of a book, beside the history of the same calls
 pub record Beside (v : Values) (id : ℕ) (ts : List Trade) (rs : List Pool) (h : History) : Type 0 where
-  pub last : id ≡ h.lastMessageId
+  pub last : id ≡ h.last_message_id
   pub table : rs ≡ flat stands h.lots
   -- the trades are opening's but for their open par
   pub terms : map at_par ts ≡ map at_par (trades_of v)
-  pub pars : (t : ℕ) → t < length (trades_of v) → (trade_at ts t).openPar + standing_weight t h.lots ≡ (trade_at (trades_of v) t).par
-  pub lots : Lots (length (trades_of v)) h.lastMessageId h.lots
+  pub pars : (t : ℕ) → t < length (trades_of v) → (trade_at ts t).open_par + standing_weight t h.lots ≡ (trade_at (trades_of v) t).par
+  pub lots : Lots (length (trades_of v)) h.last_message_id h.lots
   pub millions : (t : ℕ) → sum_of (trade_share t (standing lot_millions)) h.lots + millions_by_dks t h.lots ≡ millions_by_ons t h.lots
 
 pub same_count : (v : Values) (ts : List Trade) → map at_par ts ≡ map at_par (trades_of v) → length ts ≡ length (trades_of v)
@@ -57,10 +57,10 @@ sums_at i (t ∷ ts) hs (suc j) lt =
 
 pub same_opens : (v : Values) (last : ℕ) (ts : List Trade) (rs : List Pool) (h : History) → Beside v last ts rs h → history_sums 0 (trades_of v) h.lots ≡ open_pars ts
 same_opens v last ts rs h w =
-    ext_get_or 0 (history_sums 0 (trades_of v) h.lots) (open_pars ts) (sums_length 0 (trades_of v) h.lots ∙ sym (same_count v ts w.terms) ∙ sym (length-map ts (λ (t : Trade). t.openPar)))
+    ext_get_or 0 (history_sums 0 (trades_of v) h.lots) (open_pars ts) (sums_length 0 (trades_of v) h.lots ∙ sym (same_count v ts w.terms) ∙ sym (length-map ts (λ (t : Trade). t.open_par)))
     (λ i lt.
     let l : i < length (trades_of v) = omega (arith, sums_length 0 (trades_of v) h.lots) in
-    sums_at 0 (trades_of v) h.lots i l ∙ rw zero-add (omega (arith, w.pars i l)) ∙ sym (get_or-map (λ (t : Trade). t.openPar) ts i no_trade))
+    sums_at 0 (trades_of v) h.lots i l ∙ rw zero-add (omega (arith, w.pars i l)) ∙ sym (get_or-map (λ (t : Trade). t.open_par) ts i no_trade))
 
 -- ---- millions when lots are taken off
 
@@ -104,7 +104,7 @@ pub record Move (ts : List Trade) (rs : List Pool) (hs : List Brought) (tgt : Op
   pub exact : Exact tgt fs rs
   pub range : (d : Due) → d ∈ ds → d.to < length ts
   pub one : (t : ℕ) × AllTo t ds
-  pub room : (u : ℕ) → due_weight u ds ≤ (trade_at ts u).openPar + trade_weight u (keep (is_taken tgt fs) rs)
+  pub room : (u : ℕ) → due_weight u ds ≤ (trade_at ts u).open_par + trade_weight u (keep (is_taken tgt fs) rs)
   pub apart : distinct (fields_of_lots (due_lots ds)) ≡ true
   pub even : (u : ℕ) → cond by_dk (sum_of (trade_share u (gone tgt fs lot_millions)) hs) 0 + sum_of (due_share u lot_millions) ds
       ≡ sum_of (trade_share u (gone tgt fs lot_millions)) hs + cond by_on (sum_of (due_share u lot_millions) ds) 0
@@ -121,23 +121,23 @@ moved_lots last hs tgt fs ds by_on by_dk = map (take_off by_dk tgt fs) hs ++ bri
 
 -- a trade's open par after it
 moved_at : (off : List Pool) (ds : List Due) (i : ℕ) (ts : List Trade) (j : ℕ) → j < length ts
-    → (trade_at (pars_moved off ds i ts) j).openPar ≡ ((trade_at ts j).openPar + trade_weight (i + j) off) - due_weight (i + j) ds
+    → (trade_at (pars_moved off ds i ts) j).open_par ≡ ((trade_at ts j).open_par + trade_weight (i + j) off) - due_weight (i + j) ds
 moved_at off ds i [] j lt = absurd (omega arith)
 moved_at off ds i (t ∷ ts) zero lt = rw add-zero
 moved_at off ds i (t ∷ ts) (suc j) lt =
     let e : i + 1 + j ≡ i + suc j = omega arith in
-    moved_at off ds (i + 1) ts j (omega arith) ∙ ap (λ (k : ℕ). ((trade_at ts j).openPar + trade_weight k off) - due_weight k ds) e
+    moved_at off ds (i + 1) ts j (omega arith) ∙ ap (λ (k : ℕ). ((trade_at ts j).open_par + trade_weight k off) - due_weight k ds) e
 
 module _ (v : Values) (ts : List Trade) (h : History) (tgt : Option ℕ) (fs : List Fields) (ds : List Due) (by_on by_dk : Bool)
-    (w : Beside v h.lastMessageId ts (flat stands h.lots) h) (mv : Move ts (flat stands h.lots) h.lots tgt fs ds by_on by_dk) where
+    (w : Beside v h.last_message_id ts (flat stands h.lots) h) (mv : Move ts (flat stands h.lots) h.lots tgt fs ds by_on by_dk) where
   abbrev next : List Brought
-  next = moved_lots h.lastMessageId h.lots tgt fs ds by_on by_dk
+  next = moved_lots h.last_message_id h.lots tgt fs ds by_on by_dk
 
   -- a sum over the lots after it is that over the old ones and that over the new ones
-  parted : (f : Brought → ℕ) → sum_of f next ≡ sum_of f (map (take_off by_dk tgt fs) h.lots) + sum_of f (bring (h.lastMessageId + 1) by_on 1 ds)
-  parted f = sum_append f (map (take_off by_dk tgt fs) h.lots) (bring (h.lastMessageId + 1) by_on 1 ds)
+  parted : (f : Brought → ℕ) → sum_of f next ≡ sum_of f (map (take_off by_dk tgt fs) h.lots) + sum_of f (bring (h.last_message_id + 1) by_on 1 ds)
+  parted f = sum_append f (map (take_off by_dk tgt fs) h.lots) (bring (h.last_message_id + 1) by_on 1 ds)
 
-  move_pars : (u : ℕ) → u < length (trades_of v) → (trade_at (moved_trades ts (flat stands h.lots) tgt fs ds) u).openPar + standing_weight u next ≡ (trade_at (trades_of v) u).par
+  move_pars : (u : ℕ) → u < length (trades_of v) → (trade_at (moved_trades ts (flat stands h.lots) tgt fs ds) u).open_par + standing_weight u next ≡ (trade_at (trades_of v) u).par
   unfolding standing_weight due_weight
   move_pars u lu =
       rw (moved_at (keep (is_taken tgt fs) (flat stands h.lots)) ds 0 ts u (omega (arith, same_count v ts w.terms)), zero-add)
@@ -145,10 +145,10 @@ module _ (v : Values) (ts : List Trade) (h : History) (tgt : Option ℕ) (fs : L
         arith,
         mv.room u,
         w.pars u lu,
-        gone_weight tgt fs h.lots (length (trades_of v)) h.lastMessageId w.lots mv.exact.whole u,
+        gone_weight tgt fs h.lots (length (trades_of v)) h.last_message_id w.lots mv.exact.whole u,
         standing_take tgt fs h.lots lot_weight by_dk u,
         parted (trade_share u (standing lot_weight)),
-        standing_bring (h.lastMessageId + 1) by_on lot_weight u 1 ds,
+        standing_bring (h.last_message_id + 1) by_on lot_weight u 1 ds,
       ))
 
   move_millions : (u : ℕ) → sum_of (trade_share u (standing lot_millions)) next + millions_by_dks u next ≡ millions_by_ons u next
@@ -159,18 +159,18 @@ module _ (v : Values) (ts : List Trade) (h : History) (tgt : Option ℕ) (fs : L
         w.millions u,
         mv.even u,
         standing_take tgt fs h.lots lot_millions by_dk u,
-        dks_take tgt fs h.lots u by_dk (first_time tgt fs h.lots (length (trades_of v)) h.lastMessageId w.lots mv.exact.live),
+        dks_take tgt fs h.lots u by_dk (first_time tgt fs h.lots (length (trades_of v)) h.last_message_id w.lots mv.exact.live),
         ons_take tgt fs h.lots u by_dk,
         parted (trade_share u (standing lot_millions)),
         parted (trade_share u (λ (g : Brought). g.dks * lot_millions g.lot)),
         parted (trade_share u (λ (g : Brought). cond g.by_on (lot_millions g.lot) 0)),
-        standing_bring (h.lastMessageId + 1) by_on lot_millions u 1 ds,
-        dks_bring (h.lastMessageId + 1) by_on u 1 ds,
-        ons_bring (h.lastMessageId + 1) by_on u 1 ds,
+        standing_bring (h.last_message_id + 1) by_on lot_millions u 1 ds,
+        dks_bring (h.last_message_id + 1) by_on u 1 ds,
+        ons_bring (h.last_message_id + 1) by_on u 1 ds,
       )
 
-  move_flat : Beside v (h.lastMessageId + 1) (moved_trades ts (flat stands h.lots) tgt fs ds) (moved_records h.lastMessageId (flat stands h.lots) tgt fs ds)
-      (record { lastMessageId = h.lastMessageId + 1; lots = next })
+  move_flat : Beside v (h.last_message_id + 1) (moved_trades ts (flat stands h.lots) tgt fs ds) (moved_records h.last_message_id (flat stands h.lots) tgt fs ds)
+      (record { last_message_id = h.last_message_id + 1; lots = next })
   move_flat =
       record {
         last = refl;
@@ -178,8 +178,8 @@ module _ (v : Values) (ts : List Trade) (h : History) (tgt : Option ℕ) (fs : L
         terms = moved_blind at_par (λ t cents. refl) (keep (is_taken tgt fs) (flat stands h.lots)) ds 0 ts ∙ w.terms;
         pars = move_pars;
         lots =
-            lots_bring (length (trades_of v)) h.lastMessageId (map (take_off by_dk tgt fs) h.lots)
-            (lots_take tgt fs h.lots (length (trades_of v)) h.lastMessageId w.lots mv.exact.live by_dk) by_on ds mv.one.0
+            lots_bring (length (trades_of v)) h.last_message_id (map (take_off by_dk tgt fs) h.lots)
+            (lots_take tgt fs h.lots (length (trades_of v)) h.last_message_id w.lots mv.exact.live by_dk) by_on ds mv.one.0
             (λ d m. omega (arith, mv.range d m, same_count v ts w.terms)) mv.one.1 mv.apart;
         millions = move_millions;
       }
@@ -187,7 +187,7 @@ module _ (v : Values) (ts : List Trade) (h : History) (tgt : Option ℕ) (fs : L
 -- a move keeps book and history side by side
 pub move : (v : Values) (last : ℕ) (ts : List Trade) (rs : List Pool) (h : History) → Beside v last ts rs h
     → (tgt : Option ℕ) (fs : List Fields) (ds : List Due) (by_on by_dk : Bool) → Move ts rs h.lots tgt fs ds by_on by_dk
-    → Beside v (last + 1) (moved_trades ts rs tgt fs ds) (moved_records last rs tgt fs ds) (record { lastMessageId = h.lastMessageId + 1; lots = moved_lots h.lastMessageId h.lots tgt fs ds by_on by_dk })
+    → Beside v (last + 1) (moved_trades ts rs tgt fs ds) (moved_records last rs tgt fs ds) (record { last_message_id = h.last_message_id + 1; lots = moved_lots h.last_message_id h.lots tgt fs ds by_on by_dk })
 move v last ts rs h w tgt fs ds by_on by_dk mv =
-    let w₀ : Beside v h.lastMessageId ts (flat stands h.lots) h = record { last = refl; table = refl; terms = w.terms; pars = w.pars; lots = w.lots; millions = w.millions } in
+    let w₀ : Beside v h.last_message_id ts (flat stands h.lots) h = record { last = refl; table = refl; terms = w.terms; pars = w.pars; lots = w.lots; millions = w.millions } in
     rw (w.table, w.last) (move_flat v ts h tgt fs ds by_on by_dk w₀ (rw w.table at mv))

@@ -88,11 +88,11 @@ pub opened_sound : (v : Values) (table : List Pool) → opening_fine v table ≡
 unfolding opening_fine opened cleared
 opened_sound v table e =
     let fits : values_fine v ≡ true = and_left (values_fine v) (leb (length table) records_max) e in
-    let same : take v.lent.tradeCount (map at_par v.trades) ≡ map at_par (trades_of v) = take_map at_par v.lent.tradeCount v.trades in
+    let same : take v.lent.trade_count (map at_par v.trades) ≡ map at_par (trades_of v) = take_map at_par v.lent.trade_count v.trades in
     record {
       values =
-          values_stay v (map at_par v.trades) v.lastMessageId start_line v.connection.outbound fits (last_within v fits) (outbound_within v fits)
-          (trades_alike (holidays_of v) (take v.lent.tradeCount (map at_par v.trades)) (trades_of v)
+          values_stay v (map at_par v.trades) v.last_message_id start_line v.connection.outbound fits (last_within v fits) (outbound_within v fits)
+          (trades_alike (holidays_of v) (take v.lent.trade_count (map at_par v.trades)) (trades_of v)
           (ap (map (trade_fine (holidays_of v))) same ∙ at_par_blind (trade_fine (holidays_of v)) (λ (t : Trade). refl) (trades_of v))
           (ap (map trade_name) same ∙ at_par_blind trade_name (λ (t : Trade). refl) (trades_of v)));
       table_short = rw (length-replicate (length table) no_pool) (and_right (values_fine v) (leb (length table) records_max) e);
@@ -117,7 +117,7 @@ module _ (c : Call) (ok : is_accepted (answer_of c) ≡ true) where
   ds = details c.body
 
   abbrev last : ℕ
-  last = c.book.values.lastMessageId
+  last = c.book.values.last_message_id
 
   -- new lots, or none
   abbrev Either : Type 0
@@ -209,16 +209,16 @@ module _ (c : Call) (ok : is_accepted (answer_of c) ≡ true) where
   moved_once s = once_after last stays (live c) (dues c) (old s) s.once new_distinct
 
   -- each is fine by itself
-  opened_trade : brings_lots (type_of c.body) ≡ true → (u : Due) → u ∈ dues c → u.to < c.book.values.lent.tradeCount
+  opened_trade : brings_lots (type_of c.body) ≡ true → (u : Due) → u ∈ dues c → u.to < c.book.values.lent.trade_count
   opened_trade t u m =
-      omega (arith, held_range (trades c) (taken c) (dues c) ((fine c ok).par_enough t) u m, short c.book.values.lent.tradeCount c.book.values.trades)
+      omega (arith, held_range (trades c) (taken c) (dues c) ((fine c ok).par_enough t) u m, short c.book.values.lent.trade_count c.book.values.trades)
     where
       short : (n : ℕ) (ts : List Trade) → length (take n ts) ≤ n
       short zero ts = omega arith
       short (suc n) [] = omega arith
       short (suc n) (x ∷ ts) = omega (arith, short n ts)
 
-  moved_records_law : Sound c.book c.table → (w : Values) → w.lent.tradeCount ≡ c.book.values.lent.tradeCount → w.lastMessageId ≡ last + 1 → all (record_fine w) (live_moved c) ≡ true
+  moved_records_law : Sound c.book c.table → (w : Values) → w.lent.trade_count ≡ c.book.values.lent.trade_count → w.last_message_id ≡ last + 1 → all (record_fine w) (live_moved c) ≡ true
   unfolding live_moved
   moved_records_law s w ec el =
       all_both (record_fine w) (keep stays (live c)) new
@@ -228,7 +228,7 @@ module _ (c : Call) (ok : is_accepted (answer_of c) ≡ true) where
       go : Either → all (record_fine w) new ≡ true
       go (inl (t, e)) =
           let low : leb 1 (last + 1) ≡ true = le-leb 1 (last + 1) (omega arith) in
-          let high : leb (last + 1) w.lastMessageId ≡ true = le-leb (last + 1) w.lastMessageId (omega arith) in
+          let high : leb (last + 1) w.last_message_id ≡ true = le-leb (last + 1) w.last_message_id (omega arith) in
           records_fine w (last + 1) 1 (dues c) (λ u m. rw ec (opened_trade t u m)) (rw (low, high)) (omega arith) (ap (all has_end) e ∙ new_ends ds)
       go (inr e) = ap (λ (us : List Due). all (record_fine w) (records_of (last + 1) 1 us)) e
 
@@ -252,7 +252,7 @@ outbound_fits c a e =
 abbrev book_if : Call → Bool → Book
 book_if c ok =
     record {
-      values = exchange c.book.values (cond ok (trades_moved c) c.book.values.trades) (cond ok (c.book.values.lastMessageId + 1) c.book.values.lastMessageId) (line_of c.book c.body (answer_of c)) (outbound_of c.book c.body (answer_of c));
+      values = exchange c.book.values (cond ok (trades_moved c) c.book.values.trades) (cond ok (c.book.values.last_message_id + 1) c.book.values.last_message_id) (line_of c.book c.body (answer_of c)) (outbound_of c.book c.body (answer_of c));
       live = cond ok (length (live_moved c)) c.book.live;
     }
 
@@ -262,19 +262,19 @@ table_if c ok = cond ok (table_moved c) c.table
 moved_values : (c : Call) → is_accepted (answer_of c) ≡ true → Sound c.book c.table → values_fine (book_if c true).values ≡ true
 unfolding trades_moved
 moved_values c ok s =
-    values_stay v (trades_moved c) (v.lastMessageId + 1) (line_of c.book c.body (answer_of c)) (outbound_of c.book c.body (answer_of c)) s.values (le-leb (v.lastMessageId + 1) eleven_digits_max (omega (arith, spare)))
+    values_stay v (trades_moved c) (v.last_message_id + 1) (line_of c.book c.body (answer_of c)) (outbound_of c.book c.body (answer_of c)) s.values (le-leb (v.last_message_id + 1) eleven_digits_max (omega (arith, spare)))
     (outbound_fits c (answer_of c) (outbound_within v s.values))
-    (trades_alike (holidays_of v) (take v.lent.tradeCount (trades_moved c)) (trades_of v)
+    (trades_alike (holidays_of v) (take v.lent.trade_count (trades_moved c)) (trades_of v)
     (alike (trade_fine (holidays_of v)) (λ t cents. refl)) (alike trade_name (λ t cents. refl)))
   where
     v : Values
     v = c.book.values
 
-    spare : v.lastMessageId < eleven_digits_max
-    spare = leb-false eleven_digits_max v.lastMessageId (neither_left (leb eleven_digits_max v.lastMessageId) (outbound_spent v.connection.outbound) (fine c ok).not_spent)
+    spare : v.last_message_id < eleven_digits_max
+    spare = leb-false eleven_digits_max v.last_message_id (neither_left (leb eleven_digits_max v.last_message_id) (outbound_spent v.connection.outbound) (fine c ok).not_spent)
 
-    alike : {B : Type 0} (f : Trade → B) → ((t : Trade) (cents : ℕ) → f (with_open_par t cents) ≡ f t) → map f (take v.lent.tradeCount (trades_moved c)) ≡ map f (trades_of v)
-    alike f blind = ap (map f) (take_moved (taken c) (dues c) 0 v.lent.tradeCount v.trades) ∙ moved_blind f blind (taken c) (dues c) 0 (trades_of v)
+    alike : {B : Type 0} (f : Trade → B) → ((t : Trade) (cents : ℕ) → f (with_open_par t cents) ≡ f t) → map f (take v.lent.trade_count (trades_moved c)) ≡ map f (trades_of v)
+    alike f blind = ap (map f) (take_moved (taken c) (dues c) 0 v.lent.trade_count v.trades) ∙ moved_blind f blind (taken c) (dues c) 0 (trades_of v)
 
 moved_zeros : (c : Call) → all is_none (drop (length (live_moved c)) (table_moved c)) ≡ true
 unfolding table_moved
@@ -296,7 +296,7 @@ refused_sound : (c : Call) → Sound c.book c.table → Sound (book_if c false) 
 refused_sound c s =
     record {
       values =
-          values_stay c.book.values c.book.values.trades c.book.values.lastMessageId (line_of c.book c.body (answer_of c)) (outbound_of c.book c.body (answer_of c)) s.values (last_within c.book.values s.values)
+          values_stay c.book.values c.book.values.trades c.book.values.last_message_id (line_of c.book c.body (answer_of c)) (outbound_of c.book c.body (answer_of c)) s.values (last_within c.book.values s.values)
           (outbound_fits c (answer_of c) (outbound_within c.book.values s.values)) refl;
       table_short = s.table_short;
       inbound = line_sound c (answer_of c) s.inbound;

@@ -98,7 +98,7 @@ module _ (v : Values) (last : ℕ) (ts : List Trade) (rs : List Pool) (h : Histo
       }
 
   pub on_lots : type_of body ≡ On
-      → moved_lots h.lastMessageId h.lots (target_of body) (listed body) (dues_by body ts rs) true false ≡ lots_after On v (h.lastMessageId + 1) body h.lots
+      → moved_lots h.last_message_id h.lots (target_of body) (listed body) (dues_by body ts rs) true false ≡ lots_after On v (h.last_message_id + 1) body h.lots
   on_lots e =
       rw (dues_on body ts rs (ap is_on e), same_opens v last ts rs h w, same_trade body (open_pars ts) (trades_of v) ts (sym w.terms), listed_as body On e, take_none (target_of body) h.lots)
 
@@ -106,7 +106,7 @@ module _ (v : Values) (last : ℕ) (ts : List Trade) (rs : List Pool) (h : Histo
   module _ (un : any (under (target_of body)) rs ≡ true) (ex : exact_by_record (target_of body) (listed body) rs ≡ true) where
     target_there : (g : Brought) → g ∈ h.lots → is_target (target_of body) g.id ≡ true → g.trade ≡ target_trade body rs
     unfolding target_trade
-    target_there = rw w.table (target_trade_law (length (trades_of v)) h.lastMessageId (target_of body) h.lots w.lots (rw w.table at un))
+    target_there = rw w.table (target_trade_law (length (trades_of v)) h.last_message_id (target_of body) h.lots w.lots (rw w.table at un))
 
     listed_there : (g : Brought) → g ∈ h.lots → touches (target_of body) (listed body) g ≡ true → g.trade ≡ target_trade body rs
     listed_there g m q = target_there g m (touches_target (target_of body) (listed body) g q)
@@ -128,7 +128,7 @@ module _ (v : Values) (last : ℕ) (ts : List Trade) (rs : List Pool) (h : Histo
         }
 
     pub dk_lots : type_of body ≡ Dk
-        → moved_lots h.lastMessageId h.lots (target_of body) (listed body) (dues_by body ts rs) false true ≡ lots_after Dk v (h.lastMessageId + 1) body h.lots
+        → moved_lots h.last_message_id h.lots (target_of body) (listed body) (dues_by body ts rs) false true ≡ lots_after Dk v (h.last_message_id + 1) body h.lots
     dk_lots e = rw (dk_dues e)
 
     -- a CC
@@ -144,7 +144,7 @@ module _ (v : Values) (last : ℕ) (ts : List Trade) (rs : List Pool) (h : Histo
       unfolding groups_balanced
       cc_gone ba on =
           rw listed_canceled
-          (gone_canceled (length (trades_of v)) h.lastMessageId (target_of body) h.lots w.lots (canceled_lots (details body))
+          (gone_canceled (length (trades_of v)) h.last_message_id (target_of body) h.lots w.lots (canceled_lots (details body))
           (rw (w.table, listed_canceled) at (exact (target_of body) (listed body) rs ex).live) (rw listed_canceled at (exact (target_of body) (listed body) rs ex).distinct) (rw w.table at on))
           ∙ ap (sum_of lot_millions) (sym (groups_canceled (details body)))
           ∙ groups_even (groups (details body)) ba
@@ -181,12 +181,12 @@ module _ (v : Values) (last : ℕ) (ts : List Trade) (rs : List Pool) (h : Histo
       cc_due : groups_formed (details body) ≡ true → due_by_groups (target_of body) h.lots (groups (details body)) ≡ dues_by body ts rs
       unfolding groups_formed
       cc_due gf =
-          due_there (length (trades_of v)) h.lastMessageId (target_of body) h.lots w.lots (target_trade body rs) target_there
+          due_there (length (trades_of v)) h.last_message_id (target_of body) h.lots w.lots (target_trade body rs) target_there
           (listed body) (rw w.table at (exact (target_of body) (listed body) rs ex).live) (groups (details body)) gf
           (λ f m. rw (listed_canceled, ← groups_canceled (details body)) m)
           ∙ ap (map (due (target_trade body rs))) brought_replaces
           ∙ sym (dues_target body ts rs (ap is_on e))
 
       pub cc_lots : groups_formed (details body) ≡ true
-          → moved_lots h.lastMessageId h.lots (target_of body) (listed body) (dues_by body ts rs) false false ≡ lots_after Cc v (h.lastMessageId + 1) body h.lots
+          → moved_lots h.last_message_id h.lots (target_of body) (listed body) (dues_by body ts rs) false false ≡ lots_after Cc v (h.last_message_id + 1) body h.lots
       cc_lots gf = rw (cc_due gf)

@@ -85,7 +85,7 @@ unfolding lots
 new_ends ds = all_keep has_end is_new_lot (lots_from [] ds) (ends_from [] ds)
 
 -- ---- records
-pub records_fine : (v : Values) (id o : ℕ) (us : List Due) → ((u : Due) → u ∈ us → u.to < v.lent.tradeCount) → between 1 v.lastMessageId id ≡ true → 1 ≤ o
+pub records_fine : (v : Values) (id o : ℕ) (us : List Due) → ((u : Due) → u ∈ us → u.to < v.lent.trade_count) → between 1 v.last_message_id id ≡ true → 1 ≤ o
     → all has_end (due_lots us) ≡ true → all (record_fine v) (records_of id o us) ≡ true
 records_fine v id o [] et ei ho e = refl
 records_fine v id o (u ∷ us) et ei ho e =
@@ -95,25 +95,25 @@ records_fine v id o (u ∷ us) et ei ho e =
   where
     one : (d : Detail) → record_fine v (pool_of id o u.to u.lot d) ≡ true
     one d =
-        let t : ltb u.to v.lent.tradeCount ≡ true = lt-ltb u.to v.lent.tradeCount (et u (Memᴰ.head refl)) in
+        let t : ltb u.to v.lent.trade_count ≡ true = lt-ltb u.to v.lent.trade_count (et u (Memᴰ.head refl)) in
         let a : leb 1 o ≡ true = le-leb 1 o ho in
         let k : current_cents d < 100000000000 = cents_small d in
         let b : leb (current_cents d) eleven_digits_max ≡ true = le-leb (current_cents d) eleven_digits_max (omega arith) in
         rw (t, ei, a, b) (term_gives u.lot.last (and_left (has_end u.lot) (all has_end (due_lots us)) e))
 
-pub record_stays : (v w : Values) → w.lent.tradeCount ≡ v.lent.tradeCount → v.lastMessageId ≤ w.lastMessageId → (r : Pool) → record_fine v r ≡ true → record_fine w r ≡ true
+pub record_stays : (v w : Values) → w.lent.trade_count ≡ v.lent.trade_count → v.last_message_id ≤ w.last_message_id → (r : Pool) → record_fine v r ≡ true → record_fine w r ≡ true
 record_stays v w ec h r e =
-    let k : (between 1 v.lastMessageId r.message && (leb 1 r.ordinal && (leb r.current eleven_digits_max && kind_fine r))) ≡ true =
-    and_right (ltb r.trade v.lent.tradeCount) (between 1 v.lastMessageId r.message && (leb 1 r.ordinal && (leb r.current eleven_digits_max && kind_fine r))) e in
-    let m : between 1 v.lastMessageId r.message ≡ true = and_left (between 1 v.lastMessageId r.message) (leb 1 r.ordinal && (leb r.current eleven_digits_max && kind_fine r)) k in
-    let n : r.message ≤ v.lastMessageId = leb-true r.message v.lastMessageId (and_right (leb 1 r.message) (leb r.message v.lastMessageId) m) in
-    let t : ltb r.trade w.lent.tradeCount ≡ true = ap (ltb r.trade) ec ∙ and_left (ltb r.trade v.lent.tradeCount) (between 1 v.lastMessageId r.message && (leb 1 r.ordinal && (leb r.current eleven_digits_max && kind_fine r))) e in
-    rw (t, and_left (leb 1 r.message) (leb r.message v.lastMessageId) m, le-leb r.message w.lastMessageId (omega arith))
-    (and_right (between 1 v.lastMessageId r.message) (leb 1 r.ordinal && (leb r.current eleven_digits_max && kind_fine r)) k)
+    let k : (between 1 v.last_message_id r.message && (leb 1 r.ordinal && (leb r.current eleven_digits_max && kind_fine r))) ≡ true =
+    and_right (ltb r.trade v.lent.trade_count) (between 1 v.last_message_id r.message && (leb 1 r.ordinal && (leb r.current eleven_digits_max && kind_fine r))) e in
+    let m : between 1 v.last_message_id r.message ≡ true = and_left (between 1 v.last_message_id r.message) (leb 1 r.ordinal && (leb r.current eleven_digits_max && kind_fine r)) k in
+    let n : r.message ≤ v.last_message_id = leb-true r.message v.last_message_id (and_right (leb 1 r.message) (leb r.message v.last_message_id) m) in
+    let t : ltb r.trade w.lent.trade_count ≡ true = ap (ltb r.trade) ec ∙ and_left (ltb r.trade v.lent.trade_count) (between 1 v.last_message_id r.message && (leb 1 r.ordinal && (leb r.current eleven_digits_max && kind_fine r))) e in
+    rw (t, and_left (leb 1 r.message) (leb r.message v.last_message_id) m, le-leb r.message w.last_message_id (omega arith))
+    (and_right (between 1 v.last_message_id r.message) (leb 1 r.ordinal && (leb r.current eleven_digits_max && kind_fine r)) k)
 
 -- a live record's message ID is at most the last
-pub record_old : (v : Values) (r : Pool) → record_fine v r ≡ true → leb r.message v.lastMessageId ≡ true
+pub record_old : (v : Values) (r : Pool) → record_fine v r ≡ true → leb r.message v.last_message_id ≡ true
 record_old v r e =
-    let k : (between 1 v.lastMessageId r.message && (leb 1 r.ordinal && (leb r.current eleven_digits_max && kind_fine r))) ≡ true =
-    and_right (ltb r.trade v.lent.tradeCount) (between 1 v.lastMessageId r.message && (leb 1 r.ordinal && (leb r.current eleven_digits_max && kind_fine r))) e in
-    and_right (leb 1 r.message) (leb r.message v.lastMessageId) (and_left (between 1 v.lastMessageId r.message) (leb 1 r.ordinal && (leb r.current eleven_digits_max && kind_fine r)) k)
+    let k : (between 1 v.last_message_id r.message && (leb 1 r.ordinal && (leb r.current eleven_digits_max && kind_fine r))) ≡ true =
+    and_right (ltb r.trade v.lent.trade_count) (between 1 v.last_message_id r.message && (leb 1 r.ordinal && (leb r.current eleven_digits_max && kind_fine r))) e in
+    and_right (leb 1 r.message) (leb r.message v.last_message_id) (and_left (between 1 v.last_message_id r.message) (leb 1 r.ordinal && (leb r.current eleven_digits_max && kind_fine r)) k)

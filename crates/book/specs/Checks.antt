@@ -72,7 +72,7 @@ unsound b h body = not (holds_sound b h)
 
 -- 43: no message ID is left, or fewer than two outbound numbers
 abbrev pub numbers_spent : Values → List ℕ → Bool
-numbers_spent v body = leb eleven_digits_max v.lastMessageId || outbound_spent v.connection.outbound
+numbers_spent v body = leb eleven_digits_max v.last_message_id || outbound_spent v.connection.outbound
 
 -- the room that a TX and an AA take
 abbrev pub room_least : ℕ
@@ -221,7 +221,7 @@ target_trade body rs = first_under (keep (under (target_of body)) rs)
 
 -- a trade by its index; the one past the end is empty
 abbrev pub no_trade : Trade
-no_trade = record { id = []; length = 0; seller = []; buyer = []; contra = []; cusip = []; settlement = 0; price = 0; par = 0; openPar = 0 }
+no_trade = record { id = []; length = 0; seller = []; buyer = []; contra = []; cusip = []; settlement = 0; price = 0; par = 0; open_par = 0 }
 
 abbrev pub trade_at : List Trade → ℕ → Trade
 trade_at ts i = get_or ts i no_trade
@@ -274,7 +274,7 @@ new_faces_fail v body = faces_fail v.lent.limits.least (details body)
 
 -- 35: a new good lot's faces or pools
 abbrev pub new_lots_fail : Values → List ℕ → Bool
-new_lots_fail v body = lots_fail v.lent.limits.variance v.lent.limits.poolsAMillion (details body)
+new_lots_fail v body = lots_fail v.lent.limits.variance v.lent.limits.pools_a_million (details body)
 
 -- 36: a new pool that the message brings twice
 abbrev pub new_pools_repeat : List ℕ → Bool
@@ -340,7 +340,7 @@ listed_fail v rs body = not (listed_fine body rs)
 
 -- a trade is opened, and its open par, with what the message takes off it, holds what is due to it
 abbrev pub par_holds : List Trade → List Pool → List Due → ℕ → Bool
-par_holds ts off ds t = ltb t (length ts) && leb (due_weight t ds) ((trade_at ts t).openPar + trade_weight t off)
+par_holds ts off ds t = ltb t (length ts) && leb (due_weight t ds) ((trade_at ts t).open_par + trade_weight t off)
 
 -- every trade to which a lot is due does so
 abbrev pub dues_fit : List Trade → List Pool → List Due → Bool
@@ -458,7 +458,7 @@ first_failing (k ∷ ks) c = cond (fails_in k c) (Err k.reason) (first_failing k
 
 -- it decides; where none fails, the message gets the next ID
 abbrev pub answer_to : Call → Verdict → Answer
-answer_to c (Ok u) = Accepted (c.book.values.lastMessageId + 1)
+answer_to c (Ok u) = Accepted (c.book.values.last_message_id + 1)
 answer_to c (Err r) = refusal (type_of c.body) r
 
 unfoldable pub answer_of : Call → Answer

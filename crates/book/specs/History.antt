@@ -30,12 +30,12 @@ pub record Brought : Type 0 where
 
 -- the last message ID, and the lots brought, in the order of their coming
 pub record History : Type 0 where
-  pub lastMessageId : ℕ
+  pub last_message_id : ℕ
   pub lots : List Brought
 
 -- opening's last ID, and no lots
 abbrev pub at_opening : Values → History
-at_opening v = record { lastMessageId = v.lastMessageId; lots = [] }
+at_opening v = record { last_message_id = v.last_message_id; lots = [] }
 
 -- ---- taking off
 abbrev pub is_target : Option ℕ → ℕ → Bool
@@ -126,7 +126,7 @@ lots_after k v id body hs = lots_off k body hs ++ bring id (is_on k) 1 (lots_due
 -- a refused call changes nothing; an accepted message gets the next ID
 unfoldable pub feed : Values → History → List ℕ → Bool → History
 feed v h body is_accepted =
-    cond is_accepted (record { lastMessageId = h.lastMessageId + 1; lots = lots_after (type_of body) v (h.lastMessageId + 1) body h.lots }) h
+    cond is_accepted (record { last_message_id = h.last_message_id + 1; lots = lots_after (type_of body) v (h.last_message_id + 1) body h.lots }) h
 
 -- what the history is fed for one call
 pub record Fed : Type 0 where

@@ -46,10 +46,10 @@ pools_a_million_max = 250
 
 -- the holidays that are opened
 abbrev pub holidays_of : Values → List ℕ
-holidays_of v = take v.lent.holidayCount v.lent.holidays
+holidays_of v = take v.lent.holiday_count v.lent.holidays
 
 abbrev pub limits_fine : Limits → Bool
-limits_fine l = leb l.ceiling ceiling_max && (leb l.variance variance_max && (between 1 pools_a_million_max l.poolsAMillion && between 1 original_most l.least))
+limits_fine l = leb l.ceiling ceiling_max && (leb l.variance variance_max && (between 1 pools_a_million_max l.pools_a_million && between 1 original_most l.least))
 
 -- an account, a subscriber and a connection: four characters of codes 33 to 126
 abbrev pub account_fine : List ℕ → Bool
@@ -76,11 +76,11 @@ names_repeat (n ∷ ns) = any (same n) ns || names_repeat ns
 -- opening's rules but for the table's length
 unfoldable pub values_fine : Values → Bool
 values_fine v =
-    (leb v.lent.tradeCount trades_max && leb v.lent.holidayCount holidays_max)
+    (leb v.lent.trade_count trades_max && leb v.lent.holiday_count holidays_max)
     && (all is_date (holidays_of v)
     && (account_fine v.lent.subscriber && (account_fine v.connection.id
     && (limits_fine v.lent.limits
-    && (leb v.lastMessageId eleven_digits_max && (leb v.connection.outbound.0 outbound_max
+    && (leb v.last_message_id eleven_digits_max && (leb v.connection.outbound.0 outbound_max
     && (all (trade_fine (holidays_of v)) (trades_of v) && not (names_repeat (map trade_name (trades_of v))))))))))
 
 -- 41 passes: values in range, and a table that is not too long
@@ -100,7 +100,7 @@ at_par t =
       settlement = t.settlement;
       price = t.price;
       par = t.par;
-      openPar = t.par;
+      open_par = t.par;
     }
 
 -- a connection as it is opened: inbound expects 1, with none received
@@ -111,7 +111,7 @@ at_start c = record { id = c.id; line = start_line; outbound = c.outbound }
 unfoldable pub opened : Values → Book
 opened v =
     record {
-      values = record { trades = map at_par v.trades; lent = v.lent; lastMessageId = v.lastMessageId; connection = at_start v.connection };
+      values = record { trades = map at_par v.trades; lent = v.lent; last_message_id = v.last_message_id; connection = at_start v.connection };
       live = 0;
     }
 
@@ -124,13 +124,13 @@ overfull b =
             trades = b.values.trades;
             lent =
                 record {
-                  tradeCount = trades_max + 1;
+                  trade_count = trades_max + 1;
                   holidays = b.values.lent.holidays;
-                  holidayCount = b.values.lent.holidayCount;
+                  holiday_count = b.values.lent.holiday_count;
                   subscriber = b.values.lent.subscriber;
                   limits = b.values.lent.limits;
                 };
-            lastMessageId = b.values.lastMessageId;
+            last_message_id = b.values.last_message_id;
             connection = b.values.connection;
           };
       live = b.live;

@@ -61,9 +61,9 @@ pub record Source (lots : List Brought) (body : List ℕ) (pool : Fields) : Type
 -- demand 3, sentence by sentence
 pub record Demand3 (v : Values) (s : State) (fs : List Fed) : Type 0 where
   -- each trade's open par is its opening par less the weights of the lots brought to it and not taken off
-  pub history_sum : (t : ℕ) → t < length (trades_of v) → (trade_at (trades_of s.book.values) t).openPar + standing_weight t (lots_brought v fs) ≡ (trade_at (trades_of v) t).par
+  pub history_sum : (t : ℕ) → t < length (trades_of v) → (trade_at (trades_of s.book.values) t).open_par + standing_weight t (lots_brought v fs) ≡ (trade_at (trades_of v) t).par
   -- open par lies between zero and the opening par
-  pub bounded : (t : ℕ) → t < length (trades_of v) → (trade_at (trades_of s.book.values) t).openPar ≤ (trade_at (trades_of v) t).par
+  pub bounded : (t : ℕ) → t < length (trades_of v) → (trade_at (trades_of s.book.values) t).open_par ≤ (trade_at (trades_of v) t).par
   -- no lot is taken off twice
   pub once : (h : Brought) → Memᴰ h (lots_brought v fs) → h.offs ≤ 1
   -- every lot that an accepted message takes off was brought by an earlier one and taken off by none between them

@@ -78,7 +78,7 @@ dealt from settles n par =
       settlement = settles;
       price = 98500000000;
       par = par;
-      openPar = 0;
+      open_par = 0;
     }
 
 unfoldable pub trade : ℕ → ℕ → Trade
@@ -90,13 +90,13 @@ lending trades last =
       trades = trades;
       lent =
           record {
-            tradeCount = 2;
+            trade_count = 2;
             holidays = [];
-            holidayCount = 0;
+            holiday_count = 0;
             subscriber = subscriber;
-            limits = record { ceiling = 2500; variance = 10000; poolsAMillion = 3; least = 1000 };
+            limits = record { ceiling = 2500; variance = 10000; pools_a_million = 3; least = 1000 };
           };
-      lastMessageId = last;
+      last_message_id = last;
       connection = record { id = connection; line = start_line; outbound = outbound 0 };
     }
 

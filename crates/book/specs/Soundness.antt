@@ -22,8 +22,8 @@ kind_fine r = (eqb r.kind kind_good && between 1 millions_most r.millions) || ((
 -- a live record by itself: a trade that is opened, an ID from 1 to the last, an ordinal, a face of eleven digits, kind and millions
 abbrev pub record_fine : Values → Pool → Bool
 record_fine v r =
-    ltb r.trade v.lent.tradeCount
-    && (between 1 v.lastMessageId r.message && (leb 1 r.ordinal && (leb r.current eleven_digits_max && kind_fine r)))
+    ltb r.trade v.lent.trade_count
+    && (between 1 v.last_message_id r.message && (leb 1 r.ordinal && (leb r.current eleven_digits_max && kind_fine r)))
 
 -- message ID, then ordinal, does not fall
 abbrev pub not_falling : Pool → Pool → Bool
@@ -61,7 +61,7 @@ is_none r =
 -- open par is par less what the trade's lots weigh
 abbrev pub pars_from : ℕ → List Trade → List Pool → Bool
 pars_from i [] rs = true
-pars_from i (t ∷ ts) rs = eqb (t.openPar + trade_weight i rs) t.par && pars_from (i + 1) ts rs
+pars_from i (t ∷ ts) rs = eqb (t.open_par + trade_weight i rs) t.par && pars_from (i + 1) ts rs
 
 -- what a table holds for a book: its live records, how many records it has, and whether zeros stand after the live ones
 pub record Held : Type 0 where

@@ -62,12 +62,12 @@ with_open_par t cents =
       settlement = t.settlement;
       price = t.price;
       par = t.par;
-      openPar = cents;
+      open_par = cents;
     }
 
 -- open par moves by the weights: each trade's by what is taken off it and what is due to it
 abbrev pub trade_moved : List Pool → List Due → ℕ → Trade → Trade
-trade_moved off ds i t = with_open_par t ((t.openPar + trade_weight i off) - due_weight i ds)
+trade_moved off ds i t = with_open_par t ((t.open_par + trade_weight i off) - due_weight i ds)
 
 abbrev pub pars_moved : List Pool → List Due → ℕ → List Trade → List Trade
 pars_moved off ds i [] = []
@@ -80,7 +80,7 @@ trades_moved c = pars_moved (taken c) (dues c) 0 c.book.values.trades
 unfoldable pub live_moved : Call → List Pool
 live_moved c =
     keep (λ (r : Pool). not (is_taken (target_of c.body) (listed c.body) r)) (live c)
-    ++ records_of (c.book.values.lastMessageId + 1) 1 (dues c)
+    ++ records_of (c.book.values.last_message_id + 1) 1 (dues c)
 
 -- the table closed up, with zeros after the live records
 unfoldable pub table_moved : Call → List Pool
@@ -94,14 +94,14 @@ abbrev pub trades_after : Call → List Trade
 trades_after c = cond (accepted c) (trades_moved c) c.book.values.trades
 
 abbrev pub last_after : Call → ℕ
-last_after c = cond (accepted c) (c.book.values.lastMessageId + 1) c.book.values.lastMessageId
+last_after c = cond (accepted c) (c.book.values.last_message_id + 1) c.book.values.last_message_id
 
 abbrev pub values_after : Call → Values
 values_after c =
     record {
       trades = trades_after c;
       lent = c.book.values.lent;
-      lastMessageId = last_after c;
+      last_message_id = last_after c;
       connection = record { id = c.book.values.connection.id; line = line_of c.book c.body (answer_of c); outbound = outbound_of c.book c.body (answer_of c) };
     }
 

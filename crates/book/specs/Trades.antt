@@ -17,7 +17,7 @@ use Rattle.book.specs.Messages.{type_of, id_in, brought}
 
 -- the trades that are opened
 abbrev pub trades_of : Values → List Trade
-trades_of v = take v.lent.tradeCount v.trades
+trades_of v = take v.lent.trade_count v.trades
 
 -- the bytes of a trade's ID
 abbrev pub trade_name : Trade → List ℕ
@@ -70,4 +70,4 @@ trade_of_on body ts opens = first_trade (may_take body (id_in body)) 0 ts opens
 
 -- the open pars as the book has them
 abbrev pub open_pars : List Trade → List ℕ
-open_pars ts = map (λ (t : Trade). t.openPar) ts
+open_pars ts = map (λ (t : Trade). t.open_par) ts

@@ -1,7 +1,7 @@
 // The allocation book: what opening lends, what it keeps, the record of a live pool, and the answers that a frame gets.
 #![tactic(auto)]
 
-ghost use Rattle.std.specs.Prelude.{◌≡◌, ◌≤◌, length};
+ghost use Rattle.std.specs.Prelude.{◌≡◌, ◌≤◌, cond, Ok, Err, length};
 ghost use Rattle.trade_id.specs.SpecialInstructions.{id_length_max};
 ghost use Rattle.book.specs.Trades.{trade_name, trades_of};
 ghost use Rattle.book.specs.Opening.{holidays_of};
@@ -45,7 +45,7 @@ pub struct Trade {
     pub settlement: u64,
     pub price: u64,
     pub par: u64,
-    pub openPar: u64,
+    pub open_par: u64,
 }
 
 impl Trade {
@@ -63,16 +63,16 @@ impl Trade {
 pub struct Limits {
     pub ceiling: u64,
     pub variance: u64,
-    pub poolsAMillion: u64,
+    pub pools_a_million: u64,
     pub least: u64,
 }
 
 // What opening lends and no call moves: of trades and holidays the first so many count.
 #[derive(Clone, Copy)]
 pub struct Lent {
-    pub tradeCount: usize,
+    pub trade_count: usize,
     pub holidays: [u32; HOLIDAYS_MAX],
-    pub holidayCount: usize,
+    pub holiday_count: usize,
     pub subscriber: [u8; 4],
     pub limits: Limits,
 }
@@ -90,7 +90,7 @@ pub struct Connection {
 pub struct Values {
     pub trades: [Trade; TRADES_MAX],
     pub lent: Lent,
-    pub lastMessageId: u64,
+    pub last_message_id: u64,
     pub connection: Connection,
 }
 
@@ -99,14 +99,14 @@ impl Values {
     pub fn opened_trades(&self) -> &[Trade]
         ensures { result.now ≡ trades_of self.now }
     {
-        &self.trades[..self.lent.tradeCount.min(TRADES_MAX)]
+        &self.trades[..self.lent.trade_count.min(TRADES_MAX)]
     }
 
     // The holidays that are opened.
     pub fn opened_holidays(&self) -> &[u32]
         ensures { result.now ≡ holidays_of self.now }
     {
-        &self.lent.holidays[..self.lent.holidayCount.min(HOLIDAYS_MAX)]
+        &self.lent.holidays[..self.lent.holiday_count.min(HOLIDAYS_MAX)]
     }
 }
 
@@ -160,28 +160,30 @@ pub enum Reason {
 }
 
 impl Reason {
+    // What a reason holds, whoever causes it: its number, and whether it is silent.
+    fn parts(self) -> (u64, bool)
+        ensures { (result.0 ≡ number_of self) × (result.1 ≡ is_silent_for self) }
+    {
+        match self {
+            Reason::Operator(number, silent)
+            | Reason::Line(number, silent)
+            | Reason::Sender(number, silent)
+            | Reason::Trader(number, silent) => (number, silent),
+        }
+    }
+
     // The paper's number of a reason.
     pub fn number(self) -> u64
         ensures { result ≡ number_of self }
     {
-        match self {
-            Reason::Operator(number, _)
-            | Reason::Line(number, _)
-            | Reason::Sender(number, _)
-            | Reason::Trader(number, _) => number,
-        }
+        self.parts().0
     }
 
     // Whether it moves nothing and writes nothing.
     pub fn is_silent(self) -> bool
         ensures { result ≡ is_silent_for self }
     {
-        match self {
-            Reason::Operator(_, silent)
-            | Reason::Line(_, silent)
-            | Reason::Sender(_, silent)
-            | Reason::Trader(_, silent) => silent,
-        }
+        self.parts().1
     }
 
     // Whether the trader causes it.
@@ -194,6 +196,13 @@ impl Reason {
 
 // What a list of checks says: all pass, or the first that fails.
 pub type Verdict = Result<(), Reason>;
+
+// A check by what its test says.
+pub fn check(fails: bool, reason: Reason) -> Verdict
+    ensures { result ≡ cond fails (Err reason) (Ok tt) }
+{
+    if fails { Err(reason) } else { Ok(()) }
+}
 
 // What a frame gets.
 #[derive(Clone, Copy)]

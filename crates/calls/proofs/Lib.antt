@@ -1,1 +1,2 @@
 pub mod Unsound
+pub mod Opening

@@ -6,8 +6,9 @@ use mathlib.Core.Bool.{false}
 use Rattle.book.specs.declared.Book.{Book}
 use Rattle.book.specs.declared.Pool.{Pool}
 use Rattle.book.specs.Soundness.{is_sound}
-use Rattle.calls.specs.Figures.{unknown, figures_of}
+use Rattle.std.specs.Prelude.{None}
+use Rattle.calls.specs.Figures.{figures_of}
 
-pub unsound_figures : (b : Book) (table : List Pool) (trade : ℕ) → is_sound b table ≡ false → figures_of b table trade ≡ unknown
+pub unsound_figures : (b : Book) (table : List Pool) (trade : ℕ) → is_sound b table ≡ false → figures_of b table trade ≡ None
 unfolding figures_of
 unsound_figures b table trade e = rw e

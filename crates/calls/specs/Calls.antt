@@ -1,5 +1,5 @@
 -- The calls on a lent table (01, "The book", "What goes out"): what a frame call, an opening and a question for a trade's figures promise.
-use Rattle.std.specs.Prelude.{ℕ, ◌≡◌, List, true, false, cond}
+use Rattle.std.specs.Prelude.{ℕ, ◌≡◌, List, Option, Result, Ok, Err, cond}
 use Rattle.book.specs.declared.Caller.{Caller}
 use Rattle.book.specs.declared.Values.{Values}
 use Rattle.book.specs.declared.Book.{Book}
@@ -9,7 +9,6 @@ use Rattle.book.specs.Checks.{answer_of}
 use Rattle.book.specs.Step.{book_after, table_after, output_after, call_with}
 use Rattle.calls.specs.declared.Figures.{Figures}
 use Rattle.calls.specs.Figures.{figures_of}
-use Rattle.calls.specs.declared.Opened.{Opened}
 use Rattle.calls.specs.declared.Stepped.{Stepped}
 
 -- a frame call: answer, book, table and output after it are those of the definitions
@@ -19,13 +18,11 @@ pub record Framed (b : Book) (pools : List Pool) (body : List ℕ) (caller : Cal
   pub table : pools' ≡ table_after (call_with b pools body caller out)
   pub output : out' ≡ output_after (call_with b pools body caller out) out
 
--- an opening: whether 41 lets it pass; the opened book and zeros in the table where it does; else a book that every call refuses, and the table as it was
-pub record Opens (v : Values) (pools : List Pool) (r : Opened) (pools' : List Pool) : Type 0 where
-  pub fine : r.fine ≡ opening_fine v pools
-  pub book : r.book ≡ cond r.fine (opened v) (unopened v)
-  pub zeros : r.fine ≡ true → pools' ≡ cleared pools
-  pub stays : r.fine ≡ false → pools' ≡ pools
+-- an opening: where 41 lets it pass, the opened book, and zeros in the table; else a book that every call refuses, and the table as it was
+pub record Opens (v : Values) (pools : List Pool) (r : Result Book Book) (pools' : List Pool) : Type 0 where
+  pub book : r ≡ cond (opening_fine v pools) (Ok (opened v)) (Err (unopened v))
+  pub table : pools' ≡ cond (opening_fine v pools) (cleared pools) pools
 
 -- a trade's figures: open par and standing millions, where the book is sound and has the trade
-pub record Says (b : Book) (pools : List Pool) (trade : ℕ) (r : Figures) : Type 0 where
+pub record Says (b : Book) (pools : List Pool) (trade : ℕ) (r : Option Figures) : Type 0 where
   pub figures : r ≡ figures_of b pools trade

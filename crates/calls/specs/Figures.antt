@@ -1,5 +1,5 @@
 -- What a book says of a trade (01, "The book").
-use Rattle.std.specs.Prelude.{ℕ, List, true, false, cond, ◌&&◌, length, ltb}
+use Rattle.std.specs.Prelude.{ℕ, List, Option, Some, None, cond, ◌&&◌, length, ltb}
 use Rattle.book.specs.declared.Book.{Book}
 use Rattle.book.specs.declared.Pool.{Pool}
 use Rattle.book.specs.Records.{standing_millions}
@@ -8,13 +8,9 @@ use Rattle.book.specs.Checks.{trade_at}
 use Rattle.book.specs.Soundness.{live_of, is_sound}
 use Rattle.calls.specs.declared.Figures.{Figures}
 
--- nothing
-abbrev pub unknown : Figures
-unknown = record { known = false; openPar = 0; millions = 0 }
-
 -- the open par and the standing millions of a trade that is opened, where the book is sound; else nothing
-unfoldable pub figures_of : Book → List Pool → ℕ → Figures
+unfoldable pub figures_of : Book → List Pool → ℕ → Option Figures
 figures_of b table trade =
     cond (is_sound b table && ltb trade (length (trades_of b.values)))
-    (record { known = true; openPar = (trade_at (trades_of b.values) trade).openPar; millions = standing_millions trade (live_of b table) })
-    unknown
+    (Some (record { open_par = (trade_at (trades_of b.values) trade).open_par; millions = standing_millions trade (live_of b table) }))
+    None

@@ -69,5 +69,5 @@ module _ (body : List ℕ) (rows : List (List ℕ)) where
       refused r t false = tells_raise 1 r rest outcome.Rejected refl t
 
       go : (v : Verdict) → first_failing checks c ≡ v → raised_by body rows (heard_in (said_of (answer_to c v) ++ rest)) ≡ tally_after body (answer_to c v) rows
-      go (Ok u) e = ap (raised_by body rows) (heard_two 0 (c.book.values.lastMessageId + 1) rest)
+      go (Ok u) e = ap (raised_by body rows) (heard_two 0 (c.book.values.last_message_id + 1) rest)
       go (Err r) e = refused r (first_among tells c checks r tells_all e) (is_traders r && not (answers_as_dk (type_of c.body)))

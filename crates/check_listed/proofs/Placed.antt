@@ -5,13 +5,12 @@ use mathlib.Core.List.{List}
 use mathlib.Core.Bool.{Bool, true, false, cond, ◌&&◌}
 use native.Mathlib.Omega.{arith}
 use native.Mathlib.Decide.{dec_lt}
-use lib.ListN.{length, get_or, take}
-use lib.Seq.{length-take-le, get_or-take}
+use lib.ListN.{length, get_or}
 use Rattle.std.specs.List.{position_or_len}
 use Rattle.std.proofs.lemmas.List.Sums.{fails_before_first, passes_at_first}
 use Rattle.lists.specs.Lists.{tab}
 use Rattle.lists.proofs.Tests.{◌∈◌, and_left, and_right, both, clash}
-use Rattle.lists.proofs.Tables.{table_of_law, tab_same}
+use Rattle.lists.proofs.Tables.{table_of_law}
 use Rattle.layout.specs.declared.Detail.{Detail}
 use Rattle.layout.specs.Details.{details, pool_count}
 use Rattle.layout.proofs.Passes.{pool_of}
@@ -40,41 +39,30 @@ first_in p xs i d h e = go (dec_lt i (position_or_len p xs))
     go (yes l) = clash e (fails_before_first p xs i d l)
     go (no l) = (omega (arith, l), passes_at_first p xs d (omega (arith, l, h)))
 
-module _ (body : List ℕ) (ps : List Pool) (live : ℕ) (few : live ≤ length ps) (ordered : in_order (take live ps) ≡ true)
-    (once : fields_once (take live ps) ≡ true) where
-  abbrev pub rs : List Pool
-  rs = take live ps
-
+module _ (body : List ℕ) (rs : List Pool) (ordered : in_order rs ≡ true) (once : fields_once rs ≡ true) where
   abbrev pub at : ℕ → Pool
-  at = record_at ps
+  at = record_at rs
 
-  length_live : length rs ≡ live
-  length_live = length-take-le live ps few
+  pub places_are : rs ≡ tab at (length rs) 0
+  places_are = table_of_law no_pool rs (length rs) refl
 
-  pub record_at_law : (i : ℕ) → i < live → get_or rs i no_pool ≡ at i
-  record_at_law i h = get_or-take live ps i no_pool h
-
-  pub places_are : rs ≡ tab at live 0
-  places_are =
-      table_of_law no_pool rs live length_live ∙ tab_same (λ (i : ℕ). get_or rs i no_pool) at live 0 (λ (k : ℕ) a b. record_at_law k (omega (arith, b)))
-
-  pub order_at : in_order (tab at live 0) ≡ true
+  pub order_at : in_order (tab at (length rs) 0) ≡ true
   order_at = rw places_are at ordered
 
-  pub once_at : fields_once (tab at live 0) ≡ true
+  pub once_at : fields_once (tab at (length rs) 0) ≡ true
   once_at = rw places_are at once
 
   abbrev pub run : Run
   run = run_of (target_of body) rs
 
-  pub run_bound : run.stop ≤ live
-  run_bound = omega (arith, run_within (target_of body) rs, length_live)
+  pub run_bound : run.stop ≤ length rs
+  run_bound = run_within (target_of body) rs
 
-  pub run_inside : (i : ℕ) → i < live → under (target_of body) (at i) ≡ true → (run.start ≤ i) × (i < run.stop)
-  run_inside i h u = run_only (target_of body) rs ordered i (omega (arith, h, length_live)) (ap (under (target_of body)) (record_at_law i h) ∙ u)
+  pub run_inside : (i : ℕ) → i < length rs → under (target_of body) (at i) ≡ true → (run.start ≤ i) × (i < run.stop)
+  run_inside i h u = run_only (target_of body) rs ordered i h u
 
   pub run_here : (i : ℕ) → run.start ≤ i → i < run.stop → under (target_of body) (at i) ≡ true
-  run_here i h l = ap (under (target_of body)) (sym (record_at_law i (omega (arith, l, run_bound)))) ∙ run_under (target_of body) rs i h l
+  run_here i h l = run_under (target_of body) rs i h l
 
   -- the first record under the target with given fields
   abbrev is_its : Fields → Pool → Bool
@@ -88,25 +76,25 @@ module _ (body : List ℕ) (ps : List Pool) (live : ℕ) (few : live ≤ length 
   record_place = place_in body rs
 
   -- the only record with them
-  its_place : (g : Fields) (i : ℕ) → i < live → is_its g (at i) ≡ true → i ≡ place_for g
+  its_place : (g : Fields) (i : ℕ) → i < length rs → is_its g (at i) ≡ true → i ≡ place_for g
   its_place g i h e =
-      let (a, b) = first_in (is_its g) rs i no_pool (omega (arith, h, length_live)) (ap (is_its g) (record_at_law i h) ∙ e) in
+      let (a, b) = first_in (is_its g) rs i no_pool h e in
       let j : ℕ = place_for g in
-      let k : j < live = omega (arith, a, h) in
-      let c : is_its g (at j) ≡ true = ap (is_its g) (sym (record_at_law j k)) ∙ b in
-      same_place (target_of body) at live order_at once_at i j h k
+      let k : j < length rs = omega (arith, a, h) in
+      let c : is_its g (at j) ≡ true = b in
+      same_place (target_of body) at (length rs) order_at once_at i j h k
       (and_left (under (target_of body) (at i)) (same_fields (live_fields (at i)) g) e)
       (and_left (under (target_of body) (at j)) (same_fields (live_fields (at j)) g) c)
       (fields_equal (live_fields (at i)) g (and_right (under (target_of body) (at i)) (same_fields (live_fields (at i)) g) e)
       ∙ sym (fields_equal (live_fields (at j)) g (and_right (under (target_of body) (at j)) (same_fields (live_fields (at j)) g) c)))
 
-  module _ (cells : List ℕ) (placed : Placed body ps run cells) where
+  module _ (cells : List ℕ) (placed : Placed body rs run cells) where
     -- a listed pool's cell
     module _ (i : ℕ) (h : i < pool_count body) (l : lists (type_of body) (pool_of body i) ≡ true) where
       abbrev cell : ℕ
       cell = get_or cells i 0
 
-      cell_live : cell < live
+      cell_live : cell < length rs
       cell_live = omega (arith, (placed.places i h l).1, run_bound)
 
       cell_under : under (target_of body) (at cell) ≡ true
@@ -128,7 +116,7 @@ module _ (body : List ℕ) (ps : List Pool) (live : ℕ) (few : live ≤ length 
         go true l = cell_place i h l ∙ sym (ap (λ (b : Bool). cond b (place_for (fields_of (pool_of body i))) 0) l)
         go false l = placed.others i h l ∙ sym (ap (λ (b : Bool). cond b (place_for (fields_of (pool_of body i))) 0) l)
 
-    pub pools_stand : (d : Detail) → d ∈ details body → lists (type_of body) d ≡ true → Stands (target_of body) at live record_place d
+    pub pools_stand : (d : Detail) → d ∈ details body → lists (type_of body) d ≡ true → Stands (target_of body) at (length rs) record_place d
     unfolding details
     pools_stand d m l =
         let (i, a, b, e) = tab_from (pool_of body) (pool_count body) 0 d m in

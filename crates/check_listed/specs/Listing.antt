@@ -1,5 +1,5 @@
 -- What the search for a message's listed pools asks of the table, and what it decides (01, number 37).
-use Rattle.std.specs.Prelude.{ℕ, ◌≤◌, ◌<◌, ◌≡◌, List, true, cond, not, ◌&&◌, ◌||◌, length, get_or, take, eqb, Option, is_some, IfSome}
+use Rattle.std.specs.Prelude.{ℕ, ◌≤◌, ◌<◌, ◌≡◌, List, true, cond, not, ◌&&◌, ◌||◌, length, get_or, eqb, Option, is_some, IfSome}
 use Rattle.std.specs.List.{position_or_len}
 use Rattle.layout.specs.declared.Detail.{Detail}
 use Rattle.layout.specs.Details.{details}
@@ -15,11 +15,10 @@ use Rattle.rows_find.specs.Finding.{lists}
 use Rattle.check_listed.specs.Marks.{entries_from, mark_all, no_marks, unmarked}
 
 -- live records in order (42) whose fields differ within a message (42), and a CC's pools formed into lots (19)
-pub record Findable (body : List ℕ) (ps : List Pool) (live : ℕ) : Type 0 where
-  pub within : live ≤ length ps
-  pub few : length ps ≤ records_max
-  pub ordered : in_order (take live ps) ≡ true
-  pub once : fields_once (take live ps) ≡ true
+pub record Findable (body : List ℕ) (rs : List Pool) : Type 0 where
+  pub few : length rs ≤ records_max
+  pub ordered : in_order rs ≡ true
+  pub once : fields_once rs ≡ true
   pub formed : is_cc (type_of body) ≡ true → formed_for true (details body) ≡ true
 
 -- the place of a pool that a message lists: that of the first live record under the target with its fields

@@ -1,7 +1,7 @@
 // Whether the pools that a CC or DK lists are whole live lots of its target (check 37), and which live records it takes off.
 #![tactic(auto)]
 
-ghost use Rattle.std.specs.Prelude.{◌≡◌, true, ℕ, ◌+◌, ◌≤◌, ◌<◌, length, get_or, take};
+ghost use Rattle.std.specs.Prelude.{◌≡◌, true, ℕ, ◌+◌, ◌≤◌, ◌<◌, length, get_or};
 ghost use Rattle.std.specs.Option.{option_copied};
 ghost use Rattle.layout.specs.declared.Detail.{Detail};
 ghost use Rattle.layout.specs.Details.{details, pool_count, pools_max, detail_at, place_of};
@@ -14,13 +14,14 @@ ghost use Rattle.check_listed.specs.Lots.{record_of, ordinal_in, last_fits, alik
 use book::Pool;
 use layout::Detail;
 use rows_find::Run;
+use terminator::Terminator;
 
 // The number of the lot after a pool.
 fn number_after(cc: bool, k: u8, d: &Detail) -> u8
     requires { k ≤ pools_max }
     ensures { result ≡ number_after cc k d.now }
 {
-    if cc & terminator::terminator_of(d.terminator).is_end() {
+    if cc & Terminator::from(d.terminator).is_end() {
         k + 1
     } else {
         k
@@ -28,7 +29,6 @@ fn number_after(cc: bool, k: u8, d: &Detail) -> u8
 }
 
 // Marks the record of each listed pool with the number of its lot, and tells whether none had a mark before: one that has is listed twice.
-#[tactic(auto, using(layout::proofs::Lengths::count_max))]
 fn mark_places(
     body: &[u8],
     at: &[usize; layout::POOLS_MAX],
@@ -41,12 +41,11 @@ fn mark_places(
 {
     let mut fine = true;
     let mut lot: u8 = 1;
-    for i in 0..layout::pool_count(body) {
-        let d = layout::pool_at(body, i);
+    for (d, place) in detail_reader::pools(body).zip(at) {
         if !cc | terminator::is_canceled(d) {
-            let place = at[i];
-            fine = fine & (marks[place] == 0);
-            marks[place] = lot;
+            let mark = &mut marks[*place];
+            fine = fine & (*mark == 0);
+            *mark = lot;
         }
         lot = number_after(cc, lot, &d);
     }
@@ -69,12 +68,7 @@ fn marks_even(pools: &[Pool], marks: &[u8; book::RECORDS_MAX], run: Run) -> bool
     requires { (run.start ≤ run.stop) × (run.stop ≤ length pools.now) × (run.stop ≤ records_max) }
     ensures { result ≡ marks_even pools.now marks.now run.start run.stop }
 {
-    for next in run.start + 1..run.stop {
-        if !even_at(pools, marks, next - 1) {
-            return false;
-        }
-    }
-    true
+    (run.start + 1..run.stop).all(|next| even_at(pools, marks, next - 1))
 }
 
 // The record of a canceled pool; another pool has none.
@@ -103,7 +97,7 @@ fn last_fits(d: &Detail, its_record: Option<&Pool>) -> bool
     match its_record {
         None => true,
         Some(r) => {
-            let t = terminator::terminator_of(d.terminator);
+            let t = Terminator::from(d.terminator);
             (r.kind == t.kind().number()) & (r.millions == t.millions())
         },
     }
@@ -123,7 +117,7 @@ fn alike_pool(s: Alike, d: &Detail, its_record: Option<&Pool>) -> Alike
     let ordinal = ordinal_in(its_record);
     let begun = s.lot.unwrap_or(ordinal);
     let fine = s.fine & (begun == ordinal);
-    if terminator::terminator_of(d.terminator).is_end() {
+    if Terminator::from(d.terminator).is_end() {
         Alike {
             fine: fine & last_fits(d, its_record),
             lot: None,
@@ -137,7 +131,6 @@ fn alike_pool(s: Alike, d: &Detail, its_record: Option<&Pool>) -> Alike
 }
 
 // Whether the records of each 6 lot's pools have one ordinal, and the lot's kind and millions.
-#[tactic(auto, using(layout::proofs::Lengths::count_max))]
 fn lots_alike(pools: &[Pool], body: &[u8], at: &[usize; layout::POOLS_MAX]) -> bool
     requires { (i : ℕ) → i < pool_count body.now → is_canceled (detail_at body.now (place_of i)) ≡ true → get_or at.now i 0 < length pools.now }
     ensures { (place : Detail → ℕ) → Places place body.now at.now → result ≡ (alike_all (λ (d : Detail). record_of pools.now (place d) d) (details body.now)).fine }
@@ -146,33 +139,28 @@ fn lots_alike(pools: &[Pool], body: &[u8], at: &[usize; layout::POOLS_MAX]) -> b
         fine: true,
         lot: None,
     };
-    for i in 0..layout::pool_count(body) {
-        let d = layout::pool_at(body, i);
-        s = alike_pool(s, &d, record_of(pools, at[i], &d));
+    for (d, place) in detail_reader::pools(body).zip(at) {
+        s = alike_pool(s, &d, record_of(pools, *place, &d));
     }
     s.fine
 }
 
 // What a message of any type takes off: a CC or DK what it lists, where that passes 37; another nothing.
 // The marks: one for each record, 0 where it stays.
-pub fn find_listed(body: &[u8], pools: &[Pool], live: usize) -> Option<[u8; book::RECORDS_MAX]>
-    requires { Findable body.now pools.now live }
-    ensures { Takes body.now (take live pools.now) result }
+pub fn find_listed(body: &[u8], live: &[Pool]) -> Option<[u8; book::RECORDS_MAX]>
+    requires { Findable body.now live.now }
+    ensures { Takes body.now live.now result }
 {
     let t = header::message_type(body);
     let mut marks = [0u8; book::RECORDS_MAX];
     if !t.lists_lots() {
         return Some(marks);
     }
-    let run = rows_find::target_run(pools, live, body);
-    let at = rows_find::find_places(body, pools, run)?;
+    let run = rows_find::target_run(live, body);
+    let at = rows_find::find_places(body, live, run)?;
     let cc = t.is_cc();
     let once = mark_places(body, &at, cc, &mut marks);
-    let even = marks_even(pools, &marks, run);
-    let alike = !cc || lots_alike(pools, body, &at);
-    if once & even & alike {
-        Some(marks)
-    } else {
-        None
-    }
+    let even = marks_even(live, &marks, run);
+    let alike = !cc || lots_alike(live, body, &at);
+    (once & even & alike).then_some(marks)
 }

@@ -5,7 +5,7 @@ use mathlib.Core.Bool.{Bool, true, false, cond, not, ◌&&◌, and-false}
 use Prim.Native.Nat.{ℕ, ◌+◌, ◌-◌, ◌≤◌, ◌<◌}
 use native.Mathlib.Omega.{arith}
 use native.Mathlib.Decide.{ℕ_discrete, dec_lt}
-use lib.ListN.{length, take, length-take}
+use lib.ListN.{length}
 use lib.Dec.{eqb}
 use borrow.Author.Tests.{eq-eqb, ne_eqb}
 use Rattle.lists.specs.Lists.{tab, any}
@@ -28,13 +28,10 @@ once_apart [] = refl
 once_apart (r ∷ rs) = ap (λ (b : Bool). not (any (twins r) rs) && b) (once_apart rs)
 
 -- a record alone has no twin
-pub few_once : (n : ℕ) (rs : List Pool) → n < 2 → true ≡ fields_once (take n rs)
-few_once n rs h = go (take n rs) (rw length-take (omega (arith, h)))
-  where
-    go : (ss : List Pool) → length ss < 2 → true ≡ fields_once ss
-    go [] l = refl
-    go (r ∷ []) l = refl
-    go (r ∷ s ∷ ss) l = absurd (omega (arith, l))
+pub few_once : (rs : List Pool) → length rs < 2 → fields_once rs ≡ true
+few_once [] h = refl
+few_once (r ∷ []) h = refl
+few_once (r ∷ s ∷ rs) h = absurd (omega (arith, h))
 
 fields_back : (f g : Fields) → same_fields f g ≡ true → same_fields g f ≡ true
 fields_back f g e =

@@ -64,11 +64,12 @@ fn search(live: &[Pool], seed: u64) -> bool
 }
 
 // Whether the live records have no matched fields twice under one message ID, where they are in order. A single one cannot.
-pub fn fields_once(pools: &[Pool], live: usize, seed: u64) -> bool
-    requires { (live ≤ length pools.now) × (length pools.now ≤ records_max) × (in_order (take live pools.now) ≡ true) }
-    ensures { result ≡ fields_once (take live pools.now) }
+#[tactic(auto, using(crate::proofs::Twins::few_once))]
+pub fn fields_once(live: &[Pool], seed: u64) -> bool
+    requires { (length live.now ≤ records_max) × (in_order live.now ≡ true) }
+    ensures { result ≡ fields_once live.now }
 {
-    live < 2 || search(&pools[..live], seed)
+    live.len() < 2 || search(live, seed)
 }
 
 // Writes a message's new pools from the front, each as a record that has only its matched fields, and gives their number.
@@ -94,5 +95,5 @@ pub fn repeated(body: &[u8], seed: u64) -> bool
 {
     let mut pools = [rows::none(); layout::POOLS_MAX];
     let n = put_pools(body, &mut pools);
-    !fields_once(&pools, n, seed)
+    !fields_once(&pools[..n], seed)
 }

@@ -47,7 +47,7 @@ fn limits_fine(l: &Limits) -> bool
 {
     l.ceiling <= CEILING_MAX
         && l.variance <= VARIANCE_MAX
-        && (1..=POOLS_A_MILLION_MAX).contains(&l.poolsAMillion)
+        && (1..=POOLS_A_MILLION_MAX).contains(&l.pools_a_million)
         && (1..=book::FACE_MAX).contains(&l.least)
 }
 
@@ -136,8 +136,8 @@ fn marks_of(trades: &[Trade]) -> [u64; book::TRADES_MAX]
     ensures { take (length trades.now) result ≡ map mark_of (map trade_name trades.now) }
 {
     let mut marks = [0; book::TRADES_MAX];
-    for i in 0..trades.len() {
-        marks[i] = mark(trades[i].name());
+    for (i, t) in trades.iter().enumerate() {
+        marks[i] = mark(t.name());
     }
     marks
 }
@@ -159,8 +159,8 @@ fn names_repeat(trades: &[Trade]) -> bool
     ensures { result ≡ names_repeat (map trade_name trades.now) }
 {
     let marks = marks_of(trades);
-    for i in 0..trades.len() {
-        if is_marked(&marks[i + 1..trades.len()], marks[i]) && named(&trades[i + 1..], &trades[i]) {
+    for (i, t) in trades.iter().enumerate() {
+        if is_marked(&marks[i + 1..trades.len()], marks[i]) && named(&trades[i + 1..], t) {
             return true;
         }
     }
@@ -189,13 +189,13 @@ pub fn values_fine(v: &Values) -> bool
 {
     let trades = v.opened_trades();
     let holidays = v.opened_holidays();
-    v.lent.tradeCount <= book::TRADES_MAX
-        && v.lent.holidayCount <= book::HOLIDAYS_MAX
+    v.lent.trade_count <= book::TRADES_MAX
+        && v.lent.holiday_count <= book::HOLIDAYS_MAX
         && all_dates(holidays)
         && account_fine(&v.lent.subscriber)
         && account_fine(&v.connection.id)
         && limits_fine(&v.lent.limits)
-        && v.lastMessageId <= book::ELEVEN_DIGITS_MAX
+        && v.last_message_id <= book::ELEVEN_DIGITS_MAX
         && v.connection.outbound.0 <= sequence::OUTBOUND_MAX
         && trades_fine(trades, holidays)
         && !names_repeat(trades)
@@ -206,7 +206,7 @@ fn at_par(t: Trade) -> Trade
     ensures { result ≡ at_par t }
 {
     Trade {
-        openPar: t.par,
+        open_par: t.par,
         ..t
     }
 }

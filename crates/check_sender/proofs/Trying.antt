@@ -1,25 +1,11 @@
--- A check by what its test says, before the checks that come after it: one that fails gives its reason, and after one that passes the others decide.
-use Rattle.std.proofs.Common.{◌≡◌, Bool, true, false, cond, ◌&&◌, ◌++◌, Ok, Err, refl, sym, ◌∙◌, List}
+-- Checks one part after another: a part whose check fails gives its reason, and after one that passes the others decide.
+use Rattle.std.proofs.Common.{◌≡◌, ◌++◌, Ok, Err, refl, sym, ◌∙◌, List}
 use Rattle.book.specs.declared.Reason.{Reason}
 use Rattle.book.specs.Reasons.{Verdict}
 use Rattle.book.specs.Checks.{Call, Check, first_failing, sender_checks}
-use Rattle.book.proofs.Firsts.{fails_not, first_late, first_early}
+use Rattle.book.proofs.Firsts.{first_late, first_early}
 use Rattle.check_sender.specs.Parts.{line_checks, common_checks, cc_checks, dk_checks}
 
-pub stops : (b : Bool) (r q : Reason) (v w rest : Verdict) → v ≡ cond b (Err r) (Ok tt) → v ≡ Err q → w ≡ Err q → w ≡ cond b (Err r) rest
-stops true r q v w rest e f g = g ∙ sym f ∙ e
-stops false r q v w rest e f g = fails_not (sym f ∙ e)
-
-pub goes : (b : Bool) (r : Reason) (v w rest : Verdict) → v ≡ cond b (Err r) (Ok tt) → v ≡ Ok tt → w ≡ rest → w ≡ cond b (Err r) rest
-goes true r v w rest e f g = fails_not (sym e ∙ f)
-goes false r v w rest e f g = g
-
--- a check that is nothing but its type
-pub sure : (b : Bool) → b ≡ (b && true)
-sure true = refl
-sure false = refl
-
--- ---- the four parts, one after another
 module _ (x : Call) where
   pub parted : first_failing (line_checks ++ (common_checks ++ (cc_checks ++ dk_checks))) x ≡ first_failing sender_checks x
   unfolding sender_checks

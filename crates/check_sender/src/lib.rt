@@ -1,24 +1,24 @@
 // The checks of the line and the sender's system, 43 and 44 and then 10 to 25: the first that fails.
 #![tactic(auto)]
 
-ghost use Rattle.std.specs.Prelude.{◌≡◌, ◌&&◌, ℕ, List, cond, Ok, Err};
+ghost use Rattle.std.specs.Prelude.{◌≡◌, ◌&&◌, ◌||◌, ℕ, List, leb};
 ghost use Rattle.book.specs.declared.Caller.{Caller};
 ghost use Rattle.book.specs.declared.Pool.{Pool};
-ghost use Rattle.book.specs.declared.Reason.{Reason};
-ghost use Rattle.book.specs.Reasons.{Verdict};
-ghost use Rattle.book.specs.Checks.{call, sender_checks, first_failing, asked_by, numbers_spent, sequence_repeats, lot_form_fails};
+ghost use Rattle.sequence.specs.Sequence.{outbound_spent};
+ghost use Rattle.book.specs.Opening.{eleven_digits_max};
+ghost use Rattle.book.specs.Checks.{call, sender_checks, first_failing, asked_by, sequence_repeats, lot_form_fails};
 ghost use Rattle.book.specs.Messages.{type_of};
 ghost use Rattle.message_type.specs.Questions.{brings_lots};
 ghost use Rattle.check_sender.specs.Parts.{line_checks, common_checks, cc_checks, dk_checks};
 
-use book::{Book, Reason, Values, Verdict};
+use book::{Book, Reason, Values, Verdict, check};
 use sequence::Arrival;
 
 // 43: the last ID is the highest, or fewer than two outbound numbers are left.
 fn is_spent(v: &Values) -> bool
-    ensures { (body : List ℕ) → result ≡ numbers_spent v.now body }
+    ensures { result ≡ (leb eleven_digits_max v.now.last_message_id || outbound_spent v.now.connection.outbound) }
 {
-    (book::ELEVEN_DIGITS_MAX <= v.lastMessageId) | v.connection.outbound.spent()
+    (book::ELEVEN_DIGITS_MAX <= v.last_message_id) | v.connection.outbound.spent()
 }
 
 // 12: the sequence number is the last one received.
@@ -39,14 +39,8 @@ fn lots_fail(body: &[u8]) -> bool
     kind.brings_lots() && !lots::lots_formed(body, kind.is_cc())
 }
 
-// A check by what its test says.
-fn check(fails: bool, reason: Reason) -> Verdict
-    ensures { result ≡ cond fails (Err reason) (Ok tt) }
-{
-    if fails { Err(reason) } else { Ok(()) }
-}
-
 // 43, 44 and 10 to 12: the numbers that are left, the room, and the line.
+#[tactic(auto, unfolding(book::specs::Checks::sender_checks))]
 fn first_of_line(book: &Book, body: &[u8], room: usize) -> Verdict
     ensures { (table : List Pool) (caller : Caller) → result ≡ first_failing line_checks (call book.now table body.now (asked_by caller room)) }
 {
@@ -59,6 +53,7 @@ fn first_of_line(book: &Book, body: &[u8], room: usize) -> Verdict
 }
 
 // 13 to 19, of every type but 18 and 19.
+#[tactic(auto, unfolding(book::specs::Checks::sender_checks))]
 fn first_of_common(book: &Book, body: &[u8]) -> Verdict
     ensures { (table : List Pool) (caller : Caller) (room : ℕ) → result ≡ first_failing common_checks (call book.now table body.now (asked_by caller room)) }
 {
@@ -80,6 +75,7 @@ fn first_of_common(book: &Book, body: &[u8]) -> Verdict
 }
 
 // 20 to 23, of a CC alone.
+#[tactic(auto, unfolding(book::specs::Checks::sender_checks))]
 fn first_of_cc(book: &Book, body: &[u8]) -> Verdict
     ensures { (table : List Pool) (caller : Caller) (room : ℕ) → result ≡ first_failing cc_checks (call book.now table body.now (asked_by caller room)) }
 {
@@ -100,6 +96,7 @@ fn first_of_cc(book: &Book, body: &[u8]) -> Verdict
 }
 
 // 24 and 25, of a DK alone.
+#[tactic(auto, unfolding(book::specs::Checks::sender_checks))]
 fn first_of_dk(book: &Book, body: &[u8]) -> Verdict
     ensures { (table : List Pool) (caller : Caller) (room : ℕ) → result ≡ first_failing dk_checks (call book.now table body.now (asked_by caller room)) }
 {

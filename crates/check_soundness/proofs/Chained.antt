@@ -1,10 +1,7 @@
 -- The live records in one pass: the first by itself, and each other by itself and after the one before it.
-use Rattle.std.proofs.Common.{◌≡◌, ℕ, suc, ◌+◌, ◌-◌, ◌<◌, ◌≤◌, Bool, true, false, ◌&&◌, List, [], ◌∷◌, length, get_or, take, drop, take_all, arith, refl, sym, ap, ◌∙◌}
+use Rattle.std.proofs.Common.{◌≡◌, ℕ, suc, ◌-◌, ◌<◌, Bool, true, false, ◌&&◌, List, [], ◌∷◌, length, get_or, take, drop, take_all, arith, refl, sym, ap, ◌∙◌}
 use mathlib.Core.Bool.{and_assoc}
-use lib.ListN.{drop_of_length-le}
 use Rattle.lists.specs.Lists.{all}
-use Rattle.lists.proofs.Parts.{drop_turn}
-use Rattle.lists.proofs.Tests.{and_left}
 use Rattle.book.specs.declared.Pool.{Pool}
 use Rattle.book.specs.declared.Values.{Values}
 use Rattle.book.specs.Soundness.{record_fine, follows, in_order}
@@ -40,17 +37,3 @@ module _ (v : Values) where
   chained_none (q ∷ rs) d h e =
       let s : take (suc (length rs) - 1) rs ≡ rs = take_all (suc (length rs) - 1) rs (omega arith) in
       record { fine = e; rest = ap (chained q) s ∙ sym (chained_first q rs ∙ rw e) }
-
-  module _ (live : List Pool) (q : Pool) (rs : List Pool) (i : ℕ) (inv : Chained live q rs i) where
-    pub chained_done : length rs ≤ i → true ≡ (all (record_fine v) live && in_order live)
-    chained_done h = sym (ap (chained q) (drop_of_length-le rs h)) ∙ inv.rest
-
-    module _ (h : i < length rs) (d : Pool) (b : Bool) (e : b ≡ (record_fine v (get_or rs i d) && follows q (get_or rs i d))) where
-      turn : (b && chained (get_or rs i d) (drop (i + 1) rs)) ≡ (all (record_fine v) live && in_order live)
-      turn = rw e (sym (ap (chained q) (drop_turn rs i d h)) ∙ inv.rest)
-
-      pub chained_stop : b ≡ false → false ≡ (all (record_fine v) live && in_order live)
-      chained_stop n = rw n at turn
-
-      pub chained_more : b ≡ true → Chained live (get_or rs i d) rs (i + 1)
-      chained_more n = record { fine = and_left (record_fine v (get_or rs i d)) (follows q (get_or rs i d)) (sym e ∙ n); rest = rw n at turn }

@@ -1,8 +1,7 @@
 -- The trades' weights in one pass: each record's share goes to its trade's cell, and no cell grows past what 4,096 faces can sum to.
-use Rattle.std.proofs.Common.{◌≡◌, ℕ, ◌+◌, ◌*◌, ◌≤◌, ◌<◌, Bool, true, false, cond, not, ◌&&◌, eqb, List, [], ◌∷◌, length, get_or, drop, set, replicate, refl, sym, ap, ◌∙◌, arith, eq-eqb, eqb-true, get_or-set_same, get_or-set_other}
+use Rattle.std.proofs.Common.{◌≡◌, ℕ, ◌+◌, ◌*◌, ◌≤◌, ◌<◌, Bool, true, false, cond, not, ◌&&◌, eqb, List, [], ◌∷◌, length, get_or, drop, replicate, refl, sym, ap, ◌∙◌, arith, eq-eqb}
 use Rattle.std.proofs.lemmas.List.Elements.{All-head, All-tail, All-get_or}
-use borrow.Author.Tests.{eqb-false}
-use lib.ListN.{get_or-replicate, drop_of_length-le}
+use lib.ListN.{get_or-replicate}
 use Rattle.lists.proofs.Parts.{drop_turn}
 use Rattle.terminator.specs.Lots.{million_cents}
 use Rattle.book.specs.declared.Pool.{Pool}
@@ -39,9 +38,6 @@ module _ (rs : List Pool) where
   pub weighed_none : Weighed (replicate trades_max 0) 0 0 0
   weighed_none t h = omega (arith, get_or-replicate {A = ℕ} trades_max t 0 0 h)
 
-  pub weighed_done : (sums : List ℕ) (message ordinal i : ℕ) → Weighed sums message ordinal i → length rs ≤ i → (t : ℕ) → t < trades_max → get_or sums t 0 ≡ run_sum (share_of t weight_share) 0 0 rs
-  weighed_done sums message ordinal i inv h t k = omega (arith, inv t k, ap (run_sum (share_of t weight_share) message ordinal) (drop_of_length-le rs h))
-
   module _ (light : Light rs) (few : length rs ≤ records_max) (sums : List ℕ) (message ordinal i : ℕ) (inv : Weighed sums message ordinal i) (h : i < length rs) (d : Pool) (added : ℕ) where
     abbrev p : Pool
     p = get_or rs i d
@@ -58,15 +54,3 @@ module _ (rs : List Pool) where
       cell_small =
           let own = rw (eq-eqb p.trade p.trade refl) at (turn p.trade in_cells) in
           omega (arith, own, sum_small p.trade 0 0 rs light)
-
-      pub weighed_more : length sums ≡ trades_max → Weighed (set sums p.trade (get_or sums p.trade 0 + added)) p.message p.ordinal (i + 1)
-      weighed_more l t k = go (eqb p.trade t) refl
-        where
-          go : (b : Bool) → eqb p.trade t ≡ b → get_or (set sums p.trade (get_or sums p.trade 0 + added)) t 0 + run_sum (share_of t weight_share) p.message p.ordinal (drop (i + 1) rs) ≡ run_sum (share_of t weight_share) 0 0 rs
-          go true q =
-              let z : p.trade ≡ t = eqb-true p.trade t q in
-              let s : get_or (set sums t (get_or sums t 0 + added)) t 0 ≡ get_or sums t 0 + added = get_or-set_same sums t (get_or sums t 0 + added) 0 (omega arith) in
-              rw z (omega (arith, s, rw q at (turn t k)))
-          go false q =
-              let s = get_or-set_other sums p.trade t (get_or sums p.trade 0 + added) 0 (λ z. eqb-false p.trade t q (sym z)) in
-              omega (arith, s, rw q at (turn t k))

@@ -24,21 +24,21 @@ few_millions r e = go (eqb r.kind kind_good && between 1 99 r.millions) refl e
     go false f g = omega (arith, eqb-true r.millions 0 (and_right (eqb r.kind kind_odd || eqb r.kind kind_bad) (eqb r.millions 0) g))
 
 module _ (v : Values) where
-  pub few_trades : values_fine v ≡ true → v.lent.tradeCount ≤ trades_max
+  pub few_trades : values_fine v ≡ true → v.lent.trade_count ≤ trades_max
   unfolding values_fine
-  few_trades e = leb-true v.lent.tradeCount trades_max (and_left _ _ (and_left _ _ e))
+  few_trades e = leb-true v.lent.trade_count trades_max (and_left _ _ (and_left _ _ e))
 
-  record_light : (r : Pool) → record_fine v r ≡ true → (r.trade < v.lent.tradeCount) × (r.current ≤ eleven_digits_max) × (r.millions ≤ 99)
+  record_light : (r : Pool) → record_fine v r ≡ true → (r.trade < v.lent.trade_count) × (r.current ≤ eleven_digits_max) × (r.millions ≤ 99)
   record_light r e =
       let kind = kind_fine r in
       let face = leb r.current eleven_digits_max in
-      let past = and_right (leb 1 r.ordinal) (face && kind) (and_right (between 1 v.lastMessageId r.message) (leb 1 r.ordinal && (face && kind)) (and_right (ltb r.trade v.lent.tradeCount) (between 1 v.lastMessageId r.message && (leb 1 r.ordinal && (face && kind))) e)) in (
-        ltb-true r.trade v.lent.tradeCount (and_left (ltb r.trade v.lent.tradeCount) (between 1 v.lastMessageId r.message && (leb 1 r.ordinal && (face && kind))) e),
+      let past = and_right (leb 1 r.ordinal) (face && kind) (and_right (between 1 v.last_message_id r.message) (leb 1 r.ordinal && (face && kind)) (and_right (ltb r.trade v.lent.trade_count) (between 1 v.last_message_id r.message && (leb 1 r.ordinal && (face && kind))) e)) in (
+        ltb-true r.trade v.lent.trade_count (and_left (ltb r.trade v.lent.trade_count) (between 1 v.last_message_id r.message && (leb 1 r.ordinal && (face && kind))) e),
         leb-true r.current eleven_digits_max (and_left face kind past),
         few_millions r (and_right face kind past),
       )
 
-  pub light : v.lent.tradeCount ≤ trades_max → (rs : List Pool) → all (record_fine v) rs ≡ true → Light rs
+  pub light : v.lent.trade_count ≤ trades_max → (rs : List Pool) → all (record_fine v) rs ≡ true → Light rs
   light few [] e = All-nil light_one
   light few (r ∷ rs) e =
       let w = record_light r (and_left (record_fine v r) (all (record_fine v) rs) e) in
@@ -51,7 +51,7 @@ pars_zip [] sums rs i l h = refl
 pars_zip (t ∷ ts) [] rs i l h = absurd (omega arith)
 pars_zip (t ∷ ts) (s ∷ sums) rs i l h =
     let w : s ≡ trade_weight i rs = h 0 (omega arith) ∙ ap (λ (k : ℕ). trade_weight k rs) (omega arith) in
-    ap₂ (λ (a b : Bool). a && b) (ap (λ (n : ℕ). eqb (t.openPar + n) t.par) w)
+    ap₂ (λ (a b : Bool). a && b) (ap (λ (n : ℕ). eqb (t.open_par + n) t.par) w)
     (pars_zip ts sums rs (i + 1) (omega arith) (λ (k : ℕ) a. h (suc k) (omega arith) ∙ ap (λ (j : ℕ). trade_weight j rs) (omega arith)))
 
 -- ---- the facts of 42 in their order: those of the book, those of the live records one after another, and the others
@@ -76,7 +76,7 @@ module _ (b : Book) (t : List Pool) where
     pub records_fail : records ≡ false → false ≡ is_sound b t
     records_fail e = sym (sound_is ∙ ap₂ (λ (f g : Bool). f && (g && others)) h e)
 
-    pub few : b.values.lent.tradeCount ≤ trades_max
+    pub few : b.values.lent.trade_count ≤ trades_max
     few = few_trades b.values (and_left (values_fine b.values) (leb (length t) records_max && (sound_line b.values.connection.line && leb b.live (length t))) h)
 
     pub short : length t ≤ records_max

@@ -20,7 +20,7 @@ Light = All light_one
 
 -- a trade's open par and a weight make up its par
 abbrev pub makes_up : Trade × ℕ → Bool
-makes_up p = eqb (p.0.openPar + p.1) p.0.par
+makes_up p = eqb (p.0.open_par + p.1) p.0.par
 
 -- the book by itself, and the numbers of records and of live ones
 abbrev pub book_fine : Book → ℕ → Bool

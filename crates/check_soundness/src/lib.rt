@@ -4,7 +4,6 @@
 ghost use Rattle.std.specs.Prelude.{◌≡◌, true, ◌&&◌, ◌+◌, ◌≤◌, ◌<◌, ℕ, length, get_or, eqb};
 ghost use Rattle.std.specs.List.{zip};
 ghost use Rattle.lists.specs.Lists.{all};
-ghost use Rattle.terminator.specs.Terminators.{millions_most};
 ghost use Rattle.book.specs.Trades.{trades_of};
 ghost use Rattle.book.specs.Opening.{trades_max, records_max};
 ghost use Rattle.book.specs.Soundness.{kind_fine, record_fine, follows, in_order, pars_from, is_sound};
@@ -29,8 +28,8 @@ pub fn kind_fine(p: &Pool) -> bool
 fn record_fine(p: &Pool, values: &Values) -> bool
     ensures { result ≡ record_fine values.now p.now }
 {
-    (p.trade < values.lent.tradeCount as u64)
-        & (((1 <= p.message) & (p.message <= values.lastMessageId))
+    (p.trade < values.lent.trade_count as u64)
+        & (((1 <= p.message) & (p.message <= values.last_message_id))
             & ((1 <= p.ordinal) & ((p.current <= book::ELEVEN_DIGITS_MAX) & kind_fine(p))))
 }
 
@@ -67,6 +66,7 @@ fn goes(before: &Pool, p: &Pool, values: &Values) -> bool
 }
 
 // 42: the live records, each by itself and after the one before it.
+#[tactic(auto, using(crate::proofs::Chained::chained_none))]
 fn records_fine(live: &[Pool], values: &Values) -> bool
     ensures { result ≡ (all (record_fine values.now) live.now && in_order live.now) }
 {
@@ -86,21 +86,8 @@ fn records_fine(live: &[Pool], values: &Values) -> bool
     true
 }
 
-// What a record adds to its trade's weight.
-fn share(p: &Pool, begins: bool) -> u64
-    requires { p.now.millions ≤ millions_most }
-    ensures { result ≡ weight_share begins p.now }
-{
-    if p.kind != book::KIND_GOOD {
-        p.current
-    } else if begins {
-        p.millions * terminator::MILLION_CENTS
-    } else {
-        0
-    }
-}
-
 // What the lots of each trade weigh.
+#[tactic(auto, using(crate::proofs::Weighed::weighed_none, crate::proofs::Weighed::cell_small))]
 pub fn weights(live: &[Pool]) -> [u64; book::TRADES_MAX]
     requires { (length live.now ≤ records_max) × Light live.now }
     ensures { (t : ℕ) → t < trades_max → get_or result t 0 ≡ run_sum (share_of t weight_share) 0 0 live.now }
@@ -110,7 +97,7 @@ pub fn weights(live: &[Pool]) -> [u64; book::TRADES_MAX]
     let mut ordinal = 0;
     for p in live {
         let begins = !((p.message == message) & (p.ordinal == ordinal));
-        sums[p.trade as usize] += share(p, begins);
+        sums[p.trade as usize] += rows::weight_share(p, begins);
         message = p.message;
         ordinal = p.ordinal;
     }
@@ -131,12 +118,12 @@ fn all_make_up(trades: &[Trade], weights: &[u64]) -> bool
     trades
         .iter()
         .zip(weights)
-        .all(|(t, w)| makes_up(t.openPar, *w, t.par))
+        .all(|(t, w)| makes_up(t.open_par, *w, t.par))
 }
 
 // 42: every trade's open par is its par less what its lots weigh.
 fn pars_fine(values: &Values, live: &[Pool]) -> bool
-    requires { (values.now.lent.tradeCount ≤ trades_max) × (length live.now ≤ records_max) × (all (record_fine values.now) live.now ≡ true) × (in_order live.now ≡ true) }
+    requires { (values.now.lent.trade_count ≤ trades_max) × (length live.now ≤ records_max) × (all (record_fine values.now) live.now ≡ true) × (in_order live.now ≡ true) }
     ensures { result ≡ pars_from 0 (trades_of values.now) live.now }
 {
     all_make_up(values.opened_trades(), &weights(live))
@@ -163,7 +150,7 @@ pub fn is_sound(book: &Book, pools: &[Pool], seed: u64) -> bool
     if !records_fine(live, &book.values) {
         return false;
     }
-    check_once::fields_once(pools, book.live, seed)
+    check_once::fields_once(live, seed)
         && rows::blank_from(pools, book.live)
         && pars_fine(&book.values, live)
 }

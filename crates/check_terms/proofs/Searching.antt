@@ -9,7 +9,7 @@ use Rattle.trade_id.specs.declared.TradeId.TheVariants.{Broken}
 
 -- a test of a trade and its own open par
 abbrev pub own : (Trade → ℕ → Bool) → Trade → Bool
-own p t = p t t.openPar
+own p t = p t t.open_par
 
 first_from : (p : Trade → ℕ → Bool) (i : ℕ) (ts : List Trade) → i + position_or_len (own p) ts ≡ first_trade p i ts (open_pars ts)
 first_from p i [] = omega arith

@@ -87,7 +87,7 @@ pub fn find_holding(body: &[u8], v: &Values, weight: u64) -> usize
     let trades = v.opened_trades();
     trades
         .iter()
-        .position(|t| agrees_as(body, s, t) & (weight <= t.openPar))
+        .position(|t| agrees_as(body, s, t) & (weight <= t.open_par))
         .unwrap_or(trades.len())
 }
 
@@ -143,31 +143,22 @@ pub fn trade_of_on(body: &[u8], v: &Values) -> usize
 }
 
 // 31: a trade ID that is begun but not whole, or names no trade with agreeing terms, or another than a CC's or DK's target; on FSTI, none.
-fn id_fails(body: &[u8], v: &Values, target: usize) -> bool
-    ensures { result ≡ id_fails body.now (trades_of v.now) target (id_in body.now) }
-{
-    match header::trade_id_in(body) {
-        TradeId::Whole { place, length } => {
-            let i = find_named(body, v, place, length);
-            let concerned = header::message_type(body).is_on() | (i == target);
-            match v.opened_trades().get(i) {
-                Some(t) => !(agrees(body, t) & concerned),
-                None => true,
-            }
-        }
-        TradeId::Broken => true,
-        TradeId::Absent => header::is_stipulated(body),
-    }
-}
-
-// 31 as a verdict.
 pub fn id_verdict(body: &[u8], v: &Values, target: usize) -> Verdict
     ensures { result ≡ cond (id_fails body.now (trades_of v.now) target (id_in body.now)) (Err (by.Trader 31 told)) (Ok tt) }
 {
-    if id_fails(body, v, target) {
-        return Err(Reason::Trader(31, book::TOLD));
+    let id = header::trade_id_in(body);
+    if id == TradeId::Absent && !header::is_stipulated(body) {
+        return Ok(());
     }
-    Ok(())
+    let TradeId::Whole { place, length } = id else {
+        return Err(Reason::Trader(31, book::TOLD));
+    };
+    let i = find_named(body, v, place, length);
+    let concerned = header::message_type(body).is_on() | (i == target);
+    match v.opened_trades().get(i) {
+        Some(t) if agrees(body, t) & concerned => Ok(()),
+        _ => Err(Reason::Trader(31, book::TOLD)),
+    }
 }
 
 // 32: without a trade ID, no trade's terms agree with an ON's, or the target's with a CC's or DK's.
@@ -181,8 +172,7 @@ pub fn terms_fail(body: &[u8], v: &Values, target: usize) -> bool
     if header::message_type(body).is_on() {
         return !some_agrees(body, v);
     }
-    match v.opened_trades().get(target) {
-        Some(t) => !agrees(body, t),
-        None => true,
-    }
+    v.opened_trades()
+        .get(target)
+        .is_none_or(|t| !agrees(body, t))
 }

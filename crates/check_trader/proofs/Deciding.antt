@@ -1,12 +1,12 @@
 -- The checks by what moves, 37, 38 and 40, and what an accepted message moves.
-use Prim.Native.Nat.{ℕ, ◌+◌, ◌-◌, ◌≤◌, ◌<◌}
+use Prim.Native.Nat.{ℕ, ◌+◌, ◌-◌, ◌≤◌}
 use native.Mathlib.Omega.{arith}
 use mathlib.Core.Path.{◌≡◌, refl, sym, ap, ◌∙◌}
 use mathlib.Core.List.{List, [], ◌∷◌, map, ◌++◌}
 use mathlib.Core.Bool.{Bool, true, false, cond, not, ◌&&◌, ◌||◌, true≢false}
-use lib.ListN.{length, take, drop, get_or, length-map}
+use lib.ListN.{length, take, drop, length-map}
 use lib.Dec.{eqb, leb, ltb}
-use lib.Seq.{length-take-le, get_or-take}
+use lib.Seq.{length-take-le}
 use borrow.Author.Tests.{leb-true, lt-ltb, eq-eqb}
 use Rattle.std.specs.Prelude.{Option, Some, None, is_some, unwrap_or, Result, Ok, Err}
 use Rattle.lists.specs.Lists.{any, keep, part}
@@ -29,7 +29,7 @@ use Rattle.book.specs.Messages as messages
 use Rattle.book.specs.Messages.{type_of, target_of, under, listed, listed_of}
 use Rattle.book.specs.Trades.{trades_of, open_pars, brought_weight, trade_of_on}
 use Rattle.book.specs.Opening.{records_max}
-use Rattle.book.specs.Soundness.{live_of, record_fine, held_in, Sound}
+use Rattle.book.specs.Soundness.{live_of, record_fine, in_order, held_in, Sound}
 use Rattle.book.specs.Checks.{Call, call, Asked, first_under, target_trade, trade_at, trade_due, dues_by, is_taken, listed_fine, par_fine, table_fine}
 use Rattle.book.specs.Checks.{terms_checks, moves_checks, trader_checks, first_failing}
 use Rattle.book.proofs.ListLaws.{all_keep, or_right}
@@ -79,6 +79,22 @@ any_keep p (x ∷ xs) = go (p x) (any_keep p xs)
     go true e = sym (lt-ltb 0 (length (x ∷ keep p xs)) (omega arith))
     go false e = e
 
+-- ---- the target's run
+module _ (body : List ℕ) (rs : List Pool) (run : Run) (er : run ≡ run_of (target_of body) rs) where
+  pub run_fits : (run.start ≤ run.stop) × (run.stop ≤ length rs)
+  run_fits = rw er (run_rises (target_of body) rs, run_within (target_of body) rs)
+
+  pub targets_law : in_order rs ≡ true → (t : Option ℕ) → is_some t ≡ ltb 0 (length (take (run.stop - run.start) (drop run.start rs)))
+      → unwrap_or t 0 ≡ first_under (take (run.stop - run.start) (drop run.start rs))
+      → Targets body rs t
+  unfolding target_trade part
+  targets_law o t es et =
+      let k : take (run.stop - run.start) (drop run.start rs) ≡ keep (under (target_of body)) rs = ap (run_records rs) er ∙ run_records_law body rs o in
+      record {
+        there = es ∙ ap (λ (xs : List Pool). ltb 0 (length xs)) k ∙ sym (any_keep (under (target_of body)) rs);
+        trade = et ∙ ap first_under k;
+      }
+
 -- ---- what soundness gives
 module _ (book : Book) (ps : List Pool) (body : List ℕ) (y : Ready book ps body) where
   sure : Sound book ps
@@ -96,43 +112,22 @@ module _ (book : Book) (ps : List Pool) (body : List ℕ) (y : Ready book ps bod
   formed_cc : is_cc (type_of body) ≡ true → formed_for true (details body) ≡ true
   formed_cc e = rw e at (y.formed (or_right (is_on (type_of body)) (is_cc (type_of body)) e))
 
-  pub findable : Findable body ps book.live
-  findable = record { within = within; few = few; ordered = sure.ordered; once = sure.once; formed = formed_cc }
-
-  size : length rs ≡ book.live
+  pub size : length rs ≡ book.live
   size = length-take-le book.live ps within
 
-  pub weighable : (ms : List ℕ) → length ms ≡ records_max → Weighable ps ms book.live
+  pub live_few : length rs ≤ records_max
+  live_few = omega (arith, size, within, few)
+
+  pub ordered : in_order rs ≡ true
+  ordered = sure.ordered
+
+  pub findable : Findable body rs
+  findable = record { few = live_few; ordered = sure.ordered; once = sure.once; formed = formed_cc }
+
+  pub weighable : (ms : List ℕ) → length ms ≡ records_max → Weighable rs ms
   weighable ms e =
       let l = light book.values (few_trades book.values sure.values) rs sure.records in
-      let at : (i : ℕ) → i < book.live → get_or rs i no_pool ≡ get_or ps i no_pool = λ i h. get_or-take book.live ps i no_pool h in
-      record {
-        records = within;
-        marks = omega (arith, within, few);
-        few = omega (arith, within, few);
-        faces = λ i h. rw (sym (at i h)) (l i no_pool (omega (arith, size, h))).1;
-        millions = λ i h. rw (sym (at i h)) (l i no_pool (omega (arith, size, h))).2;
-      }
-
-  -- ---- the target's run
-  module _ (run : Run) (er : run ≡ run_of (target_of body) rs) where
-    pub run_fits : (run.start ≤ run.stop) × (run.stop ≤ length ps)
-    run_fits =
-        let u : run.start ≤ run.stop = rw er (run_rises (target_of body) rs) in
-        let w : run.stop ≤ length rs = rw er (run_within (target_of body) rs) in
-        (u, omega (arith, w, size, within))
-
-    pub targets_law : (t : Option ℕ) → is_some t ≡ ltb 0 (length (take (run.stop - run.start) (drop run.start ps)))
-        → unwrap_or t 0 ≡ first_under (take (run.stop - run.start) (drop run.start ps))
-        → Targets body rs t
-    unfolding target_trade part
-    targets_law t es et =
-        let k : take (run.stop - run.start) (drop run.start ps) ≡ keep (under (target_of body)) rs =
-        ap (run_records ps) er ∙ run_records_law body ps book.live within sure.ordered in
-        record {
-          there = es ∙ ap (λ (xs : List Pool). ltb 0 (length xs)) k ∙ sym (any_keep (under (target_of body)) rs);
-          trade = et ∙ ap first_under k;
-        }
+      record { marks = omega (arith, live_few, e); few = live_few; faces = λ i h. (l i no_pool h).1; millions = λ i h. (l i no_pool h).2 }
 
   -- ---- 37, 38 and 40
   module _ (asked : Asked) where
@@ -203,7 +198,7 @@ module _ (book : Book) (ps : List Pool) (body : List ℕ) (y : Ready book ps bod
       brought_is : (u : ℕ) → due_weight u (dues_by body (trades_of book.values) rs) ≡ cond (eqb trade u) brought 0
       brought_is u = rw (trade_is, eb) (dues_weight body (trades_of book.values) rs u)
 
-      module _ (p : Bool) (ep : p ≡ (ltb trade (length (trades_of book.values)) && leb brought ((trade_at (trades_of book.values) trade).openPar + off))) where
+      module _ (p : Bool) (ep : p ≡ (ltb trade (length (trades_of book.values)) && leb brought ((trade_at (trades_of book.values) trade).open_par + off))) where
         par_is : brings_lots (type_of body) ≡ true → p ≡ par_fine book.values rs body
         par_is o =
             let (l, (ls, e)) = some_lot (messages.brought body) (y.some o) in

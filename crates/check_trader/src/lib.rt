@@ -1,7 +1,7 @@
 // Decides the trader's checks, 30 to 40, on a book that is sound and a message that the sender's checks let pass.
 #![tactic(auto)]
 
-ghost use Rattle.std.specs.Prelude.{◌≡◌, true, cond, ◌&&◌, ℕ, ◌+◌, ◌≤◌, length, leb, ltb, List, Ok, Err, is_some, unwrap_or, Option};
+ghost use Rattle.std.specs.Prelude.{◌≡◌, true, cond, ◌&&◌, ℕ, ◌+◌, ◌≤◌, length, leb, ltb, List, is_some, unwrap_or, Option};
 ghost use Rattle.lists.specs.Lists.{any, keep};
 ghost use Rattle.terminator.specs.Terminators.{is_canceled};
 ghost use Rattle.layout.specs.Details.{details};
@@ -11,14 +11,14 @@ ghost use Rattle.message_type.specs.Questions.{is_on};
 ghost use Rattle.book.specs.Messages.{type_of, target_of, under};
 ghost use Rattle.book.specs.Trades.{trades_of, trade_of_on, open_pars};
 ghost use Rattle.book.specs.Opening.{records_max};
-ghost use Rattle.book.specs.Soundness.{live_of};
+ghost use Rattle.book.specs.Soundness.{live_of, in_order};
 ghost use Rattle.book.specs.Checks.{call, target_trade, trade_at, first_under, millions_fail, moves_checks, trader_checks, first_failing, Asked};
 ghost use Rattle.book.specs.declared.Reason.{Reason};
 ghost use Rattle.book.specs.Reasons.{Verdict};
 ghost use Rattle.check_trader.specs.Decisions.{Ready, Targets, DecidedBy};
 ghost use Rattle.check_trader.specs.Parts.{target_checks, new_checks};
 
-use book::{Book, Pool, Reason, Values, Verdict};
+use book::{Book, Pool, Reason, Values, Verdict, check};
 
 // What an accepted message moves: its trade, the weight that it takes off, the weight that it brings, and a mark on each record that it takes off.
 #[derive(Clone, Copy)]
@@ -29,13 +29,6 @@ pub struct Decision {
     pub marks: [u8; book::RECORDS_MAX],
 }
 
-// A check by what its test says.
-fn check(fails: bool, reason: Reason) -> Verdict
-    ensures { result ≡ cond fails (Err reason) (Ok tt) }
-{
-    if fails { Err(reason) } else { Ok(()) }
-}
-
 // The trade of the first of some records, where there are some.
 fn first_trade(records: &[Pool]) -> Option<usize>
     ensures { (is_some result ≡ ltb 0 (length records.now)) × (unwrap_or result 0 ≡ first_under records.now) }
@@ -44,12 +37,12 @@ fn first_trade(records: &[Pool]) -> Option<usize>
 }
 
 // The trade of the target's live pools, where it has some.
-fn target_trade(book: &Book, pools: &[Pool], body: &[u8]) -> Option<usize>
-    requires { Ready book.now pools.now body.now }
-    ensures { Targets body.now (live_of book.now pools.now) result }
+fn target_trade(live: &[Pool], body: &[u8]) -> Option<usize>
+    requires { (length live.now ≤ records_max) × (in_order live.now ≡ true) }
+    ensures { Targets body.now live.now result }
 {
-    let run = rows_find::target_run(pools, book.live, body);
-    first_trade(&pools[run.start..run.stop])
+    let run = rows_find::target_run(live, body);
+    first_trade(&live[run.start..run.stop])
 }
 
 // 30 to 32, where the trade of the target's live pools is known.
@@ -92,7 +85,7 @@ fn first_of_new(book: &Book, body: &[u8], seed: u64) -> Verdict
         Reason::Trader(34, book::TOLD),
     )?;
     check(
-        new_lots::lots_fail(body, limits.variance, limits.poolsAMillion),
+        new_lots::lots_fail(body, limits.variance, limits.pools_a_million),
         Reason::Trader(35, book::TOLD),
     )?;
     check(
@@ -116,11 +109,11 @@ fn table_fits(body: &[u8], cc: bool, live: usize, records: usize) -> bool
 
 // 38: whether a trade's open par, with the weight taken off, holds the weight brought.
 fn par_fits(v: &Values, trade: usize, off: u64, brought: u64) -> bool
-    ensures { result ≡ (ltb trade (length (trades_of v.now)) && leb brought ((trade_at (trades_of v.now) trade).openPar + off)) }
+    ensures { result ≡ (ltb trade (length (trades_of v.now)) && leb brought ((trade_at (trades_of v.now) trade).open_par + off)) }
 {
     v.opened_trades()
         .get(trade)
-        .is_some_and(|t| brought.saturating_sub(off) <= t.openPar)
+        .is_some_and(|t| brought.saturating_sub(off) <= t.open_par)
 }
 
 // The trade that a message concerns, where the target's is known.
@@ -143,10 +136,11 @@ fn decide_moves(book: &Book, pools: &[Pool], body: &[u8], target: usize) -> Resu
     let v = &book.values;
     let kind = header::message_type(body);
     let brings = kind.brings_lots();
-    let Some(marks) = check_listed::find_listed(body, pools, book.live) else {
+    let live = &pools[..book.live];
+    let Some(marks) = check_listed::find_listed(body, live) else {
         return Err(Reason::Trader(37, book::TOLD));
     };
-    let off = rows_find::weight_of_marked(pools, &marks, book.live);
+    let off = rows_find::weight_of_marked(live, &marks);
     let brought = check_terms::brought_weight(body);
     let trade = trade_concerned(v, body, target);
     check(
@@ -170,7 +164,7 @@ pub fn decide(book: &Book, pools: &[Pool], body: &[u8], seed: u64) -> Result<Dec
     requires { Ready book.now pools.now body.now }
     ensures { (asked : Asked) → DecidedBy trader_checks (call book.now pools.now body.now asked) result }
 {
-    let target = target_trade(book, pools, body);
+    let target = target_trade(&pools[..book.live], body);
     first_of_target(book, body, target)?;
     first_of_new(book, body, seed)?;
     decide_moves(book, pools, body, target.unwrap_or(0))

@@ -18,17 +18,17 @@ fn line_of(any: bool, last: u32, expected: u32) -> Line
     }
 }
 
-#[tactic(auto, unfolding(crate::specs::Numbers::line_numbers))]
+#[tactic(auto, unfolding(crate::specs::Numbers::line_numbers, exports_numbers::specs::Bit::bit))]
 fn line_numbers(line: Line, number: Inbound) -> [u64; 5]
     ensures { result ≡ line_numbers line number }
 {
     let after = line.after(number);
     [
         line.judge(number) as u64,
-        exports_numbers::bit_of(after.received.is_some()),
+        u64::from(after.received.is_some()),
         after.received.map_or(0, |last| u64::from(last.0)),
         u64::from(after.expected.0),
-        exports_numbers::bit_of(line.sound()),
+        u64::from(line.sound()),
     ]
 }
 
@@ -38,17 +38,17 @@ pub extern "C" fn rhoikandra_line(any: bool, last: u32, expected: u32, number: u
     ensures { out.new ≡ pasted out.old 0 (line_numbers (line_of any last expected) (inbound number)) }
 {
     let line = line_of(any, last, expected);
-    exports_numbers::put_numbers(out, &line_numbers(line, Inbound(number)));
+    output::put(out, 0, &line_numbers(line, Inbound(number)));
 }
 
 // Writes the outbound number after the last one used, and whether fewer than two are left (43).
-#[tactic(auto, unfolding(crate::specs::Numbers::outbound_numbers))]
+#[tactic(auto, unfolding(crate::specs::Numbers::outbound_numbers, exports_numbers::specs::Bit::bit))]
 #[unsafe(no_mangle)]
 pub extern "C" fn rhoikandra_outbound(last: u32, out: &mut [u64])
     ensures { out.new ≡ pasted out.old 0 (outbound_numbers (outbound last)) }
 {
     let last = Outbound(last);
     let next = u64::from(last.next().0);
-    let spent = exports_numbers::bit_of(last.spent());
-    exports_numbers::put_numbers(out, &[next, spent]);
+    let spent = u64::from(last.spent());
+    output::put(out, 0, &[next, spent]);
 }

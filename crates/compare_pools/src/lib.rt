@@ -27,7 +27,7 @@ fn terminator_in(s: &[u8]) -> Terminator
     ensures { result ≡ terminator_in s.now }
 {
     match <[u8; 4]>::try_from(s) {
-        Ok(four) => terminator::terminator_of(four),
+        Ok(four) => Terminator::from(four),
         Err(_) => Terminator::Wrong,
     }
 }
@@ -38,23 +38,23 @@ pub extern "C" fn rhoikandra_terminator(s: &[u8], out: &mut [u64])
     ensures { out.new ≡ pasted out.old 0 (terminator_numbers (terminator_in s.now)) }
 {
     let terminator = terminator_in(s);
-    exports_numbers::put_numbers(out, &terminator_numbers(terminator));
+    output::put(out, 0, &terminator_numbers(terminator));
 }
 
 // Writes whether the lots of a body are formed as an ON's and as a CC's (19), and whether a CC's groups are formed (20) and balanced (21).
-#[tactic(auto, unfolding(crate::specs::Numbers::form_numbers))]
+#[tactic(auto, unfolding(crate::specs::Numbers::form_numbers, exports_numbers::specs::Bit::bit))]
 #[unsafe(no_mangle)]
 pub extern "C" fn rhoikandra_forms(body: &[u8], out: &mut [u64])
     ensures { out.new ≡ pasted out.old 0 (form_numbers (details body.now)) }
 {
     let judged = groups::groups_of(body);
     let four = [
-        exports_numbers::bit_of(lots::lots_formed(body, false)),
-        exports_numbers::bit_of(lots::lots_formed(body, true)),
-        exports_numbers::bit_of(judged.formed),
-        exports_numbers::bit_of(judged.balanced),
+        u64::from(lots::lots_formed(body, false)),
+        u64::from(lots::lots_formed(body, true)),
+        u64::from(judged.formed),
+        u64::from(judged.balanced),
     ];
-    exports_numbers::put_numbers(out, &four);
+    output::put(out, 0, &four);
 }
 
 // Writes the number of pools of a body, 0 where its length fails 10, the number of replacement pools (22), the sum of the good millions (33) and the weight of the new lots in cents (38).
@@ -69,7 +69,7 @@ pub extern "C" fn rhoikandra_sums(body: &[u8], out: &mut [u64])
         lots::good_millions(body),
         new_lots::new_weight(body),
     ];
-    exports_numbers::put_numbers(out, &four);
+    output::put(out, 0, &four);
 }
 
 // A lot's six numbers; the kinds are counted from 0 here, and from 1 in a record.
@@ -95,11 +95,11 @@ pub extern "C" fn rhoikandra_lot_at(body: &[u8], first: usize, out: &mut [u64])
     ensures { out.new ≡ pasted out.old 0 (lot_numbers (lot_from body.now first)) }
 {
     let lot = lots::lot_at(body, first);
-    exports_numbers::put_numbers(out, &lot_numbers(lot));
+    output::put(out, 0, &lot_numbers(lot));
 }
 
 // Writes whether a new pool's faces fail 34, and whether a new lot fails 35.
-#[tactic(auto, unfolding(crate::specs::Numbers::face_numbers))]
+#[tactic(auto, unfolding(crate::specs::Numbers::face_numbers, exports_numbers::specs::Bit::bit))]
 #[unsafe(no_mangle)]
 pub extern "C" fn rhoikandra_faces(
     body: &[u8],
@@ -110,7 +110,7 @@ pub extern "C" fn rhoikandra_faces(
 )
     ensures { out.new ≡ pasted out.old 0 (face_numbers least variance pools (details body.now)) }
 {
-    let faces_fail = exports_numbers::bit_of(faces::faces_fail(body, least));
-    let lots_fail = exports_numbers::bit_of(new_lots::lots_fail(body, variance, pools));
-    exports_numbers::put_numbers(out, &[faces_fail, lots_fail]);
+    let faces_fail = u64::from(faces::faces_fail(body, least));
+    let lots_fail = u64::from(new_lots::lots_fail(body, variance, pools));
+    output::put(out, 0, &[faces_fail, lots_fail]);
 }

@@ -16,10 +16,10 @@ use trade_id::TradeId;
 fn column_at(columns: &[Column], i: usize) -> Column
     ensures { result ≡ get_or columns.now i (column 0 0) }
 {
-    match columns.get(i) {
-        Some(column) => *column,
-        None => Column { at: 0, width: 0 },
-    }
+    columns
+        .get(i)
+        .copied()
+        .unwrap_or(Column { at: 0, width: 0 })
 }
 
 // A column of the header by its place in their order, or an empty one past the last.
@@ -36,14 +36,15 @@ pub extern "C" fn rhoikandra_column(i: usize, out: &mut [u64])
     ensures { out.new ≡ pasted out.old 0 (column_numbers (column_of i)) }
 {
     let column = column_of(i);
-    exports_numbers::put_numbers(out, &[column.at as u64, column.width as u64]);
+    output::put(out, 0, &[column.at as u64, column.width as u64]);
 }
 
 // Whether a field is digits, and their number.
+#[tactic(auto, unfolding(exports_numbers::specs::Bit::bit))]
 fn field_numbers(f: Option<u64>) -> [u64; 2]
     ensures { result ≡ field_numbers f }
 {
-    [exports_numbers::bit_of(f.is_some()), f.unwrap_or(0)]
+    [u64::from(f.is_some()), f.unwrap_or(0)]
 }
 
 // Writes whether the width bytes from at are digits, and their number.
@@ -52,18 +53,18 @@ pub extern "C" fn rhoikandra_number(s: &[u8], at: usize, width: usize, out: &mut
     ensures { out.new ≡ pasted out.old 0 (field_numbers (read_number s.now at width)) }
 {
     let field = fields::read_number(s, at, width);
-    exports_numbers::put_numbers(out, &field_numbers(field));
+    output::put(out, 0, &field_numbers(field));
 }
 
 // Writes whether a number, read mmddyyyy, is a date, and whether it is a business date, with these holidays.
-#[tactic(auto, unfolding(crate::specs::Numbers::date_numbers))]
+#[tactic(auto, unfolding(crate::specs::Numbers::date_numbers, exports_numbers::specs::Bit::bit))]
 #[unsafe(no_mangle)]
 pub extern "C" fn rhoikandra_date(n: u64, holidays: &[u32], out: &mut [u64])
     ensures { out.new ≡ pasted out.old 0 (date_numbers n holidays.now) }
 {
-    let date = exports_numbers::bit_of(calendar::is_date(n));
-    let business = exports_numbers::bit_of(calendar::business_date(n, holidays));
-    exports_numbers::put_numbers(out, &[date, business]);
+    let date = u64::from(calendar::is_date(n));
+    let business = u64::from(calendar::business_date(n, holidays));
+    output::put(out, 0, &[date, business]);
 }
 
 fn trade_id_numbers(t: TradeId) -> [u64; 3]
@@ -82,7 +83,7 @@ pub extern "C" fn rhoikandra_trade_id(special: &[u8], out: &mut [u64])
     ensures { out.new ≡ pasted out.old 0 (trade_id_numbers (trade_id_of special.now)) }
 {
     let found = trade_id::find_trade_id(special);
-    exports_numbers::put_numbers(out, &trade_id_numbers(found));
+    output::put(out, 0, &trade_id_numbers(found));
 }
 
 // Whether two prices of nine implied decimals agree.

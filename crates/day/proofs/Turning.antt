@@ -1,5 +1,5 @@
 -- A day on its way: the frames that are left lead from it to where all frames of the tape lead from its start.
-use Rattle.std.proofs.Common.{◌≡◌, refl, sym, ap, ◌∙◌, ℕ, ◌+◌, ◌≤◌, List, [], ◌∷◌, map, length, Bool, true, false, cond, arith}
+use Rattle.std.proofs.Common.{◌≡◌, refl, ap, ◌∙◌, ℕ, ◌+◌, ◌≤◌, List, [], ◌∷◌, map, length, Bool, true, false, cond, arith}
 use Rattle.framing.specs.declared.Frame.{Frame}
 use Rattle.framing.specs.Following.{frames_of}
 use Rattle.book.specs.declared.Book.{Book}

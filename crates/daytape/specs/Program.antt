@@ -1,5 +1,5 @@
 -- What the program opens its book with, and what it says of a tape (01, Program daytape).
-use Rattle.std.specs.Prelude.{ℕ, ◌-◌, ◌≡◌, List, [], ◌∷◌, replicate}
+use Rattle.std.specs.Prelude.{ℕ, ◌-◌, ◌≡◌, List, [], ◌∷◌, replicate, unwrap_or}
 use Rattle.trade_id.specs.SpecialInstructions.{id_length_max}
 use Rattle.sequence.specs.Sequence.{outbound, start_line}
 use Rattle.book.specs.declared.Trade.{Trade}
@@ -26,7 +26,7 @@ the_trade = record {
   settlement = 7142026;
   price = 98500000000;
   par = 200000000;
-  openPar = 200000000;
+  open_par = 200000000;
 }
 
 -- one trade, no holidays, subscriber 0123, connection 1200
@@ -35,13 +35,13 @@ values_given = record {
   trades = the_trade ∷ replicate (trades_max - 1) blank;
   lent =
       record {
-        tradeCount = 1;
+        trade_count = 1;
         holidays = replicate holidays_max 0;
-        holidayCount = 0;
+        holiday_count = 0;
         subscriber = 48 ∷ 49 ∷ 50 ∷ 51 ∷ [];
-        limits = record { ceiling = 2500; variance = 10000; poolsAMillion = 3; least = 1000 };
+        limits = record { ceiling = 2500; variance = 10000; pools_a_million = 3; least = 1000 };
       };
-  lastMessageId = 0;
+  last_message_id = 0;
   connection = record { id = 49 ∷ 50 ∷ 48 ∷ 48 ∷ []; line = start_line; outbound = outbound 0 };
 }
 
@@ -52,15 +52,15 @@ start_of v = opened_state v (replicate 512 no_pool)
 abbrev pub start : State
 start = start_of values_given
 
--- what is said of a trade of a state
+-- what is said of a trade of a state: zeros where it is not known
 abbrev pub said_of : State → ℕ → Figures
-said_of s trade = figures_of s.book s.table trade
+said_of s trade = unwrap_or (figures_of s.book s.table trade) (record { open_par = 0; millions = 0 })
 
 -- the two counts of the tape's calls to a book that is opened with some values, and what the book then says of the trade
 pub record ReportsOver (v : Values) (tape : List ℕ) (r : Report) : Type 0 where
   pub accepted : r.accepted ≡ accepted_among (fed (start_of v) (puts_of tape))
   pub others : r.others ≡ others_among (fed (start_of v) (puts_of tape))
-  pub openPar : r.openPar ≡ (said_of (after_all (start_of v) (puts_of tape)) 0).openPar
+  pub open_par : r.open_par ≡ (said_of (after_all (start_of v) (puts_of tape)) 0).open_par
   pub millions : r.millions ≡ (said_of (after_all (start_of v) (puts_of tape)) 0).millions
 
 -- the same with the program's values

@@ -21,7 +21,7 @@ const TAPE_MAX: usize = 65536;
 struct Report {
     accepted: u64,
     others: u64,
-    openPar: u64,
+    open_par: u64,
     millions: u64,
 }
 
@@ -36,7 +36,7 @@ const THE_TRADE: Trade = Trade {
     settlement: 7142026,
     price: 98500000000,
     par: 200000000,
-    openPar: 200000000,
+    open_par: 200000000,
 };
 
 // What the program opens its book with.
@@ -49,18 +49,18 @@ fn values() -> Values
     Values {
         trades,
         lent: Lent {
-            tradeCount: 1,
+            trade_count: 1,
             holidays: [0; book::HOLIDAYS_MAX],
-            holidayCount: 0,
+            holiday_count: 0,
             subscriber: *b"0123",
             limits: Limits {
                 ceiling: 2500,
                 variance: 10000,
-                poolsAMillion: 3,
+                pools_a_million: 3,
                 least: 1000,
             },
         },
-        lastMessageId: 0,
+        last_message_id: 0,
         connection: Connection {
             id: *b"1200",
             line: Line::start(),
@@ -69,23 +69,24 @@ fn values() -> Values
     }
 }
 
-// The day of a tape, over a table of the program's own, with values that are in range.
+// The day of a tape, over a table of the program's own, with values that are in range. A book that opening refuses is run as well, and each frame put to it gets 42.
 fn day_over(v: Values, tape: &[u8]) -> Report
     ensures { values_fine v ≡ true → ReportsOver v tape.now result }
 {
     let mut pools = [rows::none(); RECORDS];
-    let opened = table_open::open_table(v, &mut pools);
-    let day = day::run_day(opened.book, &mut pools, tape);
-    let figures = table_figures::table_figures(&day.book, &pools, 0, 0);
+    let book = table_open::open_table(v, &mut pools).unwrap_or_else(|refused| refused);
+    let day = day::run_day(book, &mut pools, tape);
+    let figures = table_figures::table_figures(&day.book, &pools, 0, 0).unwrap_or_default();
     Report {
         accepted: day.accepted,
         others: day.others,
-        openPar: figures.openPar,
+        open_par: figures.open_par,
         millions: figures.millions,
     }
 }
 
 // The day of a tape, with the program's values.
+#[tactic(auto, using(crate::proofs::Given::given_fine))]
 fn day_of(tape: &[u8]) -> Report
     ensures { Reports tape.now result }
 {
@@ -112,5 +113,5 @@ fn main(rt: HostRuntime) -> io::Result<()> {
     let n = read_full(&mut rt.stdin(), &mut tape);
     let r = day_of(&tape[..n]);
     println!(rt; "day {} {}", r.accepted, r.others)?;
-    println!(rt; "trade T1 {} {}", r.openPar, r.millions)
+    println!(rt; "trade T1 {} {}", r.open_par, r.millions)
 }

@@ -1,19 +1,24 @@
 -- What a detail reader has still to give: turn by turn, and at the start, where it is all details of a body.
-use Rattle.std.proofs.Common.{◌≡◌, refl, ap, inl, inr, ℕ, zero, suc, ◌+◌, ◌-◌, ◌/◌, ◌≢◌, List, [], ◌∷◌, length, Some, None, MatchOption, arith}
+use Rattle.std.proofs.Common.{◌≡◌, refl, ap, subst, inl, inr, ℕ, zero, suc, ◌+◌, ◌-◌, ◌/◌, ◌≢◌, List, [], ◌∷◌, length, Some, None, MatchOption, arith}
 use Rattle.std.proofs.lemmas.Bool.{cases_lt}
+use Rattle.std.proofs.lemmas.Iterator.{YieldsList}
+use Rattle.std.proofs.lemmas.Iterator.Consumers.{YieldsList-from_shown}
 use borrow.Author.Tests.{tests}
 use Rattle.lists.specs.Lists.{tab}
+use Rattle.layout.specs.declared.Detail.{Detail}
 use Rattle.layout.specs.declared.Step.{Step}
 use Rattle.layout.specs.Columns.{header_width, detail_width}
 use Rattle.layout.specs.Details.{next_detail, details, pools, pool_count, place_of}
 use Rattle.layout.proofs.Passes.{pool_of}
 use Rattle.layout.proofs.Lengths.{count_max}
 use Rattle.layout.proofs.Reader.{at_end, at_detail, length_details}
-use Rattle.detail_reader.specs.Left.{details_at, details_from}
+use Rattle.detail_reader.specs.Left.{details_at, details_from, details_left, gives}
+use Rattle.detail_reader.specs.declared.Details.{Details}
 
 module _ (body : List ℕ) where
   -- the reader gives the first of what is left, and leaves the others
-  left_law : (at : ℕ) → MatchOption (next_detail body at) (details_from body at ≡ []) (λ (step : Step). details_from body at ≡ step.detail ∷ details_from body step.next)
+  left_law : (at : ℕ)
+      → MatchOption (next_detail body at) (details_from body at ≡ []) (λ (step : Step). details_from body at ≡ step.detail ∷ details_from body step.next)
   unfolding details_from
   left_law at = elim (cases_lt (length body - at) detail_width) [
     | inl short ↦
@@ -52,3 +57,7 @@ module _ (body : List ℕ) where
 pub ruleset turns_left = (left_end, left_more)
 
 pub ruleset pools_left = (left_all, left_none, length_details, count_max)
+
+-- a pass over a reader takes what it has still to give
+pub reads : {s : Details} (ds : List Detail) → details_left s ≡ ds → YieldsList gives (λ d. d) s ds
+reads {s} ds e = subst (YieldsList gives (λ d. d) s) e (YieldsList-from_shown gives (λ d. d) details_left (λ t u h. ap length h.0.0) (λ t d u h. h.0) s)

@@ -1,4 +1,5 @@
--- A pass over a body by a reader takes in all details: turn by turn, from a reader at the first detail, the state at the end is that of all details of the body.
+-- A pass over a body by a reader takes in all details: turn by turn, from a reader at the first detail,
+-- the state at the end is that of all details of the body.
 use Rattle.std.proofs.Common.{◌≡◌, ◌≢◌, refl, ap, ℕ, zero, suc, ◌≤◌, List, length, Option, Some, None, arith}
 use Rattle.std.proofs.lemmas.List.{nil_from_length}
 use Rattle.std.specs.Option.{option_map_or}
@@ -12,7 +13,8 @@ use Rattle.detail_reader.specs.Left.{details_from}
 use Rattle.detail_reader.proofs.Left.{left_end, left_more, left_all}
 
 module _ {S : Type 0} (f : S → Detail → S) (body : List ℕ) where
-  -- the state after so many turns of a reader from a place on, or fewer where it comes to the end: each takes the detail that it gives into the state, and goes on behind it
+  -- the state after so many turns of a reader from a place on, or fewer where it comes to the end:
+  -- each takes the detail that it gives into the state, and goes on behind it
   abbrev pub turns : ℕ → S → ℕ → S
   turns zero s at = s
   turns (suc k) s at = option_map_or (λ (step : Step). turns k (f s step.detail) step.next) (next_detail body at) s
@@ -22,7 +24,8 @@ module _ {S : Type 0} (f : S → Detail → S) (body : List ℕ) where
   turns_left zero s at h = rw (nil_from_length (details_from body at) (omega arith)) refl
   turns_left (suc k) s at h = go (next_detail body at) refl (λ t place. turns_left k t place)
     where
-      go : (r : Option Step) → next_detail body at ≡ r → ((t : S) (place : ℕ) → length (details_from body place) ≤ k → turns k t place ≡ fold f t (details_from body place))
+      go : (r : Option Step) → next_detail body at ≡ r
+          → ((t : S) (place : ℕ) → length (details_from body place) ≤ k → turns k t place ≡ fold f t (details_from body place))
           → option_map_or (λ (step : Step). turns k (f s step.detail) step.next) r s ≡ fold f s (details_from body at)
       go None e rest = rw (left_end body at e)
       go (Some step) e rest =

@@ -2,13 +2,14 @@
 #![tactic(auto)]
 
 ghost use Rattle.std.specs.Prelude.{◌≡◌, ◌≤◌, length};
-ghost use Rattle.std.specs.Iterator.{YieldsFirst, item_count};
+ghost use Rattle.std.specs.Iterator.{item_count};
 ghost use Rattle.layout.specs.Columns.{header_width};
 ghost use Rattle.layout.specs.Details.{details, pools_max};
-ghost use Rattle.detail_reader.specs.Left.{details_left};
+ghost use Rattle.detail_reader.specs.Left.{details_left, gives};
 
 use layout::Detail;
 
+// A body and the place in it where the next detail stands.
 #[derive(Clone, Copy)]
 pub struct Details<'a> {
     pub body: &'a [u8],
@@ -44,7 +45,7 @@ pub fn pools<'a>(body: &'a [u8]) -> Details<'a>
 impl<'a> Iterator for Details<'a> {
     type Item = Detail;
 
-    ghost next_gives = { YieldsFirst details_left };
+    ghost next_gives = { gives };
 
     ghost remaining = { item_count details_left };
 

@@ -2,7 +2,7 @@
 use Rattle.std.specs.Prelude.{ℕ, ◌+◌, ◌≡◌, List, [], ◌∷◌, Bool, cond, length, get_or, eqb}
 use Rattle.lists.specs.Lists.{pasted}
 use Rattle.framing.specs.declared.Frame.{Frame}
-use Rattle.std.specs.Prelude.{Option, Some, None}
+use Rattle.std.specs.Prelude.{Option, Some, None, Result, Ok, Err}
 use Rattle.acknowledgment.specs.Frames.{aa_length}
 use Rattle.book.specs.declared.Answer.{Answer}
 use Rattle.book.specs.declared.Answer.TheVariants.{Rejected}
@@ -12,7 +12,7 @@ use Rattle.image.specs.Words as words
 use Rattle.image.specs.Images.{trades_words, book_words, image_of}
 use Rattle.calls_words.specs.Calls.{is_time, time_refused, said_with, words_after}
 use Rattle.calls.specs.declared.Stepped.{Stepped}
-use Rattle.calls.specs.declared.Opened.{Opened}
+use Rattle.book.specs.declared.Book.{Book}
 
 -- the answer that is told: the call's own where the time bytes are six
 unfoldable pub told_as : List ℕ → Answer → Answer
@@ -31,10 +31,10 @@ pub record Finishes (ws said time : List ℕ) (r : Stepped) (ws' said' : List �
   pub image : ws' ≡ words_after ws (told_as time r.answer) r.book
   pub answer : said' ≡ pasted said 0 (said_with (told_as time r.answer) (bytes_out (is_silent (told_as time r.answer)) (outbound_in ws) r.book.values.connection.outbound.0))
 
--- the end of an opening: 0 and the words of the opened book where it passes, else the number of its refusal
-pub record OpensTo (ws : List ℕ) (o : Opened) (ws' : List ℕ) (r : ℕ) : Type 0 where
-  pub code : r ≡ cond o.fine 0 (number_of opening_refused)
-  pub image : ws' ≡ cond o.fine (pasted ws 0 (image_of o.book)) ws
+-- the end of an opening: 0 and the words of the opened book, or the number of its refusal, and the words as they were
+abbrev pub OpensTo : List ℕ → Result Book Book → List ℕ → ℕ → Type 0
+OpensTo ws (Ok b) ws' r = (r ≡ 0) × (ws' ≡ pasted ws 0 (image_of b))
+OpensTo ws (Err b) ws' r = (r ≡ number_of opening_refused) × (ws' ≡ ws)
 
 -- of a frame: whether there is one, where its body starts and ends, and the place after it
 abbrev pub frame_numbers : Option Frame → List ℕ

@@ -9,12 +9,17 @@ ghost use Rattle.calls_words.specs.Faults.{opening_fault_in, fault_numbers};
 
 use fault::Fault;
 
+// The rule that words break which lend nothing to opening, or are no book's.
+const WORDS: u64 = 101;
+
 // 41: the rule that is broken first by what words lend and a table of so many records.
 pub fn opening_fault(image: &[u64], records: usize) -> Option<Fault>
     ensures { result ≡ opening_fault_in image.now records }
 {
-    let read = image_reading::read_lent(image);
-    fault::tested(101, 0, read.fine).or_else(|| fault_opening::opening_fault(&read.values, records))
+    let Some(values) = image_reading::read_lent(image) else {
+        return fault::tested(WORDS, 0, false);
+    };
+    fault_opening::opening_fault(&values, records)
 }
 
 // Writes what is broken in two numbers: zeros where nothing is.
@@ -26,13 +31,14 @@ pub fn put_fault(out: &mut [u64], found: Option<Fault>)
         Some(f) => [f.rule, f.place],
         None => [0, 0],
     };
-    exports_numbers::put_numbers(out, &two);
+    output::put(out, 0, &two);
 }
 
 // Writes what is broken of the book that words say, where its table was judged: of words that are no book's that they are none.
+#[tactic(auto, unfolding(image_reading::specs::Reading::read_book))]
 pub fn put_book_fault(out: &mut [u64], image: &[u64], found: Option<Fault>)
     ensures { out.new ≡ pasted out.old 0 (fault_numbers (first (test 101 0 (is_image image.now) ∷ found ∷ []))) }
 {
-    let read = image_reading::read_book(image);
-    put_fault(out, fault::tested(101, 0, read.fine).or(found));
+    let says_book = image_reading::read_book(image).is_some();
+    put_fault(out, fault::tested(WORDS, 0, says_book).or(found));
 }

@@ -1,10 +1,8 @@
-// Numbers for C and Rust: an answer in two numbers, what two numbers tell the tally, and numbers written into a lent slice.
+// Numbers for C and Rust: an answer in two numbers, and what two numbers tell the tally.
 #![tactic(auto)]
 
 ghost use Rattle.std.specs.Prelude.{◌≡◌};
 ghost use Rattle.exports_numbers.specs.Said.{said_of, is_told, heard_as, heard_in};
-ghost use Rattle.lists.specs.Lists.{pasted};
-ghost use Rattle.exports_numbers.specs.Bit.{bit};
 
 use book::Answer;
 use tally::Outcome;
@@ -53,23 +51,5 @@ pub fn hear(said: &[u64]) -> Option<Outcome>
     match said {
         [first, second, ..] => hear_as(*first, *second),
         _ => None,
-    }
-}
-
-// A yes or a no as a number.
-#[tactic(auto, unfolding(crate::specs::Bit::bit))]
-pub fn bit_of(b: bool) -> u64
-    ensures { result ≡ bit b }
-{
-    u64::from(b)
-}
-
-// Writes numbers at the head of a slice. Numbers that do not fit are not written.
-#[tactic(auto, unfolding(lists::specs::Lists::pasted, lists::specs::Lists::within))]
-pub fn put_numbers(out: &mut [u64], numbers: &[u64])
-    ensures { out.new ≡ pasted out.old 0 numbers.now }
-{
-    if numbers.len() <= out.len() {
-        out[..numbers.len()].copy_from_slice(numbers);
     }
 }

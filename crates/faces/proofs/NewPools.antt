@@ -1,13 +1,14 @@
 -- The new pools of a message that passes 19: every pool of an ON, and the pools of a CC that 22 counts.
 use mathlib.Core.Path.{◌≡◌, refl, ap}
 use mathlib.Core.List.{List, [], ◌∷◌}
-use mathlib.Core.Bool.{Bool, true, false, not, ◌&&◌, ◌||◌}
+use mathlib.Core.Bool.{Bool, true, false, not, ◌&&◌}
 use Prim.Native.Nat.{ℕ}
+use native.Mathlib.Omega.{arith}
 use lib.Dec.{eqb}
 use lib.ListN.{length}
-use borrow.Author.Tests.{eqb-true}
+use borrow.Author.Tests.{tests, eqb-true}
 use Rattle.lists.specs.Lists.{keep}
-use Rattle.lists.proofs.Tests.{and_left, and_right}
+use Rattle.lists.proofs.Tests.{and_right}
 use Rattle.layout.specs.declared.Detail.{Detail}
 use Rattle.terminator.specs.Terminators.{digit_new, digit_canceled, digit_replacement, is_wrong, one, term, is_replacement}
 use Rattle.terminator.specs.Lots.{goes_on, lots_formed, first_on, first_cc, formed_for, replacement_count}
@@ -16,9 +17,7 @@ use Rattle.faces.specs.Faces.{is_new, new_pools}
 module _ (first : ℕ → Bool) (d : Detail) (ds : List Detail) (f : lots_formed first (d ∷ ds) ≡ true) where
   -- 19 of the first pool's position one, and of the others
   begins : first (one d) ≡ true
-  begins =
-      and_left (first (one d)) (not (is_wrong (term d)))
-      (and_left (first (one d) && not (is_wrong (term d))) (goes_on d ds) (and_left ((first (one d) && not (is_wrong (term d))) && goes_on d ds) (lots_formed first ds) f))
+  begins = grind (arith, tests)
 
   goes : lots_formed first ds ≡ true
   goes = and_right ((first (one d) && not (is_wrong (term d))) && goes_on d ds) (lots_formed first ds) f
@@ -32,11 +31,7 @@ unfolding formed_for
 on_new ds f = new_on ds f
 
 either : (n : ℕ) → first_cc n ≡ true → eqb n digit_replacement ≡ not (eqb n digit_canceled)
-either n e = go (eqb n digit_canceled) refl e
-  where
-    go : (b : Bool) → eqb n digit_canceled ≡ b → (b || eqb n digit_replacement) ≡ true → eqb n digit_replacement ≡ not b
-    go true c h = rw (eqb-true n digit_canceled c)
-    go false c h = h
+either n e = grind (arith, tests)
 
 new_cc : (ds : List Detail) → lots_formed first_cc ds ≡ true → keep is_replacement ds ≡ keep is_new ds
 new_cc [] f = refl

@@ -35,17 +35,17 @@ faces_fail least ds = any (face_fails least) (new_pools ds)
 
 -- ---- 35: a good lot's sum of current faces is off its weight by more than the variance (in cents) for each million, or it has too many pools for its millions
 unfoldable pub good_lot_fails : ℕ → ℕ → ℕ → ℕ → ℕ → Bool
-good_lot_fails sum pools millions variance poolsAMillion =
-    ltb (variance * millions) (abs_diff sum (millions * million_cents)) || ltb (poolsAMillion * millions) pools
+good_lot_fails sum pools millions variance pools_a_million =
+    ltb (variance * millions) (abs_diff sum (millions * million_cents)) || ltb (pools_a_million * millions) pools
 
 -- 35 of one lot: only good lots are held to it
 unfoldable pub lot_fails : ℕ → ℕ → Lot → Bool
-lot_fails variance poolsAMillion l =
-    is_good (lot_kind l) && good_lot_fails (sum_of current_cents (pools_of l)) (length (pools_of l)) (lot_millions l) variance poolsAMillion
+lot_fails variance pools_a_million l =
+    is_good (lot_kind l) && good_lot_fails (sum_of current_cents (pools_of l)) (length (pools_of l)) (lot_millions l) variance pools_a_million
 
 -- 35 of a message: some new lot fails it
 unfoldable pub lots_fail : ℕ → ℕ → List Detail → Bool
-lots_fail variance poolsAMillion ds = any (lot_fails variance poolsAMillion) (new_lots ds)
+lots_fail variance pools_a_million ds = any (lot_fails variance pools_a_million) (new_lots ds)
 
 -- ---- 38: the weight that a message brings is that of its new lots
 unfoldable pub new_weight : List Detail → ℕ

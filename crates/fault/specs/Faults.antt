@@ -39,7 +39,7 @@ limits_fault l =
     first
     (test 107 0 (leb l.ceiling ceiling_max)
     ∷ test 108 0 (leb l.variance variance_max)
-    ∷ test 109 0 (between 1 pools_a_million_max l.poolsAMillion)
+    ∷ test 109 0 (between 1 pools_a_million_max l.pools_a_million)
     ∷ test 110 0 (between 1 original_most l.least)
     ∷ [])
 
@@ -70,13 +70,13 @@ date_fault i day = test 104 i (is_date day)
 unfoldable pub values_fault : Values → Option Fault
 values_fault v =
     first
-    (test 102 0 (leb v.lent.tradeCount trades_max)
-    ∷ test 103 0 (leb v.lent.holidayCount holidays_max)
+    (test 102 0 (leb v.lent.trade_count trades_max)
+    ∷ test 103 0 (leb v.lent.holiday_count holidays_max)
     ∷ each date_fault 0 (holidays_of v)
     ∷ test 105 0 (account_fine v.lent.subscriber)
     ∷ test 106 0 (account_fine v.connection.id)
     ∷ limits_fault v.lent.limits
-    ∷ test 111 0 (leb v.lastMessageId eleven_digits_max)
+    ∷ test 111 0 (leb v.last_message_id eleven_digits_max)
     ∷ test 112 0 (leb v.connection.outbound.0 outbound_max)
     ∷ each (trade_fault (holidays_of v)) 0 (trades_of v)
     ∷ names_fault 0 (map trade_name (trades_of v))
@@ -91,8 +91,8 @@ opening_fault v records = first (values_fault v ∷ test 141 0 (leb records reco
 unfoldable pub record_fault : Values → ℕ → Pool → Option Fault
 record_fault v i r =
     first
-    (test 151 i (ltb r.trade v.lent.tradeCount)
-    ∷ test 152 i (between 1 v.lastMessageId r.message)
+    (test 151 i (ltb r.trade v.lent.trade_count)
+    ∷ test 152 i (between 1 v.last_message_id r.message)
     ∷ test 153 i (leb 1 r.ordinal)
     ∷ test 154 i (leb r.current eleven_digits_max)
     ∷ test 155 i (kind_fine r)
@@ -102,14 +102,14 @@ record_fault v i r =
 unfoldable pub follows_fault : ℕ → Pool → Pool → Option Fault
 follows_fault i q r = first (test 156 i (not_falling q r) ∷ test 157 i (agree_on_trade q r) ∷ test 158 i (agree_on_lot q r) ∷ [])
 
--- a record and the next one, where there is one
+-- a record and the next one, which is that of the place, where there is one
 abbrev pub next_fault : ℕ → Pool → List Pool → Option Fault
 next_fault i q [] = None
-next_fault i q (r ∷ rs) = follows_fault (i + 1) q r
+next_fault i q (r ∷ rs) = follows_fault i q r
 
 -- the records after the first, each with the one before it; the first is that of a place
 abbrev pub order_fault : ℕ → List Pool → Option Fault
-order_fault = first_of next_fault
+order_fault i = first_of next_fault (i + 1)
 
 -- records of one message with equal matched fields
 abbrev pub twins : Pool → Pool → Bool
@@ -125,7 +125,7 @@ zeros_fault i r = test 160 i (is_none r)
 
 -- a trade whose open par is not par less what its lots weigh
 abbrev pub par_fault : List Pool → ℕ → Trade → Option Fault
-par_fault rs i t = test 161 i (eqb (t.openPar + trade_weight i rs) t.par)
+par_fault rs i t = test 161 i (eqb (t.open_par + trade_weight i rs) t.par)
 
 -- 42 but for the open pars: opening's rules, the inbound line, the number of live pools, the live records, those after them
 unfoldable pub table_fault : Book → List Pool → Option Fault

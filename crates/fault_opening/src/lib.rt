@@ -14,7 +14,7 @@ use fault::Fault;
 fn limits_fault(l: &Limits) -> Option<Fault>
     ensures { result ≡ limits_fault l.now }
 {
-    let pools = (1..=check_opening::POOLS_A_MILLION_MAX).contains(&l.poolsAMillion);
+    let pools = (1..=check_opening::POOLS_A_MILLION_MAX).contains(&l.pools_a_million);
     let least = (1..=book::FACE_MAX).contains(&l.least);
     fault::broken(
         0,
@@ -83,13 +83,13 @@ pub fn values_fault(v: &Values) -> Option<Fault>
     let lent = &v.lent;
     let trades = v.opened_trades();
     let holidays = v.opened_holidays();
-    fault::tested(102, 0, lent.tradeCount <= book::TRADES_MAX)
-        .or_else(|| fault::tested(103, 0, lent.holidayCount <= book::HOLIDAYS_MAX))
+    fault::tested(102, 0, lent.trade_count <= book::TRADES_MAX)
+        .or_else(|| fault::tested(103, 0, lent.holiday_count <= book::HOLIDAYS_MAX))
         .or_else(|| dates_fault(holidays))
         .or_else(|| fault::tested(105, 0, check_opening::account_fine(&lent.subscriber)))
         .or_else(|| fault::tested(106, 0, check_opening::account_fine(&v.connection.id)))
         .or_else(|| limits_fault(&lent.limits))
-        .or_else(|| fault::tested(111, 0, v.lastMessageId <= book::ELEVEN_DIGITS_MAX))
+        .or_else(|| fault::tested(111, 0, v.last_message_id <= book::ELEVEN_DIGITS_MAX))
         .or_else(|| fault::tested(112, 0, v.connection.outbound.0 <= sequence::OUTBOUND_MAX))
         .or_else(|| trades_fault(trades, holidays))
         .or_else(|| names_fault(trades))

@@ -4,8 +4,7 @@
 ghost use Rattle.std.specs.Prelude.{◌≡◌, ◌≤◌, length, drop};
 ghost use Rattle.lists.specs.Lists.{any};
 ghost use Rattle.fault.specs.Rules.{each};
-ghost use Rattle.fault.specs.Faults.{record_fault, follows_fault, order_fault, twins, once_fault, zeros_fault};
-ghost use Rattle.fault_records.specs.Next.{fault_of_next};
+ghost use Rattle.fault.specs.Faults.{record_fault, follows_fault, next_fault, order_fault, twins, once_fault, zeros_fault};
 
 use book::{Pool, Values};
 use fault::Fault;
@@ -18,8 +17,8 @@ fn record_fault(p: &Pool, values: &Values, place: u64) -> Option<Fault>
     fault::broken(
         place,
         &[
-            (151, p.trade < values.lent.tradeCount as u64),
-            (152, (1..=values.lastMessageId).contains(&p.message)),
+            (151, p.trade < values.lent.trade_count as u64),
+            (152, (1..=values.last_message_id).contains(&p.message)),
             (153, 1 <= p.ordinal),
             (154, p.current <= book::ELEVEN_DIGITS_MAX),
             (155, check_soundness::kind_fine(p)),
@@ -57,7 +56,7 @@ fn follows_fault(before: &Pool, p: &Pool, place: u64) -> Option<Fault>
 
 // The same of a record and the next one, which is that of the place, where there is one.
 fn next_fault(before: &Pool, later: &[Pool], place: u64) -> Option<Fault>
-    ensures { result ≡ fault_of_next place before.now later.now }
+    ensures { result ≡ next_fault place before.now later.now }
 {
     follows_fault(before, later.first()?, place)
 }

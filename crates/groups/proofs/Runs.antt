@@ -42,30 +42,32 @@ run_of before os ns =
       bad = of_kind Bad os && of_kind Bad ns;
     }
 
-one_more_canceled : (k : Kind) (os ns : List Lot) (l : Lot) → (of_kind k (os ++ (l ∷ [])) && of_kind k ns) ≡ ((of_kind k os && of_kind k ns) && same_kind k (lot_kind l))
-one_more_canceled k os ns l = rw (all_append (λ (x : Lot). same_kind k (lot_kind x)) os (l ∷ [])) (go (of_kind k os) (of_kind k ns) (same_kind k (lot_kind l)))
-  where
-    go : (a b x : Bool) → ((a && (x && true)) && b) ≡ ((a && b) && x)
-    go a b x = grind (arith, tests)
+one_more_canceled : (k : Kind) (os ns : List Lot) (l : Lot)
+    → (of_kind k (os ++ (l ∷ [])) && of_kind k ns) ≡ ((of_kind k os && of_kind k ns) && same_kind k (lot_kind l))
+one_more_canceled k os ns l = grind (arith, tests, all_append (λ (x : Lot). same_kind k (lot_kind x)) os (l ∷ []))
 
-one_more_replacement : (k : Kind) (os ns : List Lot) (l : Lot) → (of_kind k os && of_kind k (ns ++ (l ∷ []))) ≡ ((of_kind k os && of_kind k ns) && same_kind k (lot_kind l))
-one_more_replacement k os ns l = rw (all_append (λ (x : Lot). same_kind k (lot_kind x)) ns (l ∷ [])) (simp (and_assoc, and-true))
+one_more_replacement : (k : Kind) (os ns : List Lot) (l : Lot)
+    → (of_kind k os && of_kind k (ns ++ (l ∷ []))) ≡ ((of_kind k os && of_kind k ns) && same_kind k (lot_kind l))
+one_more_replacement k os ns l = grind (arith, tests, all_append (λ (x : Lot). same_kind k (lot_kind x)) ns (l ∷ []))
 
 millions_more : (xs : List Lot) (l : Lot) → sum_of lot_millions (xs ++ (l ∷ [])) ≡ sum_of lot_millions xs + lot_millions l
 millions_more xs l = omega (arith, sum_append lot_millions xs (l ∷ []))
 
 module _ (before : Groups) (os ns : List Lot) (l : Lot) where
   canceled_more : run_of before (os ++ (l ∷ [])) ns ≡ with_canceled (run_of before os ns) l.last
-  canceled_more = rw (length-append os (l ∷ []), one_more_canceled Good os ns l, one_more_canceled Odd os ns l, one_more_canceled Bad os ns l, millions_more os l)
+  canceled_more =
+      rw (length-append os (l ∷ []), one_more_canceled Good os ns l, one_more_canceled Odd os ns l, one_more_canceled Bad os ns l, millions_more os l)
 
   replacement_more : run_of before os (ns ++ (l ∷ [])) ≡ with_replacement (run_of before os ns) l.last
-  replacement_more = rw (length-append ns (l ∷ []), one_more_replacement Good os ns l, one_more_replacement Odd os ns l, one_more_replacement Bad os ns l, millions_more ns l)
+  replacement_more =
+      rw (length-append ns (l ∷ []), one_more_replacement Good os ns l, one_more_replacement Odd os ns l, one_more_replacement Bad os ns l, millions_more ns l)
 
 -- ---- the pass: what is judged at the end are the groups before, the one at hand and those to come
 abbrev verdict : Groups → List Group → Groups
 verdict before gs = record { formed = before.formed && all group_formed gs; balanced = before.balanced && all group_balanced gs }
 
-closed : (before : Groups) (os ns : List Lot) (gs : List Group) → verdict before (record { canceled = os; replacement = ns } ∷ gs) ≡ verdict (judged (run_of before os ns)) gs
+closed : (before : Groups) (os ns : List Lot) (gs : List Group)
+    → verdict before (record { canceled = os; replacement = ns } ∷ gs) ≡ verdict (judged (run_of before os ns)) gs
 closed before os ns gs =
     let g : Group = record { canceled = os; replacement = ns } in
     rw (and_assoc before.formed (group_formed g) (all group_formed gs), and_assoc before.balanced (group_balanced g) (all group_balanced gs))
@@ -80,7 +82,9 @@ module _ (os : List Lot) (l : Lot) (ds : List Detail)
   joins g h e v p = rw e at p
 
   end_pass : (before : Groups) (ns : List Lot) (c : Bool) → is_canceled l.last ≡ c
-      → judged (fold run_on (cond c (with_canceled (cond (ltb 0 (length ns)) (empty_run (judged (run_of before os ns))) (run_of before os ns)) l.last) (with_replacement (run_of before os ns) l.last)) ds)
+      → judged (fold run_on (cond c
+      (with_canceled (cond (ltb 0 (length ns)) (empty_run (judged (run_of before os ns))) (run_of before os ns)) l.last)
+      (with_replacement (run_of before os ns) l.last)) ds)
       ≡ verdict before (groups_from os ns (l ∷ lots_from [] ds))
   end_pass before [] true e = rw e (joins _ _ (canceled_more before os [] l) _ (rest before (os ++ (l ∷ [])) []))
   end_pass before [] false e = rw e (joins _ _ (replacement_more before os [] l) _ (rest before os (l ∷ [])))
@@ -93,7 +97,8 @@ module _ (os : List Lot) (l : Lot) (ds : List Detail)
       ∙ sym (closed before os (n ∷ ns) (groups_from (l ∷ []) [] (lots_from [] ds))))
   end_pass before (n ∷ ns) false e = rw e (joins _ _ (replacement_more before os (n ∷ ns) l) _ (rest before os ((n ∷ ns) ++ (l ∷ []))))
 
-run_pass : (before : Groups) (os ns : List Lot) (ms ds : List Detail) → judged (fold run_on (run_of before os ns) ds) ≡ verdict before (groups_from os ns (lots_from ms ds))
+run_pass : (before : Groups) (os ns : List Lot) (ms ds : List Detail)
+    → judged (fold run_on (run_of before os ns) ds) ≡ verdict before (groups_from os ns (lots_from ms ds))
 run_pass before os ns ms [] =
     let g : Group = record { canceled = os; replacement = ns } in
     rw (and-true (group_formed g), and-true (group_balanced g))
@@ -102,7 +107,10 @@ run_pass before os ns ms (d ∷ ds) =
     (end_pass os (record { middles = ms; last = d }) ds (λ b (xs ys : List Lot). run_pass b xs ys [] ds) before ns (is_canceled d) refl)
   where
     next : Run
-    next = cond (is_canceled d) (with_canceled (cond (ltb 0 (length ns)) (empty_run (judged (run_of before os ns))) (run_of before os ns)) d) (with_replacement (run_of before os ns) d)
+    next =
+        cond (is_canceled d)
+        (with_canceled (cond (ltb 0 (length ns)) (empty_run (judged (run_of before os ns))) (run_of before os ns)) d)
+        (with_replacement (run_of before os ns) d)
 
     go : (e : Bool) → judged (fold run_on (run_of before os ns) ds) ≡ verdict before (groups_from os ns (lots_from (ms ++ (d ∷ [])) ds))
         → judged (fold run_on next ds) ≡ verdict before (groups_from os ns (record { middles = ms; last = d } ∷ lots_from [] ds))

@@ -70,7 +70,7 @@ impl Run {
         requires { Small pools_max self }
         ensures { result ≡ run_on self d }
     {
-        let t = terminator::terminator_of(d.terminator);
+        let t = Terminator::from(d.terminator);
         if !t.is_end() {
             return self;
         }

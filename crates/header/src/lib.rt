@@ -73,6 +73,7 @@ pub fn sequence_fails(body: &[u8]) -> bool
 }
 
 // The sequence number of a body, 0 where it is not digits.
+#[tactic(auto, using(fields::proofs::Bounds::read_below))]
 pub fn arrived(body: &[u8]) -> Inbound
     ensures { result ≡ arrived body.now }
 {

@@ -1,6 +1,7 @@
 -- An image says all that a book holds: a book that is written is an image and is said by it; in an image a book with the same trades is written by its rest alone.
 use mathlib.Core.Path.{◌≡◌, refl, sym, ap, ◌∙◌}
-use mathlib.Core.List.{List, [], ◌∷◌, ◌++◌, map, flat_map, append_assoc, Memᴰ}
+use mathlib.Core.List.{List, [], ◌∷◌, ◌++◌, map, append_assoc, Memᴰ}
+use Rattle.std.specs.List.{flat_map}
 use mathlib.Core.Bool.{Bool, true, false, cond, ◌&&◌}
 use Prim.Native.Nat.{ℕ, ◌+◌, ◌*◌, ◌<◌}
 use native.Mathlib.Nat.{zero-add}
@@ -55,7 +56,6 @@ module _ {A : Type 0} (f : A → List ℕ) (r : List ℕ) where
   -- the rows of joined rows, after some words, are the rows
   rows_from : (pre : List ℕ) (xs : List A) (i : ℕ) → length pre ≡ i * 42 → ((x : A) → Memᴰ x xs → length (f x) ≡ 42)
       → tab (row_at (pre ++ (flat_map f xs ++ r))) (length xs) i ≡ map f xs
-  unfolding flat_map
   rows_from pre [] i l h = refl
   rows_from pre (x ∷ xs) i l h =
       let n : length (f x) ≡ 42 = h x (Memᴰ.head refl) in
@@ -67,7 +67,6 @@ module _ {A : Type 0} (f : A → List ℕ) (r : List ℕ) where
       ∙ (λ j. row_at_law pre (f x) more i l n j ∷ rows_from (pre ++ f x) xs (i + 1) m (λ y k. h y (Memᴰ.tail k)) j)
 
   length_join : (xs : List A) → ((x : A) → Memᴰ x xs → length (f x) ≡ 42) → length (flat_map f xs) ≡ length xs * 42
-  unfolding flat_map
   length_join [] h = refl
   length_join (x ∷ xs) h =
       length-append (f x) (flat_map f xs)
@@ -102,7 +101,7 @@ module _ (ws : List ℕ) (b : Book) (l : length ws ≡ book_words) (q : FormedRe
   unfolding book_in trades_in
   says_book = (λ i. record { values = values_from (rows i) (rest i) (line_in (rest i)); live = get_or (rest i) 51 0 }) ∙ rest_back b q
 
-module _ (b : Book) (h : FormedTrades b.values.trades b.values.lent.tradeCount) (q : FormedRest b) where
+module _ (b : Book) (h : FormedTrades b.values.trades b.values.lent.trade_count) (q : FormedRest b) where
   length_trades : length (flat_map trade_image b.values.trades) ≡ 2688
   length_trades = length_join trade_image [] b.values.trades (λ t k. length_trade t (h.each t k)) ∙ ap (λ (n : ℕ). n * 42) h.most
 
@@ -119,20 +118,20 @@ module _ (b : Book) (h : FormedTrades b.values.trades b.values.lent.tradeCount) 
       ∙ rows_from trade_image (rest_image b) [] b.values.trades 0 refl (λ t k. length_trade t (h.each t k))
 
   -- past the trades that count stand zeros already
-  row_is : (i : ℕ) → i < 64 → row_in (image_of b) b.values.lent.tradeCount i ≡ row_at (image_of b) i
-  row_is i lt = go (ltb i b.values.lent.tradeCount) refl
+  row_is : (i : ℕ) → i < 64 → row_in (image_of b) b.values.lent.trade_count i ≡ row_at (image_of b) i
+  row_is i lt = go (ltb i b.values.lent.trade_count) refl
     where
-      go : (t : Bool) → ltb i b.values.lent.tradeCount ≡ t → cond t (row_at (image_of b) i) (replicate 42 0) ≡ row_at (image_of b) i
+      go : (t : Bool) → ltb i b.values.lent.trade_count ≡ t → cond t (row_at (image_of b) i) (replicate 42 0) ≡ row_at (image_of b) i
       go true e = refl
       go false e =
-          sym blank_words ∙ ap trade_image (sym (h.spare i (ltb-false i b.values.lent.tradeCount e))) ∙ sym (get_or-map trade_image b.values.trades i blank)
+          sym blank_words ∙ ap trade_image (sym (h.spare i (ltb-false i b.values.lent.trade_count e))) ∙ sym (get_or-map trade_image b.values.trades i blank)
           ∙ ap (λ (rs : List (List ℕ)). get_or rs i (trade_image blank)) (sym rows_all) ∙ get_d_tab (row_at (image_of b)) 64 0 i (trade_image blank) lt ∙ ap (row_at (image_of b)) (zero-add i)
 
   rows_back : rows_of (image_of b) ≡ map trade_image b.values.trades
   unfolding rows_of
   rows_back =
       ap (λ (n : ℕ). tab (row_in (image_of b) n) 64 0) (ap (λ (l : List ℕ). get_or l 0 0) rest_is ∙ count_back b q)
-      ∙ tab_same (row_in (image_of b) b.values.lent.tradeCount) (row_at (image_of b)) 64 0 (λ i low high. row_is i (omega arith))
+      ∙ tab_same (row_in (image_of b) b.values.lent.trade_count) (row_at (image_of b)) 64 0 (λ i low high. row_is i (omega arith))
       ∙ rows_all
 
   length_image : length (image_of b) ≡ book_words
@@ -157,7 +156,7 @@ module _ (b : Book) (h : FormedTrades b.values.trades b.values.lent.tradeCount) 
     whole_book = ap book_in written_whole ∙ says_book (image_of b) b length_image q rows_there fit_there rest_is
 
 -- a book with the trades of an image, as many of which count, is written by its rest alone
-module _ (ws : List ℕ) (b : Book) (e : is_image ws ≡ true) (q : FormedRest b) (same : b.values.trades ≡ trades_in ws) (count : b.values.lent.tradeCount ≡ count_in ws) where
+module _ (ws : List ℕ) (b : Book) (e : is_image ws ≡ true) (q : FormedRest b) (same : b.values.trades ≡ trades_in ws) (count : b.values.lent.trade_count ≡ count_in ws) where
   abbrev after : List ℕ
   after = pasted ws trades_words (rest_image b)
 

@@ -1,42 +1,18 @@
--- A test of all the words of a part, or of all the elements of a table, one after another; and one element of those that pass.
+-- A test of all the words of a part, or of all the elements of a table; and one element of those that pass.
 use mathlib.Core.Path.{◌≡◌, refl, sym, ap, ◌∙◌}
 use mathlib.Core.List.{List, ◌∷◌}
-use mathlib.Core.Bool.{Bool, true, false}
+use mathlib.Core.Bool.{Bool, true}
 use Prim.Native.Nat.{ℕ, zero, suc, ◌+◌, ◌-◌, ◌≤◌, ◌<◌}
 use native.Mathlib.Nat.{add-zero, zero-add}
 use native.Mathlib.Omega.{arith}
 use native.Mathlib.Decide.{ℕ_discrete}
 use lib.ListN.{length, get_or}
-use lib.Dec.{ltb}
-use borrow.Author.Tests.{ltb-true}
 use Rattle.lists.specs.Lists.{part, tab, all}
 use Rattle.lists.proofs.Parts.{part_zero, part_cons}
-use Rattle.lists.proofs.Tables.{tab_turn, tab_end, tab_all, get_d_tab}
+use Rattle.lists.proofs.Tables.{get_d_tab}
 use Rattle.lists.proofs.Tests.{and_left, and_right, both}
 
 -- ---- a table
-module _ {A : Type 0} (p : A → Bool) (g : ℕ → A) (n : ℕ) where
-  -- whether what is left at i passes is still the answer
-  abbrev pub Passing : ℕ → Type 0
-  Passing i = all p (tab g (n - i) i) ≡ all p (tab g n 0)
-
-  pub passing_none : Passing 0
-  passing_none = ap (all p) (tab_all g n)
-
-  module _ (i : ℕ) (inv : Passing i) where
-    pub passing_more : i < n → p (g i) ≡ true → Passing (i + 1)
-    passing_more h e =
-        let turn : all p (tab g (n - i) i) ≡ all p (tab g (n - (i + 1)) (i + 1)) = ap (all p) (tab_turn g n i h) ∙ rw e in
-        sym turn ∙ inv
-
-    pub passing_stop : i < n → p (g i) ≡ false → false ≡ all p (tab g n 0)
-    passing_stop h e =
-        let turn : all p (tab g (n - i) i) ≡ false = ap (all p) (tab_turn g n i h) ∙ rw e in
-        sym turn ∙ inv
-
-    pub passing_done : n ≤ i → true ≡ all p (tab g n 0)
-    passing_done h = sym (ap (all p) (tab_end g n i h)) ∙ inv
-
 -- an element of a table that passes
 pub all_at : {A : Type 0} (p : A → Bool) (g : ℕ → A) (n i k : ℕ) → all p (tab g n i) ≡ true → i ≤ k → k < i + n → p (g k) ≡ true
 all_at p g zero i k e h l = absurd (omega arith)
@@ -68,12 +44,6 @@ module _ {A : Type 0} (s : List A) (at : ℕ) (d : A) where
   -- the elements of a part by index
   pub part_at : (n i : ℕ) → at + n ≤ length s → i < n → get_or (part s at n) i d ≡ after i
   part_at n i h l = ap (λ (x : List A). get_or x i d) (part_table n h) ∙ get_d_tab after n 0 i d l ∙ ap after (zero-add i)
-
--- a word of a part that is below a limit
-pub below_at : (s : List ℕ) (at n limit i : ℕ) → at + n ≤ length s → all (λ (w : ℕ). ltb w limit) (part s at n) ≡ true → i < n → get_or s (at + i) 0 < limit
-below_at s at n limit i h e l =
-    ltb-true (get_or s (at + i) 0) limit
-    (all_at (λ (w : ℕ). ltb w limit) (after s at 0) n 0 i (sym (ap (all (λ (w : ℕ). ltb w limit)) (part_table s at 0 n h)) ∙ e) (omega arith) (omega arith))
 
 -- ---- a part of a part
 pub all_made : {A : Type 0} (p : A → Bool) (g : ℕ → A) (n i : ℕ) → ((k : ℕ) → i ≤ k → k < i + n → p (g k) ≡ true) → all p (tab g n i) ≡ true

@@ -63,14 +63,14 @@ module _ (b : Book) (h : FormedRest b) where
 
 -- the parts of a book's words after the trades are its fields
 pub record RestParts (b : Book) : Type 0 where
-  pub count : part (rest_image b) 0 1 ≡ b.values.lent.tradeCount ∷ []
+  pub count : part (rest_image b) 0 1 ≡ b.values.lent.trade_count ∷ []
   pub holidays : part (rest_image b) 1 32 ≡ b.values.lent.holidays
-  pub days : part (rest_image b) 33 1 ≡ b.values.lent.holidayCount ∷ []
+  pub days : part (rest_image b) 33 1 ≡ b.values.lent.holiday_count ∷ []
   pub subscriber : part (rest_image b) 34 4 ≡ b.values.lent.subscriber
   pub connection : part (rest_image b) 38 4 ≡ b.values.connection.id
   pub numbers : part (rest_image b) 42 10
-      ≡ b.values.lent.limits.ceiling ∷ b.values.lent.limits.variance ∷ b.values.lent.limits.poolsAMillion ∷ b.values.lent.limits.least
-      ∷ b.values.lastMessageId ∷ b.values.connection.outbound.0 ∷ flag_of b.values.connection.line.received ∷ last_of b.values.connection.line.received ∷ b.values.connection.line.expected.0 ∷ b.live ∷ []
+      ≡ b.values.lent.limits.ceiling ∷ b.values.lent.limits.variance ∷ b.values.lent.limits.pools_a_million ∷ b.values.lent.limits.least
+      ∷ b.values.last_message_id ∷ b.values.connection.outbound.0 ∷ flag_of b.values.connection.line.received ∷ last_of b.values.connection.line.received ∷ b.values.connection.line.expected.0 ∷ b.live ∷ []
 
 module _ (b : Book) (h : FormedRest b) where
   parts : RestParts b
@@ -78,10 +78,10 @@ module _ (b : Book) (h : FormedRest b) where
   parts =
       let r = rest_image b in
       let ns : List ℕ =
-      b.values.lent.limits.ceiling ∷ b.values.lent.limits.variance ∷ b.values.lent.limits.poolsAMillion ∷ b.values.lent.limits.least
-      ∷ b.values.lastMessageId ∷ b.values.connection.outbound.0 ∷ flag_of b.values.connection.line.received ∷ last_of b.values.connection.line.received ∷ b.values.connection.line.expected.0 ∷ b.live ∷ [] in
+      b.values.lent.limits.ceiling ∷ b.values.lent.limits.variance ∷ b.values.lent.limits.pools_a_million ∷ b.values.lent.limits.least
+      ∷ b.values.last_message_id ∷ b.values.connection.outbound.0 ∷ flag_of b.values.connection.line.received ∷ last_of b.values.connection.line.received ∷ b.values.connection.line.expected.0 ∷ b.live ∷ [] in
       let p = six (part r 0 1) (part r 1 32) (part r 33 1) (part r 34 4) (part r 38 4) (part r 42 10)
-      (b.values.lent.tradeCount ∷ []) b.values.lent.holidays (b.values.lent.holidayCount ∷ []) b.values.lent.subscriber b.values.connection.id ns
+      (b.values.lent.trade_count ∷ []) b.values.lent.holidays (b.values.lent.holiday_count ∷ []) b.values.lent.subscriber b.values.connection.id ns
       (as_long b h 1 32 (omega arith) ∙ sym h.holidays.0)
       (as_long b h 33 1 (omega arith))
       (as_long b h 34 4 (omega arith) ∙ sym h.subscriber.0)
@@ -92,29 +92,29 @@ module _ (b : Book) (h : FormedRest b) where
 
   words : get_or (rest_image b) 42 0 ∷ get_or (rest_image b) 43 0 ∷ get_or (rest_image b) 44 0 ∷ get_or (rest_image b) 45 0 ∷ get_or (rest_image b) 46 0
       ∷ get_or (rest_image b) 47 0 ∷ get_or (rest_image b) 48 0 ∷ get_or (rest_image b) 49 0 ∷ get_or (rest_image b) 50 0 ∷ get_or (rest_image b) 51 0 ∷ []
-      ≡ b.values.lent.limits.ceiling ∷ b.values.lent.limits.variance ∷ b.values.lent.limits.poolsAMillion ∷ b.values.lent.limits.least
-      ∷ b.values.lastMessageId ∷ b.values.connection.outbound.0 ∷ flag_of b.values.connection.line.received ∷ last_of b.values.connection.line.received ∷ b.values.connection.line.expected.0 ∷ b.live ∷ []
+      ≡ b.values.lent.limits.ceiling ∷ b.values.lent.limits.variance ∷ b.values.lent.limits.pools_a_million ∷ b.values.lent.limits.least
+      ∷ b.values.last_message_id ∷ b.values.connection.outbound.0 ∷ flag_of b.values.connection.line.received ∷ last_of b.values.connection.line.received ∷ b.values.connection.line.expected.0 ∷ b.live ∷ []
   words = sym (numbers (rest_image b) (length_rest b h)) ∙ parts.numbers
 
-  pub count_back : get_or (rest_image b) 0 0 ≡ b.values.lent.tradeCount
+  pub count_back : get_or (rest_image b) 0 0 ≡ b.values.lent.trade_count
   count_back = ap (λ (l : List ℕ). get_or l 0 0) (sym (count_word (rest_image b) (length_rest b h)) ∙ parts.count)
 
-  days_back : get_or (rest_image b) 33 0 ≡ b.values.lent.holidayCount
+  days_back : get_or (rest_image b) 33 0 ≡ b.values.lent.holiday_count
   days_back = ap (λ (l : List ℕ). get_or l 0 0) (sym (days_word (rest_image b) (length_rest b h)) ∙ parts.days)
 
   -- a holiday is the word at its place, and 0 past those that count
-  holiday_back : (i : ℕ) → i < 32 → holiday_in (rest_image b) b.values.lent.holidayCount i ≡ get_or b.values.lent.holidays i 0
-  holiday_back i lt = go (ltb i b.values.lent.holidayCount) refl
+  holiday_back : (i : ℕ) → i < 32 → holiday_in (rest_image b) b.values.lent.holiday_count i ≡ get_or b.values.lent.holidays i 0
+  holiday_back i lt = go (ltb i b.values.lent.holiday_count) refl
     where
-      go : (t : Bool) → ltb i b.values.lent.holidayCount ≡ t → cond t (get_or (rest_image b) (1 + i) 0) 0 ≡ get_or b.values.lent.holidays i 0
+      go : (t : Bool) → ltb i b.values.lent.holiday_count ≡ t → cond t (get_or (rest_image b) (1 + i) 0) 0 ≡ get_or b.values.lent.holidays i 0
       go true e = sym (part_at (rest_image b) 1 0 32 i (omega (arith, length_rest b h)) lt) ∙ ap (λ (l : List ℕ). get_or l i 0) parts.holidays
-      go false e = sym (h.spare_holidays i (ltb-false i b.values.lent.holidayCount e))
+      go false e = sym (h.spare_holidays i (ltb-false i b.values.lent.holiday_count e))
 
   holidays_back : holidays_in (rest_image b) ≡ b.values.lent.holidays
   unfolding holidays_in
   holidays_back =
       ap (λ (n : ℕ). tab (holiday_in (rest_image b) n) 32 0) days_back
-      ∙ tab_same (holiday_in (rest_image b) b.values.lent.holidayCount) (λ (i : ℕ). get_or b.values.lent.holidays i 0) 32 0 (λ i low high. holiday_back i (omega arith))
+      ∙ tab_same (holiday_in (rest_image b) b.values.lent.holiday_count) (λ (i : ℕ). get_or b.values.lent.holidays i 0) 32 0 (λ i low high. holiday_back i (omega arith))
       ∙ sym (table_of_law 0 b.values.lent.holidays 32 h.holidays.0)
 
   pub rest_back : ◌≡◌ {A = Book} (record { values = values_from b.values.trades (rest_image b) (line_in (rest_image b)); live = get_or (rest_image b) 51 0 }) b
@@ -130,13 +130,13 @@ module _ (b : Book) (h : FormedRest b) where
               trades = b.values.trades;
               lent =
                   record {
-                    tradeCount = count_back i;
+                    trade_count = count_back i;
                     holidays = holidays_back i;
-                    holidayCount = days_back i;
+                    holiday_count = days_back i;
                     subscriber = parts.subscriber i;
-                    limits = record { ceiling = get_or (q i) 0 0; variance = get_or (q i) 1 0; poolsAMillion = get_or (q i) 2 0; least = get_or (q i) 3 0 };
+                    limits = record { ceiling = get_or (q i) 0 0; variance = get_or (q i) 1 0; pools_a_million = get_or (q i) 2 0; least = get_or (q i) 3 0 };
                   };
-              lastMessageId = get_or (q i) 4 0;
+              last_message_id = get_or (q i) 4 0;
               connection = record { id = parts.connection i; line = record { received = r i; expected = inbound (get_or (q i) 8 0) }; outbound = outbound (get_or (q i) 5 0) };
             };
         live = get_or (q i) 9 0;

@@ -1,7 +1,8 @@
 -- A book's image is as long as a book's types make it: each of its arrays has its length.
 use Prim.Native.Nat.{ℕ, ◌*◌, ◌<◌}
 use mathlib.Core.Path.{◌≡◌, refl, ◌∙◌}
-use mathlib.Core.List.{List, [], ◌∷◌, flat_map}
+use mathlib.Core.List.{List, [], ◌∷◌}
+use Rattle.std.specs.List.{flat_map}
 use native.Mathlib.Omega.{arith}
 use lib.ListN.{length, length-append}
 use mir.Val.{Val}
@@ -24,14 +25,13 @@ trade_long t vs p =
     (omega (arith, g.0.1.0.1, g.1.1.0.1.0.1, g.1.1.1.0.1.0.1, g.1.1.1.1.0.1.0.1, g.1.1.1.1.1.0.1.0.1))
 
 trades_long : (ts : List Trade) (us : List Val) → shadow (each (T.the_row).Denot (T.the_row).own_val ts us) → length (flat_map trade_image ts) ≡ length ts * trade_words
-unfolding flat_map
 trades_long [] us s = refl
 trades_long (t ∷ ts) [] s = absurd s
 trades_long (t ∷ ts) (u ∷ us) s =
     length-append (trade_image t) (flat_map trade_image ts) ∙ omega (arith, trade_long t (u ∷ []) s.0, trades_long ts us s.1)
 
 module _ (b : Book) (vs : List Val) (p : Is B.the_row b vs) where
-  trades_length : length (flat_map trade_image b.values.trades) ≡ trades_words
+  pub trades_length : length (flat_map trade_image b.values.trades) ≡ trades_words
   trades_length =
       let g = p.1.1.0.1.1 in
       trades_long b.values.trades g.0.0 g.0.1.1 ∙ omega (arith, g.0.1.0.1)

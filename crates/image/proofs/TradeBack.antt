@@ -47,7 +47,7 @@ pub record TradeParts (t : Trade) : Type 0 where
   pub buyer : part (trade_image t) 21 4 ≡ t.buyer
   pub contra : part (trade_image t) 25 4 ≡ t.contra
   pub cusip : part (trade_image t) 29 9 ≡ t.cusip
-  pub numbers : part (trade_image t) 38 4 ≡ t.settlement ∷ t.price ∷ t.par ∷ t.openPar ∷ []
+  pub numbers : part (trade_image t) 38 4 ≡ t.settlement ∷ t.price ∷ t.par ∷ t.open_par ∷ []
 
 module _ (t : Trade) (h : FormedTrade t) where
   as_long : (k n : ℕ) → k + n ≤ 42 → length (part (trade_image t) k n) ≡ n
@@ -57,7 +57,7 @@ module _ (t : Trade) (h : FormedTrade t) where
   unfolding trade_image
   parts =
       let r = trade_image t in
-      let ns : List ℕ = t.settlement ∷ t.price ∷ t.par ∷ t.openPar ∷ [] in
+      let ns : List ℕ = t.settlement ∷ t.price ∷ t.par ∷ t.open_par ∷ [] in
       let q = two (part r 0 16 ++ part r 16 1 ++ part r 17 4 ++ part r 21 4 ++ part r 25 4 ++ part r 29 9) (part r 38 4)
       (t.id ++ (t.length ∷ []) ++ t.seller ++ t.buyer ++ t.contra ++ t.cusip) ns (as_long 38 4 (omega arith)) (cut r (length_trade t h)) in
       let p = six (part r 0 16) (part r 16 1) (part r 17 4) (part r 21 4) (part r 25 4) (part r 29 9)
@@ -86,7 +86,7 @@ module _ (t : Trade) (h : FormedTrade t) where
         settlement = get_or (q i) 0 0;
         price = get_or (q i) 1 0;
         par = get_or (q i) 2 0;
-        openPar = get_or (q i) 3 0;
+        open_par = get_or (q i) 3 0;
       }
 
   pub trade_fits_law : trade_fits (trade_image t) ≡ true

@@ -23,7 +23,7 @@ pub record FormedTrade (t : Trade) : Type 0 where
 -- all of a book but its trades
 pub record FormedRest (b : Book) : Type 0 where
   pub holidays : Array holidays_max is_number b.values.lent.holidays
-  pub spare_holidays : (i : ℕ) → b.values.lent.holidayCount ≤ i → get_or b.values.lent.holidays i 0 ≡ 0
+  pub spare_holidays : (i : ℕ) → b.values.lent.holiday_count ≤ i → get_or b.values.lent.holidays i 0 ≡ 0
   pub subscriber : Array account_width is_byte b.values.lent.subscriber
   pub connection : Array account_width is_byte b.values.connection.id
   pub outbound : is_number b.values.connection.outbound.0 ≡ true

@@ -1,8 +1,8 @@
 -- A book as words (01, "The book"): one word for each number and each byte of it, in the order in which the book's structs declare them; and what a list of words says.
 -- Of the trades and the holidays only those that the counts tell are read: past them any words may stand.
 use Rattle.std.specs.Prelude.{None, Option, Some}
-use Rattle.std.specs.Prelude.{ℕ, ◌+◌, ◌*◌, Bool, cond, ◌&&◌, ◌||◌, length, get_or, replicate, eqb, ltb}
-use mathlib.Core.List.{List, [], ◌∷◌, ◌++◌, map, flat_map}
+use Rattle.std.specs.Prelude.{ℕ, ◌+◌, ◌*◌, Bool, cond, ◌&&◌, ◌||◌, length, flat_map, get_or, replicate, eqb, ltb}
+use mathlib.Core.List.{List, [], ◌∷◌, ◌++◌, map}
 use Rattle.lists.specs.Lists.{part, tab, all}
 use Rattle.trade_id.specs.SpecialInstructions.{id_length_max}
 use Rattle.sequence.specs.declared.Inbound.{Inbound}
@@ -28,12 +28,8 @@ abbrev pub book_words : ℕ
 book_words = 2740
 
 -- ---- what a book is as words
--- a word for each of n numbers or bytes
-abbrev pub words_of : List ℕ → ℕ → List ℕ
-words_of s n = tab (λ (k : ℕ). get_or s k 0) n 0
-
 unfoldable pub trade_image : Trade → List ℕ
-trade_image t = t.id ++ (t.length ∷ []) ++ t.seller ++ t.buyer ++ t.contra ++ t.cusip ++ (t.settlement ∷ t.price ∷ t.par ∷ t.openPar ∷ [])
+trade_image t = t.id ++ (t.length ∷ []) ++ t.seller ++ t.buyer ++ t.contra ++ t.cusip ++ (t.settlement ∷ t.price ∷ t.par ∷ t.open_par ∷ [])
 
 -- whether a number was received
 abbrev pub flag_of : Option Inbound → ℕ
@@ -48,9 +44,9 @@ last_of (Some n) = n.0
 -- all of a book but its trades
 unfoldable pub rest_image : Book → List ℕ
 rest_image b =
-    (b.values.lent.tradeCount ∷ []) ++ b.values.lent.holidays ++ (b.values.lent.holidayCount ∷ []) ++ b.values.lent.subscriber ++ b.values.connection.id
-    ++ (b.values.lent.limits.ceiling ∷ b.values.lent.limits.variance ∷ b.values.lent.limits.poolsAMillion ∷ b.values.lent.limits.least
-    ∷ b.values.lastMessageId ∷ b.values.connection.outbound.0 ∷ flag_of b.values.connection.line.received ∷ last_of b.values.connection.line.received ∷ b.values.connection.line.expected.0 ∷ b.live ∷ [])
+    (b.values.lent.trade_count ∷ []) ++ b.values.lent.holidays ++ (b.values.lent.holiday_count ∷ []) ++ b.values.lent.subscriber ++ b.values.connection.id
+    ++ (b.values.lent.limits.ceiling ∷ b.values.lent.limits.variance ∷ b.values.lent.limits.pools_a_million ∷ b.values.lent.limits.least
+    ∷ b.values.last_message_id ∷ b.values.connection.outbound.0 ∷ flag_of b.values.connection.line.received ∷ last_of b.values.connection.line.received ∷ b.values.connection.line.expected.0 ∷ b.live ∷ [])
 
 unfoldable pub image_of : Book → List ℕ
 image_of b = flat_map trade_image b.values.trades ++ rest_image b
@@ -125,7 +121,7 @@ trade_in row =
       settlement = get_or row words.settlement 0;
       price = get_or row words.price 0;
       par = get_or row words.par 0;
-      openPar = get_or row words.open_par 0;
+      open_par = get_or row words.open_par 0;
     }
 
 abbrev pub received_in : ℕ → ℕ → Option Inbound
@@ -141,19 +137,19 @@ values_from trades rest line =
       trades = trades;
       lent =
           record {
-            tradeCount = get_or rest words.trade_count 0;
+            trade_count = get_or rest words.trade_count 0;
             holidays = holidays_in rest;
-            holidayCount = get_or rest words.holiday_count 0;
+            holiday_count = get_or rest words.holiday_count 0;
             subscriber = part rest words.subscriber words.account_width;
             limits =
                 record {
                   ceiling = get_or rest words.ceiling 0;
                   variance = get_or rest words.variance 0;
-                  poolsAMillion = get_or rest words.pools_a_million 0;
+                  pools_a_million = get_or rest words.pools_a_million 0;
                   least = get_or rest words.least 0;
                 };
           };
-      lastMessageId = get_or rest words.last_message_id 0;
+      last_message_id = get_or rest words.last_message_id 0;
       connection = record { id = part rest words.connection words.account_width; line = line; outbound = outbound (get_or rest words.outbound 0) };
     }
 
@@ -170,7 +166,7 @@ blank =
       settlement = 0;
       price = 0;
       par = 0;
-      openPar = 0;
+      open_par = 0;
     }
 
 -- the trades that words say

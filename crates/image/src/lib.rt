@@ -1,13 +1,9 @@
 // A book as words, so that a caller can keep it: the places of the words, and a book written into a lent slice.
 #![tactic(auto)]
 
-ghost use Rattle.std.specs.Prelude.{◌≡◌, ◌≤◌, length};
-ghost use mathlib.Core.List.{[], ◌∷◌, ◌++◌, flat_map};
+ghost use Rattle.std.specs.Prelude.{◌≡◌, ◌≤◌, length, flat_map};
 ghost use Rattle.lists.specs.Lists.{pasted};
-ghost use Rattle.trade_id.specs.SpecialInstructions.{id_length_max};
-ghost use Rattle.book.specs.Opening.{holidays_max};
-ghost use Rattle.image.specs.Words.{account_width, cusip_width, names_words, accounts_words};
-ghost use Rattle.image.specs.Images.{trades_words, words_of, trade_image, flag_of, last_of, rest_image, image_of, blank};
+ghost use Rattle.image.specs.Images.{trades_words, trade_image, flag_of, last_of, rest_image, image_of, blank};
 
 use book::{Book, Trade};
 use sequence::Inbound;
@@ -92,141 +88,48 @@ pub fn no_trade() -> Trade
         settlement: 0,
         price: 0,
         par: 0,
-        openPar: 0,
+        open_par: 0,
     }
 }
 
-// Writes the words of s from at. Words that do not fit are not written.
-fn put_words(words: &mut [u64], at: usize, s: &[u64])
-    ensures { words.new ≡ pasted words.old at s.now }
+// A word for each byte.
+fn words_of<const N: usize>(bytes: [u8; N]) -> [u64; N]
+    ensures { result ≡ bytes.entry }
 {
-    if words.len() < at {
-        return;
-    }
-    if words.len() - at < s.len() {
-        return;
-    }
-    let mut i: usize = 0;
-    while i < s.len() {
-        words[at + i] = s[i];
-        i += 1;
-    }
+    bytes.map(u64::from)
 }
 
-// The words of the accounts and the CUSIP of a trade, one after another.
-fn name_words(
-    seller: [u8; 4],
-    buyer: [u8; 4],
-    contra: [u8; 4],
-    cusip: [u8; 9],
-) -> [u64; NAMES_WORDS]
-    ensures { result ≡ words_of seller account_width ++ words_of buyer account_width ++ words_of contra account_width ++ words_of cusip cusip_width }
+// A word for each holiday.
+fn date_words(dates: [u32; book::HOLIDAYS_MAX]) -> [u64; book::HOLIDAYS_MAX]
+    ensures { result ≡ dates }
 {
-    [
-        seller[0] as u64,
-        seller[1] as u64,
-        seller[2] as u64,
-        seller[3] as u64,
-        buyer[0] as u64,
-        buyer[1] as u64,
-        buyer[2] as u64,
-        buyer[3] as u64,
-        contra[0] as u64,
-        contra[1] as u64,
-        contra[2] as u64,
-        contra[3] as u64,
-        cusip[0] as u64,
-        cusip[1] as u64,
-        cusip[2] as u64,
-        cusip[3] as u64,
-        cusip[4] as u64,
-        cusip[5] as u64,
-        cusip[6] as u64,
-        cusip[7] as u64,
-        cusip[8] as u64,
-    ]
-}
-
-// The words of all parts of a trade, one after another.
-fn trade_row(
-    id: [u8; book::ID_MAX],
-    length: u64,
-    names: [u64; NAMES_WORDS],
-    numbers: [u64; 4],
-) -> [u64; TRADE_WORDS]
-    ensures { result ≡ words_of id id_length_max ++ (length ∷ []) ++ words_of names names_words ++ words_of numbers 4 }
-{
-    [
-        id[0] as u64,
-        id[1] as u64,
-        id[2] as u64,
-        id[3] as u64,
-        id[4] as u64,
-        id[5] as u64,
-        id[6] as u64,
-        id[7] as u64,
-        id[8] as u64,
-        id[9] as u64,
-        id[10] as u64,
-        id[11] as u64,
-        id[12] as u64,
-        id[13] as u64,
-        id[14] as u64,
-        id[15] as u64,
-        length,
-        names[0],
-        names[1],
-        names[2],
-        names[3],
-        names[4],
-        names[5],
-        names[6],
-        names[7],
-        names[8],
-        names[9],
-        names[10],
-        names[11],
-        names[12],
-        names[13],
-        names[14],
-        names[15],
-        names[16],
-        names[17],
-        names[18],
-        names[19],
-        names[20],
-        numbers[0],
-        numbers[1],
-        numbers[2],
-        numbers[3],
-    ]
+    dates.map(u64::from)
 }
 
 // The words of a trade.
-fn trade_words(t: Trade) -> [u64; TRADE_WORDS]
-    ensures { result ≡ trade_image t }
+fn trade_words(t: &Trade) -> [u64; TRADE_WORDS]
+    ensures { result ≡ trade_image t.now }
 {
-    let id = t.id;
-    let seller = t.seller;
-    let buyer = t.buyer;
-    let contra = t.contra;
-    let cusip = t.cusip;
-    let numbers = [t.settlement, t.price, t.par, t.openPar];
-    let names = name_words(seller, buyer, contra, cusip);
-    trade_row(id, t.length as u64, names, numbers)
+    let numbers = [t.settlement, t.price, t.par, t.open_par];
+    let mut row = [0; TRADE_WORDS];
+    output::put(&mut row, ID, &words_of(t.id));
+    output::put(&mut row, LENGTH, &[t.length as u64]);
+    output::put(&mut row, SELLER, &words_of(t.seller));
+    output::put(&mut row, BUYER, &words_of(t.buyer));
+    output::put(&mut row, CONTRA, &words_of(t.contra));
+    output::put(&mut row, CUSIP, &words_of(t.cusip));
+    output::put(&mut row, SETTLEMENT, &numbers);
+    row
 }
 
 // Writes the words of the trades from the front.
-fn put_trades(words: &mut [u64], trades: [Trade; book::TRADES_MAX])
+fn put_trades(words: &mut [u64], trades: &[Trade; book::TRADES_MAX])
     requires { trades_words ≤ length words.old }
-    ensures { (words.new ≡ pasted words.old 0 (flat_map trade_image trades)) × (length (flat_map trade_image trades) ≡ trades_words) }
+    ensures { words.new ≡ pasted words.old 0 (flat_map trade_image trades.now) }
 {
-    let mut i: usize = 0;
-    while i < book::TRADES_MAX {
-        let t = trades[i];
+    for (i, t) in trades.iter().enumerate() {
         let row = trade_words(t);
-        put_words(&mut *words, i * TRADE_WORDS, &row);
-        i += 1;
+        output::put(words, i * TRADE_WORDS, &row);
     }
 }
 
@@ -244,117 +147,37 @@ fn last_of(received: Option<Inbound>) -> u64
     received.map_or(0, |last| u64::from(last.0))
 }
 
-// The words of the two accounts, one after the other.
-fn account_words(subscriber: [u8; 4], connection: [u8; 4]) -> [u64; ACCOUNTS_WORDS]
-    ensures { result ≡ words_of subscriber account_width ++ words_of connection account_width }
-{
-    [
-        subscriber[0] as u64,
-        subscriber[1] as u64,
-        subscriber[2] as u64,
-        subscriber[3] as u64,
-        connection[0] as u64,
-        connection[1] as u64,
-        connection[2] as u64,
-        connection[3] as u64,
-    ]
-}
-
-// The words of all parts of a book but its trades, one after another.
-fn rest_row(
-    count: u64,
-    holidays: [u32; book::HOLIDAYS_MAX],
-    days: u64,
-    accounts: [u64; ACCOUNTS_WORDS],
-    numbers: [u64; 10],
-) -> [u64; REST_WORDS]
-    ensures { result ≡ (count ∷ []) ++ words_of holidays holidays_max ++ (days ∷ []) ++ words_of accounts accounts_words ++ words_of numbers 10 }
-{
-    [
-        count,
-        holidays[0] as u64,
-        holidays[1] as u64,
-        holidays[2] as u64,
-        holidays[3] as u64,
-        holidays[4] as u64,
-        holidays[5] as u64,
-        holidays[6] as u64,
-        holidays[7] as u64,
-        holidays[8] as u64,
-        holidays[9] as u64,
-        holidays[10] as u64,
-        holidays[11] as u64,
-        holidays[12] as u64,
-        holidays[13] as u64,
-        holidays[14] as u64,
-        holidays[15] as u64,
-        holidays[16] as u64,
-        holidays[17] as u64,
-        holidays[18] as u64,
-        holidays[19] as u64,
-        holidays[20] as u64,
-        holidays[21] as u64,
-        holidays[22] as u64,
-        holidays[23] as u64,
-        holidays[24] as u64,
-        holidays[25] as u64,
-        holidays[26] as u64,
-        holidays[27] as u64,
-        holidays[28] as u64,
-        holidays[29] as u64,
-        holidays[30] as u64,
-        holidays[31] as u64,
-        days,
-        accounts[0],
-        accounts[1],
-        accounts[2],
-        accounts[3],
-        accounts[4],
-        accounts[5],
-        accounts[6],
-        accounts[7],
-        numbers[0],
-        numbers[1],
-        numbers[2],
-        numbers[3],
-        numbers[4],
-        numbers[5],
-        numbers[6],
-        numbers[7],
-        numbers[8],
-        numbers[9],
-    ]
-}
-
 // The words of all of a book but its trades.
-fn rest_words(book: Book) -> [u64; REST_WORDS]
-    ensures { result ≡ rest_image book }
+fn rest_words(book: &Book) -> [u64; REST_WORDS]
+    ensures { result ≡ rest_image book.now }
 {
-    let values = book.values;
-    let line = book.values.connection.line;
+    let values = &book.values;
     let limits = values.lent.limits;
-    let received = line.received;
-    let holidays = values.lent.holidays;
-    let subscriber = values.lent.subscriber;
-    let connection = values.connection.id;
-    let count = values.lent.tradeCount as u64;
-    let days = values.lent.holidayCount as u64;
-    let flag = flag_of(received);
-    let last = last_of(received);
+    let line = values.connection.line;
     let numbers = [
         limits.ceiling,
         limits.variance,
-        limits.poolsAMillion,
+        limits.pools_a_million,
         limits.least,
-        values.lastMessageId,
-        values.connection.outbound.0 as u64,
-        flag,
-        last,
-        line.expected.0 as u64,
+        values.last_message_id,
+        u64::from(values.connection.outbound.0),
+        flag_of(line.received),
+        last_of(line.received),
+        u64::from(line.expected.0),
         book.live as u64,
     ];
-    let accounts = account_words(subscriber, connection);
-    rest_row(count, holidays, days, accounts, numbers)
+    let mut rest = [0; REST_WORDS];
+    output::put(&mut rest, TRADE_COUNT, &[values.lent.trade_count as u64]);
+    output::put(&mut rest, HOLIDAYS, &date_words(values.lent.holidays));
+    output::put(
+        &mut rest,
+        HOLIDAY_COUNT,
+        &[values.lent.holiday_count as u64],
+    );
+    output::put(&mut rest, SUBSCRIBER, &words_of(values.lent.subscriber));
+    output::put(&mut rest, CONNECTION, &words_of(values.connection.id));
+    output::put(&mut rest, CEILING, &numbers);
+    rest
 }
 
 // Writes a book from the front. A slice that is too short for it stays as it is.
@@ -364,17 +187,13 @@ pub fn write_book(words: &mut [u64], book: Book)
     if words.len() < BOOK_WORDS {
         return;
     }
-    let values = book.values;
-    let trades = values.trades;
-    let rest = rest_words(book);
-    put_trades(&mut *words, trades);
-    put_words(&mut *words, REST, &rest);
+    put_trades(words, &book.values.trades);
+    output::put(words, REST, &rest_words(&book));
 }
 
 // Writes all of a book but its trades, in its place: after a refusal the trades stand as they are. A slice that is too short for it stays as it is.
 pub fn write_rest(words: &mut [u64], book: Book)
     ensures { words.new ≡ pasted words.old trades_words (rest_image book) }
 {
-    let rest = rest_words(book);
-    put_words(&mut *words, REST, &rest);
+    output::put(words, REST, &rest_words(&book));
 }

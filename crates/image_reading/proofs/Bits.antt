@@ -1,14 +1,16 @@
 -- Words joined bit by bit are below a power of two exactly where each of them is: none is above the join, and a join needs no more bits than they do.
-use mathlib.Core.Path.{◌≡◌, refl, sym, ap, ◌∙◌}
-use mathlib.Core.Bool.{Bool, true, false, ◌&&◌, and-true, and_assoc}
-use Prim.Native.Nat.{ℕ, ◌+◌, ◌-◌, ◌^◌, ◌≤◌, ◌<◌}
+use mathlib.Core.Path.{◌≡◌, refl, ap, ◌∙◌}
+use mathlib.Core.Bool.{Bool, true, false, ◌&&◌, and_assoc}
+use mathlib.Core.List.{List, [], ◌∷◌}
+use Prim.Native.Nat.{ℕ, ◌+◌, ◌^◌, ◌≤◌}
 use native.Mathlib.Nat.{one-le-pow}
 use native.Mathlib.Omega.{arith}
 use lib.Bits.{bit_and, bit_or, and_le_l, and_le_r, or_lt, or_add_and}
 use lib.Dec.{ltb}
 use borrow.Author.Tests.{ltb-true, ltb-false, lt-ltb, le-ltb}
-use Rattle.lists.specs.Lists.{tab, all}
-use Rattle.lists.proofs.Tables.{tab_turn, tab_end, tab_all}
+use Rattle.std.specs.List.{fold}
+use Rattle.lists.specs.Lists.{all}
+use Rattle.image.specs.Images.{is_byte, is_number}
 
 abbrev below : ℕ → ℕ → Bool
 below k w = ltb w (2 ^ k)
@@ -30,21 +32,21 @@ or_below k a b = go (below k a) (below k b) refl refl
     go true false e f = le-ltb (bit_or a b) (2 ^ k) (omega (arith, least.1, ltb-false b (2 ^ k) f))
     go false q e f = le-ltb (bit_or a b) (2 ^ k) (omega (arith, least.0, ltb-false a (2 ^ k) e))
 
-module _ (g : ℕ → ℕ) (n : ℕ) where
-  -- whether the join so far and what is left at i are below is still the answer
-  abbrev pub Bounded : ℕ → ℕ → Type 0
-  Bounded bits i = (k : ℕ) → (below k bits && all (below k) (tab g (n - i) i)) ≡ all (below k) (tab g n 0)
+joined_from : (k a : ℕ) (ws : List ℕ) → below k (fold bit_or a ws) ≡ (below k a && all (below k) ws)
+joined_from k a [] = go (below k a)
+  where
+    go : (b : Bool) → b ≡ (b && true)
+    go true = refl
+    go false = refl
+joined_from k a (w ∷ ws) = joined_from k (bit_or a w) ws ∙ ap (λ (b : Bool). b && all (below k) ws) (or_below k a w) ∙ and_assoc (below k a) (below k w) (all (below k) ws)
 
-  pub bounded_none : Bounded 0 0
-  bounded_none k = ap (λ (p : Bool). p && all (below k) (tab g (n - 0) 0)) (lt-ltb 0 (2 ^ k) (omega (arith, one-le-pow k 2 (omega arith)))) ∙ ap (all (below k)) (tab_all g n)
+joined : (k : ℕ) (ws : List ℕ) → below k (fold bit_or 0 ws) ≡ all (below k) ws
+joined k ws = joined_from k 0 ws ∙ ap (λ (b : Bool). b && all (below k) ws) (lt-ltb 0 (2 ^ k) (omega (arith, one-le-pow k 2 (omega arith))))
 
-  module _ (bits i : ℕ) (inv : Bounded bits i) where
-    pub bounded_more : i < n → Bounded (bit_or bits (g i)) (i + 1)
-    bounded_more h k =
-        let left : Bool = all (below k) (tab g (n - (i + 1)) (i + 1)) in
-        ap (λ (p : Bool). p && left) (or_below k bits (g i)) ∙ and_assoc (below k bits) (below k (g i)) left
-        ∙ ap (λ (p : Bool). below k bits && p) (sym (ap (all (below k)) (tab_turn g n i h))) ∙ inv k
+-- words are bytes where their join is one
+pub bytes_joined : (ws : List ℕ) → ltb (fold bit_or 0 ws) 256 ≡ all is_byte ws
+bytes_joined = joined 8
 
-    pub bounded_done : n ≤ i → (k : ℕ) → below k bits ≡ all (below k) (tab g n 0)
-    bounded_done h k =
-        sym (and-true (below k bits)) ∙ ap (λ (p : Bool). below k bits && p) (sym (ap (all (below k)) (tab_end g n i h))) ∙ inv k
+-- and numbers of 32 bits
+pub numbers_joined : (ws : List ℕ) → ltb (fold bit_or 0 ws) 4294967296 ≡ all is_number ws
+numbers_joined = joined 32

@@ -1,33 +1,37 @@
--- The words of a trade: their tests in order, and the trade that they make.
+-- Words that fit, one field after another: accounts and CUSIP are bytes, and numbers are below 2^32.
 use mathlib.Core.Path.{◌≡◌}
+use mathlib.Core.Bool.{true}
 use mathlib.Core.List.{List}
-use mathlib.Core.Bool.{Bool, ◌&&◌}
-use Prim.Native.Nat.{ℕ}
-use lib.ListN.{get_or}
+use Prim.Native.Nat.{ℕ, ◌<◌}
+use native.Mathlib.Omega.{arith}
+use lib.ListN.{length, get_or}
+use borrow.Author.Tests.{ltb-true}
 use Rattle.lists.specs.Lists.{part, all}
-use Rattle.image.specs.Images.{is_byte, trade_fits, trade_in}
-use Rattle.book.specs.declared.Trade.{Trade}
+use Rattle.image.specs.Images.{trade_words, rest_words, is_byte, trade_fits, lent_fits, line_fits}
+use Rattle.image.proofs.Told.{name_bytes, rest_accounts, rest_outbound, rest_expected}
 
-module _ (row : List ℕ) where
-  pub trade_tests : (a b : Bool) → a ≡ all is_byte (part row 0 16) → b ≡ all is_byte (part row 17 21) → (a && b) ≡ trade_fits row
-  unfolding trade_fits
-  trade_tests a b e f = rw (e, f)
+module _ (row : List ℕ) (e : trade_fits row ≡ true) (l : length row ≡ trade_words) where
+  pub seller_bytes : all is_byte (part row 17 4) ≡ true
+  seller_bytes = name_bytes row e l 17 4 (omega arith) (omega arith)
 
-  pub trade_read : (id seller buyer contra cusip : List ℕ) → id ≡ part row 0 16 → seller ≡ part row 17 4 → buyer ≡ part row 21 4 → contra ≡ part row 25 4
-      → cusip ≡ part row 29 9
-      → ◌≡◌ {A = Trade}
-      (record {
-        id = id;
-        length = get_or row 16 0;
-        seller = seller;
-        buyer = buyer;
-        contra = contra;
-        cusip = cusip;
-        settlement = get_or row 38 0;
-        price = get_or row 39 0;
-        par = get_or row 40 0;
-        openPar = get_or row 41 0;
-      })
-      (trade_in row)
-  unfolding trade_in
-  trade_read id seller buyer contra cusip p q r s u = rw (p, q, r, s, u)
+  pub buyer_bytes : all is_byte (part row 21 4) ≡ true
+  buyer_bytes = name_bytes row e l 21 4 (omega arith) (omega arith)
+
+  pub contra_bytes : all is_byte (part row 25 4) ≡ true
+  contra_bytes = name_bytes row e l 25 4 (omega arith) (omega arith)
+
+  pub cusip_bytes : all is_byte (part row 29 9) ≡ true
+  cusip_bytes = name_bytes row e l 29 9 (omega arith) (omega arith)
+
+module _ (rest : List ℕ) (e : lent_fits rest ≡ true) where
+  pub subscriber_bytes : length rest ≡ rest_words → all is_byte (part rest 34 4) ≡ true
+  subscriber_bytes l = rest_accounts rest e l 34 (omega arith) (omega arith)
+
+  pub connection_bytes : length rest ≡ rest_words → all is_byte (part rest 38 4) ≡ true
+  connection_bytes l = rest_accounts rest e l 38 (omega arith) (omega arith)
+
+  pub outbound_fits : get_or rest 47 0 < 4294967296
+  outbound_fits = ltb-true (get_or rest 47 0) 4294967296 (rest_outbound rest e)
+
+pub expected_fits : (rest : List ℕ) → line_fits rest ≡ true → get_or rest 50 0 < 4294967296
+expected_fits rest e = ltb-true (get_or rest 50 0) 4294967296 (rest_expected rest e)

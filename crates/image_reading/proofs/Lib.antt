@@ -1,6 +1,4 @@
-pub mod Filling
-pub mod Fits
-pub mod Rows
-pub mod Rest
-pub mod Whole
 pub mod Bits
+pub mod Each
+pub mod Fits
+pub mod Tables

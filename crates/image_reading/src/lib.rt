@@ -1,15 +1,21 @@
-// A book read back from its words. Words that are no book's are told.
+// A book read back from its words, where they are the image of one.
 #![tactic(auto)]
 
-ghost use Rattle.std.specs.Prelude.{◌≡◌, true, ℕ, ◌+◌, ◌^◌, ◌≤◌, ◌++◌, length, drop, ltb};
-ghost use Rattle.lists.specs.Lists.{part, tab, all};
-ghost use Rattle.book.specs.Opening.{trades_max};
+ghost use Rattle.std.specs.Prelude.{◌≡◌, true, ◌<◌, ◌≤◌, min, length, slice_index, bit_or};
+ghost use Rattle.std.specs.List.{fold, range_with_len};
+ghost use Rattle.lists.specs.Lists.{all};
+ghost use Rattle.book.specs.Opening.{trades_max, holidays_max};
+ghost use Rattle.image.specs.Words.{holiday_count};
 ghost use Rattle.image.specs.Images.{
   trade_words,
   rest_words,
   book_words,
   row_at,
+  row_in,
+  count_in,
+  rows_of,
   rest_of,
+  holiday_in,
   holidays_in,
   is_byte,
   is_number,
@@ -26,7 +32,7 @@ ghost use Rattle.image.specs.Images.{
   trades_in,
   book_in,
 };
-ghost use Rattle.image_reading.specs.Reading.{Counted, first_trades, no_book, read_book, read_lent};
+ghost use Rattle.image_reading.specs.Reading.{read_book, read_lent};
 
 use book::{Book, Connection, Lent, Limits, Trade, Values};
 use sequence::{Inbound, Line, Outbound};
@@ -36,159 +42,136 @@ const BYTE_END: u64 = 256;
 
 const NUMBER_END: u64 = 4294967296;
 
-// What was read: whether the words are an image, and where they are, the book; else a book with no trades.
-#[derive(Clone, Copy)]
-pub struct Read {
-    pub fine: bool,
-    pub book: Book,
-}
-
-// What opening was lent: whether the words lend something, and where they do, the values; else those of a book with no trades.
-#[derive(Clone, Copy)]
-pub struct ReadLent {
-    pub fine: bool,
-    pub values: Values,
-}
-
-// The n words from at, joined bit by bit: below a power of two exactly where each of them is. So a range of words asks for one test.
-fn joined(words: &[u64], at: usize, n: usize) -> u64
-    requires { at + n ≤ length words.now }
-    ensures { (k : ℕ) → ltb result (2 ^ k) ≡ all (λ (w : ℕ). ltb w (2 ^ k)) (part words.now at n) }
+// The words of the i-th trade.
+#[tactic(auto, unfolding(lists::specs::Lists::part))]
+fn row_at(words: &[u64], i: usize) -> &[u64]
+    requires { (length words.now ≡ book_words) × (i < trades_max) }
+    ensures row { result.now ≡ row_at words.now i }
+    ensures long { length result.now ≡ trade_words }
 {
-    let mut bits: u64 = 0;
-    let mut i: usize = 0;
-    while i < n {
-        bits = bits | words[at + i];
-        i += 1;
+    let at = i * image::TRADE_WORDS;
+    &words[at..at + image::TRADE_WORDS]
+}
+
+// The words after the trades.
+#[tactic(auto, unfolding(image::specs::Images::rest_of, lists::specs::Lists::part))]
+fn rest_of(words: &[u64]) -> &[u64]
+    requires { length words.now ≡ book_words }
+    ensures rest { result.now ≡ rest_of words.now }
+    ensures long { length result.now ≡ rest_words }
+{
+    &words[image::REST..image::BOOK_WORDS]
+}
+
+// Words joined bit by bit: the join is below a power of two exactly where each of them is. So many words ask for one test.
+fn joined(words: &[u64]) -> u64
+    ensures { result ≡ fold bit_or 0 words.now }
+{
+    words.iter().fold(0, |bits, word| bits | word)
+}
+
+// Whether words are all bytes.
+#[tactic(auto, using(crate::proofs::Bits::bytes_joined))]
+fn all_bytes(words: &[u64]) -> bool
+    ensures { result ≡ all is_byte words.now }
+{
+    joined(words) < BYTE_END
+}
+
+// Words that are bytes, as bytes.
+#[tactic(auto, using(crate::proofs::Each::each_below, std::proofs::lemmas::Grind::same_number_lists))]
+fn bytes_of<const N: usize>(words: &[u64]) -> [u8; N]
+    requires { (length words.now ≡ N) × (all is_byte words.now ≡ true) }
+    ensures { result ≡ words.now }
+{
+    let mut bytes = [0; N];
+    for (i, byte) in bytes.iter_mut().enumerate() {
+        *byte = words[i] as u8;
     }
-    bits
-}
-
-// Whether the n words from at are all bytes.
-fn all_bytes(words: &[u64], at: usize, n: usize) -> bool
-    requires { at + n ≤ length words.now }
-    ensures { result ≡ all is_byte (part words.now at n) }
-{
-    joined(words, at, n) < BYTE_END
-}
-
-// Whether the n words from at are all numbers of 32 bits.
-fn all_numbers(words: &[u64], at: usize, n: usize) -> bool
-    requires { at + n ≤ length words.now }
-    ensures { result ≡ all is_number (part words.now at n) }
-{
-    joined(words, at, n) < NUMBER_END
-}
-
-// Fills out with the words from at, which are bytes.
-fn read_bytes(out: &mut [u8], words: &[u64], at: usize)
-    requires { (at + length out.old ≤ length words.now) × (all is_byte (part words.now at (length out.old)) ≡ true) }
-    ensures { out.new ≡ part words.now at (length out.old) }
-{
-    let mut i: usize = 0;
-    while i < out.len() {
-        out[i] = words[at + i] as u8;
-        i += 1;
-    }
-}
-
-// Fills out with the words from at, which are numbers of 32 bits.
-fn read_numbers(out: &mut [u32], words: &[u64], at: usize)
-    requires { (at + length out.old ≤ length words.now) × (all is_number (part words.now at (length out.old)) ≡ true) }
-    ensures { out.new ≡ part words.now at (length out.old) }
-{
-    let mut i: usize = 0;
-    while i < out.len() {
-        out[i] = words[at + i] as u32;
-        i += 1;
-    }
-}
-
-// Fills the first n of out with the words from at, which are numbers of 32 bits.
-fn read_first(out: &mut [u32], words: &[u64], at: usize, n: usize)
-    requires { (n ≤ length out.old) × (at + n ≤ length words.now) × (all is_number (part words.now at n) ≡ true) }
-    ensures { out.new ≡ part words.now at n ++ drop n out.old }
-{
-    read_numbers(&mut out[..n], words, at);
+    bytes
 }
 
 // Whether a trade's words are those of a trade.
+#[tactic(auto, unfolding(image::specs::Images::trade_fits, lists::specs::Lists::part))]
 fn trade_fits(row: &[u64]) -> bool
     requires { length row.now ≡ trade_words }
     ensures { result ≡ trade_fits row.now }
 {
-    all_bytes(row, image::ID, book::ID_MAX) & all_bytes(row, image::SELLER, image::NAMES_WORDS)
+    all_bytes(&row[image::ID..image::LENGTH]) && all_bytes(&row[image::SELLER..image::SETTLEMENT])
 }
 
 // The trade of a trade's words.
+#[tactic(auto, using(image::proofs::Told::id_bytes, crate::proofs::Fits::seller_bytes, crate::proofs::Fits::buyer_bytes, crate::proofs::Fits::contra_bytes, crate::proofs::Fits::cusip_bytes), unfolding(image::specs::Images::trade_in, lists::specs::Lists::part))]
 fn read_trade(row: &[u64]) -> Trade
     requires { (length row.now ≡ trade_words) × (trade_fits row.now ≡ true) }
     ensures { result ≡ trade_in row.now }
 {
-    let mut id = [0u8; book::ID_MAX];
-    let mut seller = [0u8; 4];
-    let mut buyer = [0u8; 4];
-    let mut contra = [0u8; 4];
-    let mut cusip = [0u8; 9];
-    read_bytes(&mut id, row, image::ID);
-    read_bytes(&mut seller, row, image::SELLER);
-    read_bytes(&mut buyer, row, image::BUYER);
-    read_bytes(&mut contra, row, image::CONTRA);
-    read_bytes(&mut cusip, row, image::CUSIP);
+    let id = bytes_of(&row[image::ID..image::LENGTH]);
+    let seller = bytes_of(&row[image::SELLER..image::BUYER]);
+    let buyer = bytes_of(&row[image::BUYER..image::CONTRA]);
+    let contra = bytes_of(&row[image::CONTRA..image::CUSIP]);
+    let cusip = bytes_of(&row[image::CUSIP..image::SETTLEMENT]);
     Trade {
-        id: id,
+        id,
         length: row[image::LENGTH] as usize,
-        seller: seller,
-        buyer: buyer,
-        contra: contra,
-        cusip: cusip,
+        seller,
+        buyer,
+        contra,
+        cusip,
         settlement: row[image::SETTLEMENT],
         price: row[image::PRICE],
         par: row[image::PAR],
-        openPar: row[image::OPEN_PAR],
+        open_par: row[image::OPEN_PAR],
     }
 }
 
 // How many count, of so many that a book has room for.
 fn counted(count: u64, most: usize) -> usize
-    ensures { Counted count most result }
+    ensures { result ≡ min count most }
 {
-    if count < most as u64 {
-        return count as usize;
-    }
-    most
+    count.min(most as u64) as usize
 }
 
 // Whether the words of the first n trades are those of trades.
-fn trades_fit(words: &[u64], n: usize) -> bool
+fn rows_fit(words: &[u64], n: usize) -> bool
     requires { (length words.now ≡ book_words) × (n ≤ trades_max) }
-    ensures { result ≡ all trade_fits (tab (row_at words.now) n 0) }
+    ensures { result ≡ all (λ i. trade_fits (row_at words.now i)) (range_with_len 0 n) }
 {
-    let mut i: usize = 0;
-    while i < n {
-        let at = i * image::TRADE_WORDS;
-        let end = at + image::TRADE_WORDS;
-        i += 1;
-        if !trade_fits(&words[at..end]) {
-            return false;
-        }
-    }
-    true
+    (0..n).all(|i| trade_fits(row_at(words, i)))
 }
 
-// The first n trades of a book's words, with zeros after them.
-fn read_trades(words: &[u64], n: usize) -> [Trade; book::TRADES_MAX]
-    requires { (length words.now ≡ book_words) × (n ≤ trades_max) × (all trade_fits (tab (row_at words.now) n 0) ≡ true) }
-    ensures { result ≡ first_trades words.now n }
+// Whether the words of the trades that count are those of trades.
+#[tactic(auto, using(crate::proofs::Tables::rows_counted))]
+fn trades_fit(words: &[u64]) -> bool
+    requires { length words.now ≡ book_words }
+    ensures { result ≡ all trade_fits (rows_of words.now) }
 {
-    let none = image::no_trade();
-    let mut trades = [none; book::TRADES_MAX];
-    let mut i: usize = 0;
-    while i < n {
-        let at = i * image::TRADE_WORDS;
-        let end = at + image::TRADE_WORDS;
-        trades[i] = read_trade(&words[at..end]);
-        i += 1;
+    let count = rest_of(words)[image::TRADE_COUNT];
+    rows_fit(words, counted(count, book::TRADES_MAX))
+}
+
+// The i-th trade: one of zeros past those that count.
+#[tactic(auto, using(image::proofs::Told::lent_length, crate::proofs::Tables::row_fits, crate::proofs::Tables::row_counts, crate::proofs::Tables::row_blank))]
+fn trade_at(words: &[u64], i: usize) -> Trade
+    requires { (is_lent words.now ≡ true) × (i < trades_max) }
+    ensures { result ≡ trade_in (row_in words.now (count_in words.now) i) }
+{
+    let count = rest_of(words)[image::TRADE_COUNT];
+    if i as u64 >= count {
+        return image::no_trade();
+    }
+    read_trade(row_at(words, i))
+}
+
+// The trades of a book's words.
+#[tactic(auto, using(crate::proofs::Tables::trades_made))]
+fn read_trades(words: &[u64]) -> [Trade; book::TRADES_MAX]
+    requires { is_lent words.now ≡ true }
+    ensures { result ≡ trades_in words.now }
+{
+    let mut trades = [image::no_trade(); book::TRADES_MAX];
+    for (i, t) in trades.iter_mut().enumerate() {
+        *t = trade_at(words, i);
     }
     trades
 }
@@ -197,7 +180,7 @@ fn read_trades(words: &[u64], n: usize) -> [Trade; book::TRADES_MAX]
 fn received_fits(flag: u64, number: u64) -> bool
     ensures { result ≡ received_fits flag number }
 {
-    ((flag == 0) & (number == 0)) | ((flag == 1) & (number < NUMBER_END))
+    (flag == 0 && number == 0) || (flag == 1 && number < NUMBER_END)
 }
 
 // What was received, as flag and number tell it.
@@ -211,197 +194,165 @@ fn read_received(flag: u64, number: u64) -> Option<Inbound>
     Some(Inbound(number as u32))
 }
 
+// Whether the holidays that count are numbers of 32 bits.
+fn holidays_fit(rest: &[u64]) -> bool
+    requires { length rest.now ≡ rest_words }
+    ensures { result ≡ all is_number (holidays_in rest.now) }
+{
+    let days = counted(rest[image::HOLIDAY_COUNT], book::HOLIDAYS_MAX);
+    joined(&rest[image::HOLIDAYS..image::HOLIDAYS + days]) < NUMBER_END
+}
+
+// The i-th holiday: 0 past those that count.
+#[tactic(auto, using(crate::proofs::Tables::holiday_number, crate::proofs::Tables::holiday_counts, crate::proofs::Tables::holiday_none))]
+fn holiday_at(rest: &[u64], i: usize) -> u32
+    requires { (length rest.now ≡ rest_words) × (all is_number (holidays_in rest.now) ≡ true) × (i < holidays_max) }
+    ensures { result ≡ holiday_in rest.now (slice_index rest.now holiday_count) i }
+{
+    if i as u64 >= rest[image::HOLIDAY_COUNT] {
+        return 0;
+    }
+    rest[image::HOLIDAYS + i] as u32
+}
+
+// The holidays of the words after the trades.
+#[tactic(auto, using(crate::proofs::Tables::holidays_made))]
+fn read_holidays(rest: &[u64]) -> [u32; book::HOLIDAYS_MAX]
+    requires { (length rest.now ≡ rest_words) × (all is_number (holidays_in rest.now) ≡ true) }
+    ensures { result ≡ holidays_in rest.now }
+{
+    let mut holidays = [0; book::HOLIDAYS_MAX];
+    for (i, day) in holidays.iter_mut().enumerate() {
+        *day = holiday_at(rest, i);
+    }
+    holidays
+}
+
 // Whether the words after the trades are such as opening takes.
+#[tactic(auto, unfolding(image::specs::Images::lent_fits, lists::specs::Lists::part))]
 fn lent_fits(rest: &[u64]) -> bool
     requires { length rest.now ≡ rest_words }
     ensures { result ≡ lent_fits rest.now }
 {
-    let days = counted(rest[image::HOLIDAY_COUNT], book::HOLIDAYS_MAX);
-    let dates = all_numbers(rest, image::HOLIDAYS, days);
-    let accounts = all_bytes(rest, image::SUBSCRIBER, image::ACCOUNTS_WORDS);
-    dates & (accounts & (rest[image::OUTBOUND] < NUMBER_END))
+    holidays_fit(rest)
+        && all_bytes(&rest[image::SUBSCRIBER..image::CEILING])
+        && rest[image::OUTBOUND] < NUMBER_END
 }
 
 // Whether the words after the trades have a line.
+#[tactic(auto, unfolding(image::specs::Images::line_fits))]
 fn line_fits(rest: &[u64]) -> bool
     requires { length rest.now ≡ rest_words }
     ensures { result ≡ line_fits rest.now }
 {
-    let received = received_fits(rest[image::RECEIVED], rest[image::NUMBER]);
-    received & (rest[image::EXPECTED] < NUMBER_END)
-}
-
-// The holidays that count, with zeros after them.
-fn read_holidays(rest: &[u64]) -> [u32; book::HOLIDAYS_MAX]
-    requires { (length rest.now ≡ rest_words) × (lent_fits rest.now ≡ true) }
-    ensures { result ≡ holidays_in rest.now }
-{
-    let n = counted(rest[image::HOLIDAY_COUNT], book::HOLIDAYS_MAX);
-    let mut holidays = [0u32; book::HOLIDAYS_MAX];
-    read_first(&mut holidays, rest, image::HOLIDAYS, n);
-    holidays
+    received_fits(rest[image::RECEIVED], rest[image::NUMBER]) && rest[image::EXPECTED] < NUMBER_END
 }
 
 // The line of the words after the trades.
+#[tactic(auto, using(image::proofs::Told::rest_received, crate::proofs::Fits::expected_fits))]
 fn read_line(rest: &[u64]) -> Line
     requires { (length rest.now ≡ rest_words) × (line_fits rest.now ≡ true) }
     ensures { result ≡ line_in rest.now }
 {
     let received = read_received(rest[image::RECEIVED], rest[image::NUMBER]);
     Line {
-        received: received,
+        received,
         expected: Inbound(rest[image::EXPECTED] as u32),
     }
 }
 
 // The values of some trades, of a line and of the words after the trades.
+#[tactic(auto, using(image::proofs::Told::rest_dates, crate::proofs::Fits::subscriber_bytes, crate::proofs::Fits::connection_bytes, crate::proofs::Fits::outbound_fits), unfolding(image::specs::Images::values_from, lists::specs::Lists::part))]
 fn read_rest(trades: [Trade; book::TRADES_MAX], rest: &[u64], line: Line) -> Values
     requires { (length rest.now ≡ rest_words) × (lent_fits rest.now ≡ true) }
     ensures { result ≡ values_from trades rest.now line }
 {
-    let mut subscriber = [0u8; 4];
-    let mut connection = [0u8; 4];
     let holidays = read_holidays(rest);
-    read_bytes(&mut subscriber, rest, image::SUBSCRIBER);
-    read_bytes(&mut connection, rest, image::CONNECTION);
-    let limits = Limits {
-        ceiling: rest[image::CEILING],
-        variance: rest[image::VARIANCE],
-        poolsAMillion: rest[image::POOLS_A_MILLION],
-        least: rest[image::LEAST],
-    };
-    let lent = Lent {
-        tradeCount: rest[image::TRADE_COUNT] as usize,
-        holidays: holidays,
-        holidayCount: rest[image::HOLIDAY_COUNT] as usize,
-        subscriber: subscriber,
-        limits: limits,
-    };
-    let connection = Connection {
-        id: connection,
-        line: line,
-        outbound: Outbound(rest[image::OUTBOUND] as u32),
-    };
+    let subscriber = bytes_of(&rest[image::SUBSCRIBER..image::CONNECTION]);
+    let id = bytes_of(&rest[image::CONNECTION..image::CEILING]);
     Values {
-        trades: trades,
-        lent: lent,
-        lastMessageId: rest[image::LAST_MESSAGE_ID],
-        connection: connection,
+        trades,
+        lent: Lent {
+            trade_count: rest[image::TRADE_COUNT] as usize,
+            holidays,
+            holiday_count: rest[image::HOLIDAY_COUNT] as usize,
+            subscriber,
+            limits: Limits {
+                ceiling: rest[image::CEILING],
+                variance: rest[image::VARIANCE],
+                pools_a_million: rest[image::POOLS_A_MILLION],
+                least: rest[image::LEAST],
+            },
+        },
+        last_message_id: rest[image::LAST_MESSAGE_ID],
+        connection: Connection {
+            id,
+            line,
+            outbound: Outbound(rest[image::OUTBOUND] as u32),
+        },
     }
 }
 
 // Whether words say what opening lends.
+#[tactic(auto, unfolding(image::specs::Images::is_lent))]
 fn is_lent(words: &[u64]) -> bool
     ensures { result ≡ is_lent words.now }
 {
-    if words.len() != image::BOOK_WORDS {
-        return false;
-    }
-    let n = counted(words[image::REST + image::TRADE_COUNT], book::TRADES_MAX);
-    if !trades_fit(words, n) {
-        return false;
-    }
-    lent_fits(&words[image::REST..image::BOOK_WORDS])
+    words.len() == image::BOOK_WORDS && trades_fit(words) && lent_fits(rest_of(words))
 }
 
 // Whether words are the image of a book.
+#[tactic(auto, using(image::proofs::Told::lent_length), unfolding(image::specs::Images::is_image))]
 fn is_image(words: &[u64]) -> bool
     ensures { result ≡ is_image words.now }
 {
-    if !is_lent(words) {
-        return false;
-    }
-    line_fits(&words[image::REST..image::BOOK_WORDS])
+    is_lent(words) && line_fits(rest_of(words))
 }
 
 // The values that words say, with a line.
+#[tactic(auto, using(image::proofs::Told::lent_length, image::proofs::Told::lent_rest))]
 fn values_in(words: &[u64], line: Line) -> Values
     requires { is_lent words.now ≡ true }
     ensures { result ≡ values_from (trades_in words.now) (rest_of words.now) line }
 {
-    let n = counted(words[image::REST + image::TRADE_COUNT], book::TRADES_MAX);
-    let trades = read_trades(words, n);
-    read_rest(trades, &words[image::REST..image::BOOK_WORDS], line)
+    let trades = read_trades(words);
+    read_rest(trades, rest_of(words), line)
 }
 
 // The book of an image.
+#[tactic(auto, using(image::proofs::Told::lent_length, image::proofs::Told::image_lent, image::proofs::Told::image_line), unfolding(image::specs::Images::book_in))]
 fn book_in(words: &[u64]) -> Book
     requires { is_image words.now ≡ true }
     ensures { result ≡ book_in words.now }
 {
-    let line = read_line(&words[image::REST..image::BOOK_WORDS]);
-    let values = values_in(words, line);
+    let rest = rest_of(words);
+    let line = read_line(rest);
     Book {
-        values: values,
-        live: words[image::REST + image::LIVE] as usize,
+        values: values_in(words, line),
+        live: rest[image::LIVE] as usize,
     }
 }
 
-// A book of no trades.
-fn no_book() -> Book
-    ensures { result ≡ no_book }
-{
-    let none = image::no_trade();
-    let trades = [none; book::TRADES_MAX];
-    let lent = Lent {
-        tradeCount: 0,
-        holidays: [0; book::HOLIDAYS_MAX],
-        holidayCount: 0,
-        subscriber: [0; 4],
-        limits: Limits {
-            ceiling: 0,
-            variance: 0,
-            poolsAMillion: 0,
-            least: 0,
-        },
-    };
-    let connection = Connection {
-        id: [0; 4],
-        line: Line::start(),
-        outbound: Outbound(0),
-    };
-    Book {
-        values: Values {
-            trades: trades,
-            lent: lent,
-            lastMessageId: 0,
-            connection: connection,
-        },
-        live: 0,
-    }
-}
-
-// Reads a book back. Words that are no book's are told.
-pub fn read_book(words: &[u64]) -> Read
+// The book that words say, where they are the image of one.
+#[tactic(auto, unfolding(crate::specs::Reading::read_book))]
+pub fn read_book(words: &[u64]) -> Option<Book>
     ensures { result ≡ read_book words.now }
 {
-    if !is_image(words) {
-        return Read {
-            fine: false,
-            book: no_book(),
-        };
-    }
-    Read {
-        fine: true,
-        book: book_in(words),
+    if is_image(words) {
+        Some(book_in(words))
+    } else {
+        None
     }
 }
 
-// Reads what words lend to opening, whatever line and live pools they say. Words that lend nothing are told.
-pub fn read_lent(words: &[u64]) -> ReadLent
+// The values that words lend to opening, whatever line and live pools they say, where they lend some.
+#[tactic(auto, unfolding(crate::specs::Reading::read_lent, image::specs::Images::values_in))]
+pub fn read_lent(words: &[u64]) -> Option<Values>
     ensures { result ≡ read_lent words.now }
 {
-    if !is_lent(words) {
-        let book = no_book();
-        let values = book.values;
-        return ReadLent {
-            fine: false,
-            values: values,
-        };
-    }
-    let line = Line::start();
-    ReadLent {
-        fine: true,
-        values: values_in(words, line),
+    if is_lent(words) {
+        Some(values_in(words, Line::start()))
+    } else {
+        None
     }
 }

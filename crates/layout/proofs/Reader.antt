@@ -9,7 +9,7 @@ use Rattle.lists.specs.Lists.{within, tab}
 use Rattle.lists.proofs.Parts.{in_within}
 use Rattle.lists.proofs.Tables.{length_tab, drop_tab, tab_turn, tab_end}
 use Rattle.layout.specs.Columns.{detail_width}
-use Rattle.layout.specs.Details.{detail_at, next_detail, details, pool_count, place_of}
+use Rattle.layout.specs.Details.{detail_at, next_detail, details, pool_count}
 use Rattle.layout.proofs.Passes.{pool_of}
 use borrow.Author.Tests.{tests}
 
@@ -23,13 +23,13 @@ module _ (body : List ℕ) (place : ℕ) where
   at_detail h = rw (in_within body place detail_width (omega arith) (omega arith))
 
 -- what is left of the details at i
-pub details_left : (body : List ℕ) (i : ℕ) → drop i (details body) ≡ tab (λ (k : ℕ). detail_at body (place_of k)) (pool_count body - i) i
+pub details_left : (body : List ℕ) (i : ℕ) → drop i (details body) ≡ tab (pool_of body) (pool_count body - i) i
 unfolding details
-details_left body i = drop_tab (λ (k : ℕ). detail_at body (place_of k)) i (pool_count body) 0 ∙ ap (λ (k : ℕ). tab (λ (j : ℕ). detail_at body (place_of j)) (pool_count body - i) k) (omega arith)
+details_left body i = drop_tab (pool_of body) i (pool_count body) 0 ∙ ap (tab (pool_of body) (pool_count body - i)) (omega arith)
 
 pub length_details : (body : List ℕ) → length (details body) ≡ pool_count body
 unfolding details
-length_details body = length_tab (λ (k : ℕ). detail_at body (place_of k)) (pool_count body) 0
+length_details body = length_tab (pool_of body) (pool_count body) 0
 
 -- what is left starts with the pool there, and at the end nothing is left
 module _ (body : List ℕ) (i : ℕ) where

@@ -4,4 +4,3 @@ pub mod Below
 pub mod Tests
 pub mod Folds
 pub mod Pasting
-pub mod Looking

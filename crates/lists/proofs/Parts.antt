@@ -23,21 +23,6 @@ module _ {A : Type 0} where
   unfolding part
   part_cons s at n d h = rw (drop-cons s at d)
 
-  -- the part that is left at turn i starts with the element there
-  pub part_turn : (s : List A) (at width i : ℕ) (d : A) → i < width → at + width ≤ length s
-      → part s (at + i) (width - i) ≡ get_or s (at + i) d ∷ part s (at + (i + 1)) (width - (i + 1))
-  part_turn s at width i d h l =
-      let e : width - i ≡ suc (width - (i + 1)) = omega arith in
-      let f : at + (i + 1) ≡ suc (at + i) = omega arith in
-      let g : at + i < length s = omega arith in
-      rw (e, f) (part_cons s (at + i) (width - (i + 1)) d g)
-
-  -- nothing is left at the end
-  pub part_done : (s : List A) (at width i : ℕ) → width ≤ i → part s at (width - i) ≡ []
-  part_done s at width i h =
-      let e : width - i ≡ 0 = omega arith in
-      rw e (part_zero s at)
-
   pub length_part : (s : List A) (at n : ℕ) → at + n ≤ length s → length (part s at n) ≡ n
   unfolding part
   length_part s at n h = length-take-le n (drop at s) (rw (length-drop at s) (omega arith))

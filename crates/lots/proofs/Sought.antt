@@ -18,7 +18,8 @@ abbrev pub seek : ℕ → ℕ → ℕ → List Detail → Option LotHead
 seek first i faces [] = None
 seek first i faces (d ∷ ds) = cond (is_end (term d)) (Some (lot_ended d first i (faces + current_cents d))) (seek first (i + 1) (faces + current_cents d) ds)
 
-sought : (first i faces : ℕ) (ms ds : List Detail) → i ≡ first + length ms → faces ≡ sum_of current_cents ms → seek first i faces ds ≡ first_lot first (lots_from ms ds)
+sought : (first i faces : ℕ) (ms ds : List Detail)
+    → i ≡ first + length ms → faces ≡ sum_of current_cents ms → seek first i faces ds ≡ first_lot first (lots_from ms ds)
 sought first i faces ms [] ei ef = refl
 sought first i faces ms (d ∷ ds) ei ef =
     go (is_end (term d)) (sought first (i + 1) (faces + current_cents d) (ms ++ (d ∷ [])) ds (omega (arith, length-append ms (d ∷ []))) sum)
@@ -40,7 +41,9 @@ seek_start first ds = sought first first 0 [] ds (omega arith) refl
 module _ (body : List ℕ) (first i faces : ℕ) where
   -- one pool more
   pub seek_turn : i < pool_count body → seek first i faces (drop i (details body))
-      ≡ cond (is_end (term (pool_of body i))) (Some (lot_ended (pool_of body i) first i (faces + current_cents (pool_of body i)))) (seek first (i + 1) (faces + current_cents (pool_of body i)) (drop (i + 1) (details body)))
+      ≡ cond (is_end (term (pool_of body i)))
+      (Some (lot_ended (pool_of body i) first i (faces + current_cents (pool_of body i))))
+      (seek first (i + 1) (faces + current_cents (pool_of body i)) (drop (i + 1) (details body)))
   seek_turn h = rw (details_turn body i h)
 
   pub seek_end : pool_count body ≤ i → seek first i faces (drop i (details body)) ≡ None

@@ -8,7 +8,7 @@ ghost use Rattle.terminator.specs.Reading.{first_lot};
 ghost use Rattle.lots.specs.Walks.{walk_on};
 
 use layout::Detail;
-use terminator::LotHead;
+use terminator::{LotHead, Terminator};
 
 // The number of replacement pools.
 #[tactic(auto, unfolding(terminator::specs::Lots::replacement_count))]
@@ -25,7 +25,7 @@ pub fn good_millions(body: &[u8]) -> u64
     ensures { result ≡ good_millions (details body.now) }
 {
     detail_reader::pools(body)
-        .map(|d| terminator::terminator_of(d.terminator).millions())
+        .map(|d| Terminator::from(d.terminator).millions())
         .sum()
 }
 
@@ -47,7 +47,7 @@ struct Walk {
 fn walk_on(w: Walk, d: Detail, cc: bool) -> Walk
     ensures { result ≡ walk_on cc w d }
 {
-    let t = terminator::terminator_of(d.terminator);
+    let t = Terminator::from(d.terminator);
     let here = Begun {
         one: d.terminator[0],
         bad: t.is_bad(),
@@ -87,7 +87,7 @@ pub fn lot_at(body: &[u8], first: usize) -> Option<LotHead>
     for i in first..layout::pool_count(body) {
         let d = layout::pool_at(body, i);
         faces += terminator::current_cents(d);
-        if terminator::terminator_of(d.terminator).is_end() {
+        if Terminator::from(d.terminator).is_end() {
             return Some(terminator::lot_ended(d, first, i, faces));
         }
     }

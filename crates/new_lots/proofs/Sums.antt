@@ -1,4 +1,5 @@
--- The lots that a reader of lots gives are those of the message, by their sums: some new one fails 35 where some new lot does, and their weights are the lots', which are no more than the pools can weigh.
+-- The lots that a reader of lots gives are those of the message, by their sums: some new one fails 35 where some new lot does,
+-- and their weights are the lots', which are no more than the pools can weigh.
 use Rattle.std.proofs.Common.{◌≡◌, refl, sym, ap, ◌∙◌, ℕ, ◌+◌, ◌*◌, ◌^◌, ◌≤◌, ◌<◌, Bool, true, false, cond, ◌||◌, List, [], ◌∷◌, ◌++◌, map, length, sum_by, arith, length-append}
 use Rattle.lists.specs.Lists.{sum_of, any, keep}
 use Rattle.lists.proofs.Tests.{sum_append, sum_map}
@@ -54,7 +55,8 @@ keep_map : {A B : Type 0} (q : B → Bool) (f : A → B) (xs : List A) → keep 
 keep_map q f [] = refl
 keep_map {A} {B} q f (x ∷ xs) = go (q (f x)) (keep_map q f xs)
   where
-    go : (b : Bool) → keep q (map f xs) ≡ map f (keep (λ y. q (f y)) xs) → cond b (f x ∷ keep q (map f xs)) (keep q (map f xs)) ≡ map f (cond b (x ∷ keep (λ y. q (f y)) xs) (keep (λ y. q (f y)) xs))
+    go : (b : Bool) → keep q (map f xs) ≡ map f (keep (λ y. q (f y)) xs)
+        → cond b (f x ∷ keep q (map f xs)) (keep q (map f xs)) ≡ map f (cond b (x ∷ keep (λ y. q (f y)) xs) (keep (λ y. q (f y)) xs))
     go true h = ap (λ (l : List B). f x ∷ l) h
     go false h = h
 
@@ -80,7 +82,8 @@ pub weights_are : (ds : List Detail) → sum_by sum_weight (new_sums ds) ≡ new
 unfolding new_weight lot_weight
 weights_are ds = fold_sum sum_weight 0 (new_sums ds) ∙ rw (new_are ds) (omega (arith, sum_map sum_weight sum_of_lot (new_lots ds)))
 
-weight_small : (t : Terminator) (sum face : ℕ) → millions_of t ≤ 99 → face < 100000000000 → weight_of (kind_of t) (millions_of t) (sum + face) ≤ sum + 100000000000
+weight_small : (t : Terminator) (sum face : ℕ) → millions_of t ≤ 99 → face < 100000000000
+    → weight_of (kind_of t) (millions_of t) (sum + face) ≤ sum + 100000000000
 weight_small (GoodEnd n) sum face h k = omega arith
 weight_small _ sum face h k = omega arith
 
@@ -94,7 +97,8 @@ weights_small cents pools (d ∷ ds) = go (is_end (term d)) (weights_small 0 0 d
 
     go : (e : Bool) → sum_of sum_weight (keep (λ s. s.new) (lots_after 0 0 ds)) ≤ 0 + 100000000000 * length ds
         → sum_of sum_weight (keep (λ s. s.new) (lots_after (cents + current_cents d) (pools + 1) ds)) ≤ cents + current_cents d + 100000000000 * length ds
-        → sum_of sum_weight (keep (λ s. s.new) (cond e (lot_ended cents pools d ∷ lots_after 0 0 ds) (lots_after (cents + current_cents d) (pools + 1) ds))) ≤ cents + 100000000000 * length (d ∷ ds)
+        → sum_of sum_weight (keep (λ s. s.new) (cond e (lot_ended cents pools d ∷ lots_after 0 0 ds) (lots_after (cents + current_cents d) (pools + 1) ds)))
+        ≤ cents + 100000000000 * length (d ∷ ds)
     go true h k = grind (arith, w, h)
     go false h k = omega (arith, k, cents_small d)
 

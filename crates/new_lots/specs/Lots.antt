@@ -31,4 +31,4 @@ lots_left s = lots_after 0 0 (details_left s.pools)
 
 -- 35 of a lot by its sums
 abbrev pub sum_fails : ℕ → ℕ → LotSum → Bool
-sum_fails variance poolsAMillion l = is_good (kind_of l.end) && good_lot_fails l.cents l.pools (millions_of l.end) variance poolsAMillion
+sum_fails variance pools_a_million l = is_good (kind_of l.end) && good_lot_fails l.cents l.pools (millions_of l.end) variance pools_a_million

@@ -62,7 +62,7 @@ impl<'a> Iterator for Lots<'a> {
         while let Some(d) = self.pools.next() {
             cents += terminator::current_cents(d);
             pools += 1;
-            let end = terminator::terminator_of(d.terminator);
+            let end = Terminator::from(d.terminator);
             if end.is_end() {
                 return Some(LotSum {
                     end,

@@ -1,4 +1,4 @@
-// Columns written into a lent output: digits, blanks, bytes and parts of other slices. What does not fit is not written.
+// Columns written into a lent output: digits, blanks, elements of any type and parts of other slices. What does not fit is not written.
 #![tactic(auto)]
 
 ghost use Rattle.std.specs.Prelude.{◌≡◌, ◌+◌, ◌≤◌, length};
@@ -6,9 +6,9 @@ ghost use Rattle.std.specs.Bool.{OnTrue};
 ghost use Rattle.lists.specs.Lists.{within, pasted};
 ghost use Rattle.output.specs.Output.{digits_of, blanks, with_part};
 
-// Whether n bytes fit into out from at.
+// Whether n elements fit into out from at.
 #[tactic(auto, unfolding(lists::specs::Lists::within))]
-fn fits(out: &[u8], at: usize, n: usize) -> bool
+fn fits<T>(out: &[T], at: usize, n: usize) -> bool
     ensures value { result ≡ within out.now at n }
     ensures room { OnTrue result (at + n ≤ length out.now) }
 {
@@ -40,9 +40,9 @@ pub fn put_blanks(out: &mut [u8], at: usize, n: usize)
     }
 }
 
-// Writes the bytes of s from at. Bytes that do not fit are not written.
+// Writes the elements of s from at. Elements that do not fit are not written.
 #[tactic(auto, unfolding(lists::specs::Lists::pasted))]
-pub fn put_bytes(out: &mut [u8], at: usize, s: &[u8])
+pub fn put<T: Copy>(out: &mut [T], at: usize, s: &[T])
     ensures { out.new ≡ pasted out.old at s.now }
 {
     if fits(out, at, s.len()) {
@@ -56,6 +56,6 @@ pub fn put_part(out: &mut [u8], to: usize, s: &[u8], at: usize, n: usize)
     ensures { out.new ≡ with_part out.old to s.now at n }
 {
     if let Some(bytes) = fields::part(s, at, n) {
-        put_bytes(out, to, bytes);
+        put(out, to, bytes);
     }
 }

@@ -4,6 +4,7 @@ use Prim.Native.Nat.{ℕ}
 use mathlib.Core.Path.{◌≡◌, sym, ap, ◌∙◌}
 use mathlib.Core.List.{List}
 use mathlib.Core.Bool.{true, false}
+use Rattle.std.specs.Prelude.{Ok}
 use lib.ListN.{length}
 use Rattle.book.specs.declared.Caller.{Caller}
 use Rattle.book.specs.declared.Values.{Values}
@@ -18,9 +19,9 @@ use Rattle.book.specs.History.{Fed}
 use Rattle.book.specs.Promise.{State, after, opened_state, Demand3}
 use Rattle.book.proofs.Demand3.{Trace, done, next, traced, traced_count, refused_keeps}
 use Rattle.book.proofs.Undamaged.{traced_sound}
-use Rattle.calls.specs.declared.Opened.{Opened}
 use Rattle.calls.specs.declared.Stepped.{Stepped}
 use Rattle.calls.specs.Calls.{Framed, Opens}
+use Rattle.calls.proofs.Opening.{passed}
 use Rattle.promise.specs.Runs as runs
 use Rattle.promise.specs.Runs.{Run}
 
@@ -32,25 +33,25 @@ run_trace (runs.next {s} {s''} {fs} body caller out r pools out' f rest) =
 
 -- demand 1: a call that refuses, on any book and table, changes no trade, no live pool and no message ID
 pub calls_refused_keep : (s : State) (body : List ℕ) (caller : Caller) (out : List ℕ) (r : Stepped) (pools : List Pool) (out' : List ℕ) → Framed s.book s.table body caller out r pools out' → is_accepted r.answer ≡ false
-    → (r.book.values.trades ≡ s.book.values.trades) × (r.book.values.lastMessageId ≡ s.book.values.lastMessageId) × (r.book.live ≡ s.book.live) × (pools ≡ s.table)
+    → (r.book.values.trades ≡ s.book.values.trades) × (r.book.values.last_message_id ≡ s.book.values.last_message_id) × (r.book.live ≡ s.book.live) × (pools ≡ s.table)
 unfolding after
 calls_refused_keep s body caller out r pools out' f n =
     let kept = refused_keeps s (record { body = body; asked = asked_by caller (length out) }) (ap is_accepted (sym f.answer) ∙ n) in (
       ap (λ (b : Book). b.values.trades) f.book ∙ kept.0,
-      ap (λ (b : Book). b.values.lastMessageId) f.book ∙ kept.1,
+      ap (λ (b : Book). b.values.last_message_id) f.book ∙ kept.1,
       ap (λ (b : Book). b.live) f.book ∙ kept.2,
       f.table ∙ kept.3,
     )
 
-module _ (v : Values) (pools zeros : List Pool) (r : Opened) (o : Opens v pools r zeros) (fine : r.fine ≡ true) where
+module _ (v : Values) (pools zeros : List Pool) (b : Book) (o : Opens v pools (Ok b) zeros) where
   is_opened : opening_fine v pools ≡ true
-  is_opened = sym o.fine ∙ fine
+  is_opened = (passed v pools zeros b o).0
 
   abbrev start : State
-  start = record { book = r.book; table = zeros }
+  start = record { book = b; table = zeros }
 
   begins : start ≡ opened_state v pools
-  begins = rw (o.book, fine, o.zeros fine)
+  begins = let p = passed v pools zeros b o in rw (p.1, p.2)
 
   module _ (s : State) (fs : List Fed) (run : Run start fs s) where
     from_opening : Trace (opened_state v pools) fs s

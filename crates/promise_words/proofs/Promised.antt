@@ -74,7 +74,7 @@ module _ (ws : List ℕ) (pools : List Pool) (ws' : List ℕ) (pools' : List Poo
   sound : Sound (opened v) (cleared pools)
   sound = opened_sound v pools fine
 
-  trades : FormedTrades (opened v).values.trades (opened v).values.lent.tradeCount
+  trades : FormedTrades (opened v).values.trades (opened v).values.lent.trade_count
   unfolding opened values_in values_from
   trades = opened_formed (trades_in ws) (count_in ws) (lent_formed ws lent)
 

@@ -38,7 +38,7 @@ module _ (s : Stored) (body time : List ℕ) (seed : ℕ) (out said ws : List �
 
   abbrev Keeps : Book → List Pool → Type 0
   Keeps b table =
-      (b.values.trades ≡ (book_in s.words).values.trades) × (b.values.lastMessageId ≡ (book_in s.words).values.lastMessageId)
+      (b.values.trades ≡ (book_in s.words).values.trades) × (b.values.last_message_id ≡ (book_in s.words).values.last_message_id)
       × (b.live ≡ (book_in s.words).live) × (table ≡ s.pools)
 
   same : ws ≡ s.words → pools ≡ s.pools → Keeps (book_in ws) pools

@@ -63,12 +63,12 @@ module _ (n : ℕ) where
       (keep_none (of_trade i) (live_lots rs)
       (λ l m. ne_eqb l.first.trade i (λ q. omega (arith, ltb-true l.first.trade n (all_out (λ (l : LiveLot). below l.first) m (lots_below rs h))))))
 
-module _ (c : Call) (ok : is_accepted (answer_of c) ≡ true) (s : Sound c.book c.table) (i : ℕ) (past : c.book.values.lent.tradeCount ≤ i) where
+module _ (c : Call) (ok : is_accepted (answer_of c) ≡ true) (s : Sound c.book c.table) (i : ℕ) (past : c.book.values.lent.trade_count ≤ i) where
   taken_none : trade_weight i (taken c) ≡ 0
   taken_none =
-      weight_none c.book.values.lent.tradeCount (taken c)
-      (all_keep (below c.book.values.lent.tradeCount) (is_taken (target_of c.body) (listed c.body)) (live c)
-      (all_implied (record_fine c.book.values) (below c.book.values.lent.tradeCount) (λ r h. and_left (ltb r.trade c.book.values.lent.tradeCount) _ h) (live c) s.records))
+      weight_none c.book.values.lent.trade_count (taken c)
+      (all_keep (below c.book.values.lent.trade_count) (is_taken (target_of c.body) (listed c.body)) (live c)
+      (all_implied (record_fine c.book.values) (below c.book.values.lent.trade_count) (λ r h. and_left (ltb r.trade c.book.values.lent.trade_count) _ h) (live c) s.records))
       i past
 
   due_none : due_weight i (dues c) ≡ 0
@@ -78,7 +78,7 @@ module _ (c : Call) (ok : is_accepted (answer_of c) ≡ true) (s : Sound c.book 
       some : brings_lots (type_of c.body) ≡ true → ((d : Due) × (d ∈ dues c) × (d.to ≡ i)) ⊎ (sum_of (due_share i lot_weight) (dues c) ≡ 0) → sum_of (due_share i lot_weight) (dues c) ≡ 0
       some e (inl (d, m, q)) =
           let lt = held_range (trades c) (taken c) (dues c) ((fine c ok).par_enough e) d m in
-          absurd (omega (arith, lt, q, length-take c.book.values.lent.tradeCount c.book.values.trades))
+          absurd (omega (arith, lt, q, length-take c.book.values.lent.trade_count c.book.values.trades))
       some e (inr z) = z
 
       go : (b : Bool) → brings_lots (type_of c.body) ≡ b → sum_of (due_share i lot_weight) (dues c) ≡ 0
@@ -95,7 +95,7 @@ module _ (off : List Pool) (ds : List Due) where
   moved_each i (x ∷ ts) h t m = go (Memᴰ.cases_cons m) (moved_each (i + 1) ts (λ u k. h u (Memᴰ.tail k)) t)
     where
       cents : ℕ
-      cents = (x.openPar + trade_weight i off) - due_weight i ds
+      cents = (x.open_par + trade_weight i off) - due_weight i ds
 
       go : (t ≡ with_open_par x cents) ⊎ (t ∈ pars_moved off ds (i + 1) ts) → (t ∈ pars_moved off ds (i + 1) ts → FormedTrade t) → FormedTrade t
       go (inl e) below = rw e (par_formed x cents (h x (Memᴰ.head refl)))
@@ -112,8 +112,8 @@ module _ (off : List Pool) (ds : List Due) where
       moved_spare (i + 1) ts j (rw e at w) (rw e at d) h
 
 -- after an accepted message
-pub moved_formed : (c : Call) → is_accepted (answer_of c) ≡ true → Sound c.book c.table → FormedTrades c.book.values.trades c.book.values.lent.tradeCount
-    → FormedTrades (trades_moved c) c.book.values.lent.tradeCount
+pub moved_formed : (c : Call) → is_accepted (answer_of c) ≡ true → Sound c.book c.table → FormedTrades c.book.values.trades c.book.values.lent.trade_count
+    → FormedTrades (trades_moved c) c.book.values.lent.trade_count
 unfolding trades_moved
 moved_formed c ok s f =
     let ts : List Trade = c.book.values.trades in

@@ -57,7 +57,7 @@ refused_trades : (c : Call) → is_accepted (answer_of c) ≡ false → (book_af
 unfolding book_after
 refused_trades c e = rw e
 
-count_stays : (c : Call) → (book_after c).values.lent.tradeCount ≡ c.book.values.lent.tradeCount
+count_stays : (c : Call) → (book_after c).values.lent.trade_count ≡ c.book.values.lent.trade_count
 unfolding book_after
 count_stays c = refl
 
@@ -83,7 +83,7 @@ module _ (ws : List ℕ) (pools : List Pool) (body : List ℕ) (caller : Caller)
   abbrev Says : List ℕ → Type 0
   Says words = (is_image words ≡ true) × (book_in words ≡ book_after c)
 
-  before_formed : FormedTrades (book_in ws).values.trades (book_in ws).values.lent.tradeCount
+  before_formed : FormedTrades (book_in ws).values.trades (book_in ws).values.lent.trade_count
   unfolding book_in values_from
   before_formed = lent_formed ws (image_lent ws image)
 
@@ -95,7 +95,7 @@ module _ (ws : List ℕ) (pools : List Pool) (body : List ℕ) (caller : Caller)
     after_silent : is_silent (answer_of c) ≡ true → Says ws
     after_silent e = (image, sym (silent_book c e))
 
-    formed : is_accepted (answer_of c) ≡ true → FormedTrades (book_after c).values.trades (book_after c).values.lent.tradeCount
+    formed : is_accepted (answer_of c) ≡ true → FormedTrades (book_after c).values.trades (book_after c).values.lent.trade_count
     unfolding book_after
     formed e = rw e (moved_formed c e before before_formed)
 
@@ -108,7 +108,7 @@ module _ (ws : List ℕ) (pools : List Pool) (body : List ℕ) (caller : Caller)
     unfolding book_in values_from
     after_refused e =
         let same : (book_after c).values.trades ≡ trades_in ws = refused_trades c e in
-        let count : (book_after c).values.lent.tradeCount ≡ count_in ws = count_stays c in
+        let count : (book_after c).values.lent.trade_count ≡ count_in ws = count_stays c in
         (rest_image_law ws (book_after c) image rest same count, rest_book ws (book_after c) image rest same count)
 
     -- they are an image again, and say the book that the call by value leaves

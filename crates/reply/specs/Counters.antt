@@ -12,7 +12,7 @@ with_counters book body a =
           record {
             trades = book.values.trades;
             lent = book.values.lent;
-            lastMessageId = book.values.lastMessageId;
+            last_message_id = book.values.last_message_id;
             connection = record { id = book.values.connection.id; line = line_of book body a; outbound = outbound_of book body a };
           };
       live = book.live;

@@ -3,4 +3,3 @@ mod Calling
 mod Opening
 mod Saying
 pub mod Naming
-pub mod Frames

@@ -35,7 +35,7 @@ module _ (c : Call) where
   last = c.book.values.connection.outbound
 
   abbrev spent : Bool
-  spent = leb eleven_digits_max c.book.values.lastMessageId || outbound_spent last
+  spent = leb eleven_digits_max c.book.values.last_message_id || outbound_spent last
 
   -- an answer that is not silent comes after 43
   told_numbers : is_silent (answer_of c) ≡ false → spent ≡ false
@@ -52,7 +52,7 @@ module _ (c : Call) where
   bytes_written = go (is_silent (answer_of c)) refl
     where
       room : is_silent (answer_of c) ≡ false → last.0 < 999998
-      room e = omega (arith, ltb-false 999997 last.0 (or_right (leb eleven_digits_max c.book.values.lastMessageId) (outbound_spent last) (told_numbers e)))
+      room e = omega (arith, ltb-false 999997 last.0 (or_right (leb eleven_digits_max c.book.values.last_message_id) (outbound_spent last) (told_numbers e)))
 
       go : (s : Bool) → is_silent (answer_of c) ≡ s
           → ◌≡◌ {A = ℕ} (cond s 0 (cond (eqb (last.0 + 1) (cond s last (next_outbound (before_aa c.book c.body))).0) 64 217)) (cond s 0 (cond (gap_at c.book c.body) 217 64))

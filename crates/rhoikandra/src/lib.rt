@@ -33,6 +33,7 @@ pub extern "C" fn rhoikandra_step(
 }
 
 // Opens a book by the values that words say: 0, or 41 where it is refused.
+#[tactic(auto, using(crate::proofs::Opening::opening_made))]
 #[unsafe(no_mangle)]
 pub extern "C" fn rhoikandra_open(image: &mut [u64], pools: &mut [Pool]) -> u64
     ensures { Opening image.old pools.old image.new pools.new result }
@@ -43,6 +44,7 @@ pub extern "C" fn rhoikandra_open(image: &mut [u64], pools: &mut [Pool]) -> u64
 }
 
 // Writes whether a trade is known, its open par and its standing millions.
+#[tactic(auto, using(crate::proofs::Saying::figures_said))]
 #[unsafe(no_mangle)]
 pub extern "C" fn rhoikandra_figures(
     image: &[u64],
@@ -64,10 +66,11 @@ pub extern "C" fn rhoikandra_opening_fault(image: &[u64], records: usize, out: &
     ensures { out.new ≡ pasted out.old 0 (fault_numbers (opening_fault_in image.now records)) }
 {
     let found = exports_fault::opening_fault(image, records);
-    exports_fault::put_fault(&mut *out, found);
+    exports_fault::put_fault(out, found);
 }
 
 // Writes which rule of 42 is broken first by the book that words say and its table, and the trade, holiday or record that it is about; zeros where none is.
+#[tactic(auto, using(crate::proofs::Naming::book_fault_said))]
 #[unsafe(no_mangle)]
 pub extern "C" fn rhoikandra_book_fault(image: &[u64], pools: &[Pool], out: &mut [u64])
     ensures { out.new ≡ pasted out.old 0 (fault_numbers (book_fault_in image.now pools.now)) }
@@ -91,8 +94,6 @@ pub extern "C" fn rhoikandra_frame(tape: &[u8], at: usize, out: &mut [u64]) -> u
     ensures { (out.new ≡ pasted out.old 0 (frame_numbers (next_frame tape.now at))) × (result ≤ length tape.now - at) }
 {
     let found = framing::next_frame(tape, at);
-    let frame = found.frame;
-    let four = exports_book::frame_numbers(frame);
-    exports_numbers::put_numbers(&mut *out, &four);
+    output::put(out, 0, &exports_book::frame_numbers(found.frame));
     found.dropped
 }

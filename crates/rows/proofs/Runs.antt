@@ -25,8 +25,8 @@ use Rattle.rows.specs.Runs.{run_sum, weight_share, millions_share, share_of}
 pub above : (v : Values) (r : Pool) → record_fine v r ≡ true → 0 < r.message
 above v r e =
     let rest = leb 1 r.ordinal && (leb r.current eleven_digits_max && kind_fine r) in
-    let p = and_left (between 1 v.lastMessageId r.message) rest (and_right (ltb r.trade v.lent.tradeCount) (between 1 v.lastMessageId r.message && rest) e) in
-    leb-true 1 r.message (and_left (leb 1 r.message) (leb r.message v.lastMessageId) p)
+    let p = and_left (between 1 v.last_message_id r.message) rest (and_right (ltb r.trade v.lent.trade_count) (between 1 v.last_message_id r.message && rest) e) in
+    leb-true 1 r.message (and_left (leb 1 r.message) (leb r.message v.last_message_id) p)
 
 -- a record is the first of the lots that it has joined
 first_lot_law : (r : Pool) (ls : List LiveLot) → (xs : List Pool) × ((ks : List LiveLot) × (join_lot r ls ≡ record { first = r; rest = xs } ∷ ks))

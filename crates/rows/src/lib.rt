@@ -1,12 +1,15 @@
-// The table of live pools: a record of zeros, records that are zeros, and the live records closed up.
+// The table of live pools: a record of zeros, records that are zeros, what a record adds to its lot's weight, and the live records closed up.
 #![tactic(auto)]
 
 ghost use Rattle.std.specs.Prelude.{◌≡◌, ◌≤◌, eqb, length, take, drop, replicate};
 ghost use Rattle.std.specs.Int.{w64, from_le_bytes, to_le_bytes};
 ghost use Rattle.lists.specs.Lists.{all};
+ghost use Rattle.terminator.specs.Terminators.{millions_most};
+ghost use Rattle.book.specs.Opening.{eleven_digits_max};
 ghost use Rattle.book.specs.Records.{no_pool};
 ghost use Rattle.book.specs.Soundness.{is_none};
 ghost use Rattle.rows.specs.Closed.{unmarked, closed_up};
+ghost use Rattle.rows.specs.Runs.{weight_share};
 ghost use Rattle.rows.specs.Words.{words_of, fields_in};
 
 use book::Pool;
@@ -64,6 +67,7 @@ pub fn words(f: &Matched) -> [u64; 3]
 }
 
 // Every bit that stands in some number or byte of a record.
+#[tactic(auto, using(crate::proofs::WordLaws::bits_none))]
 fn bits(p: &Pool) -> u64
     ensures { eqb result 0 ≡ is_none p.now }
 {
@@ -79,6 +83,7 @@ pub fn is_none(p: &Pool) -> bool
 }
 
 // Whether every record is zeros: their bits are joined, and tested once.
+#[tactic(auto, using(std::proofs::lemmas::Grind::common_steps, crate::proofs::WordLaws::or_zero))]
 fn blank(pools: &[Pool]) -> bool
     ensures { result ≡ all is_none pools.now }
 {
@@ -94,6 +99,20 @@ pub fn blank_from(pools: &[Pool], from: usize) -> bool
     ensures { result ≡ all is_none (drop from pools.now) }
 {
     pools.get(from..).is_none_or(|rest| blank(rest))
+}
+
+// What a record adds to the weight of its lot, given whether it begins the lot.
+pub fn weight_share(p: &Pool, begins: bool) -> u64
+    requires { (p.now.current ≤ eleven_digits_max) × (p.now.millions ≤ millions_most) }
+    ensures { (result ≡ weight_share begins p.now) × (result ≤ eleven_digits_max) }
+{
+    if p.kind != book::KIND_GOOD {
+        p.current
+    } else if begins {
+        p.millions * terminator::MILLION_CENTS
+    } else {
+        0
+    }
 }
 
 // Takes the marked records out of the live ones, and gives the number of those that are left. A record that stays where it is is not copied.

@@ -1,6 +1,6 @@
 -- The pools of a message before anything is stored (01, "The book"): their current faces and terminators, each in an array with zeros after the last pool.
-use Rattle.std.specs.Prelude.{Option, is_some, unwrap_or}
-use Rattle.std.specs.Prelude.{ℕ, ◌+◌, ◌-◌, ◌*◌, ◌/◌, ◌%◌, ◌<◌, ◌≡◌, List, ◌++◌, map, cond, length, get_or, replicate}
+use Rattle.std.specs.Prelude.{Option, unwrap_or}
+use Rattle.std.specs.Prelude.{ℕ, ◌+◌, ◌-◌, ◌*◌, ◌/◌, ◌%◌, ◌<◌, ◌≡◌, List, ◌++◌, map, length, get_or, replicate}
 use Rattle.fields.specs.Fields.{read_number}
 use Rattle.layout.specs.declared.Detail.{Detail}
 use Rattle.layout.specs.Details.{pools_max, pool_count, detail_at, place_of}

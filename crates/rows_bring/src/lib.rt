@@ -43,6 +43,7 @@ fn joined(one: u8, three: u64) -> u64
 }
 
 // A terminator as one number.
+#[tactic(auto, using(crate::proofs::Numbers::three_small), unfolding(crate::specs::Staged::terminator_number))]
 fn terminator_number(d: Detail) -> u64
     ensures { result ≡ terminator_number d }
 {
@@ -52,14 +53,12 @@ fn terminator_number(d: Detail) -> u64
 }
 
 // Stages the pools of a message.
-#[tactic(auto, using(layout::proofs::Lengths::count_max))]
 pub fn stage(body: &[u8]) -> Staged
     ensures { result ≡ staged (details body.now) }
 {
     let mut faces = [0u64; layout::POOLS_MAX];
     let mut terminators = [0u64; layout::POOLS_MAX];
-    for i in 0..layout::pool_count(body) {
-        let pool = layout::pool_at(body, i);
+    for (i, pool) in detail_reader::pools(body).enumerate() {
         faces[i] = terminator::current_cents(pool);
         terminators[i] = terminator_number(pool);
     }
@@ -114,7 +113,7 @@ impl Common {
 }
 
 // Writes the records of a lot, whose pools begin with the given one and whose faces are staged.
-#[tactic(auto, using(layout::proofs::Lengths::count_max))]
+#[tactic(auto, using(layout::proofs::Lengths::count_max, crate::proofs::Pools::written_more), unfolding(crate::specs::Stored::records_from))]
 fn put_lot(
     pools: &mut [Pool],
     body: &[u8],

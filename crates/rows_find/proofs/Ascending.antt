@@ -2,26 +2,24 @@
 use Rattle.std.specs.Prelude.{Option, Some, is_some, unwrap_or}
 use mathlib.Core.Path.{◌≡◌, refl, sym, ap, ◌∙◌}
 use mathlib.Core.List.{List, [], ◌∷◌}
-use mathlib.Core.Bool.{Bool, true, false, not, cond, ◌||◌}
+use mathlib.Core.Bool.{Bool, true, false, not, cond}
 use Prim.Native.Nat.{ℕ, zero, suc, ◌+◌, ◌-◌, ◌≤◌, ◌<◌}
 use native.Mathlib.Numerals.{one-add}
 use native.Mathlib.Omega.{arith}
 use native.Mathlib.Decide.{dec_lt}
 use lib.ListN.{length, get_or, take, drop, length-drop}
 use lib.Seq.{get_or-drop}
-use lib.Dec.{eqb, leb, ltb}
-use borrow.Author.Tests.{leb-true, eqb-true, eqb-false, eq-eqb, ne_eqb, lt-ltb, le-ltb, le-leb}
+use lib.Dec.{eqb, leb}
+use borrow.Author.Tests.{leb-true, eqb-true, eqb-false, eq-eqb, ne_eqb, le-leb}
 use Rattle.std.specs.List.{position_or_len, prefix_len}
-use Rattle.std.proofs.lemmas.List.{get_or_past}
 use Rattle.std.proofs.lemmas.List.Sums.{prefix_len-le-length, prefix_len_passes, fails_before_first}
-use Rattle.lists.specs.Lists.{part, keep, any, all}
+use Rattle.lists.specs.Lists.{part, keep, all}
 use Rattle.lists.proofs.Tests.{and_left, and_right, both, clash, all_out, keep_none}
 use Rattle.fields.proofs.Cases.{number_is_law}
 use Rattle.book.specs.declared.Pool.{Pool}
 use Rattle.book.specs.Records.{no_pool}
-use Rattle.book.specs.Messages.{target_of, under}
+use Rattle.book.specs.Messages.{under}
 use Rattle.book.specs.Soundness.{follows, in_order}
-use Rattle.book.specs.Checks.{first_under, target_trade}
 use Rattle.book.proofs.ListLaws.{all_implied}
 use Rattle.book.proofs.Ordered.{follows_message}
 use Rattle.rows_find.specs.Runs.{run_of}

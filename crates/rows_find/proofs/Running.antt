@@ -1,6 +1,6 @@
 -- The run from its two ends; a target that is no number has no records.
 use Rattle.std.specs.Prelude.{None, Some}
-use mathlib.Core.Path.{◌≡◌, refl, sym, ap, ◌∙◌}
+use mathlib.Core.Path.{◌≡◌, refl, ap, ◌∙◌}
 use mathlib.Core.List.{List, [], ◌∷◌}
 use Prim.Native.Nat.{ℕ, suc, ◌+◌, ◌-◌}
 use native.Mathlib.Numerals.{one-add}
@@ -19,11 +19,9 @@ none_under : (rs : List Pool) → position_or_len (under None) rs ≡ length rs
 none_under [] = refl
 none_under (r ∷ rs) = rw one-add (ap suc (none_under rs))
 
-pub run_none : (rs : List Pool) (live : ℕ) → live ≡ length rs → ◌≡◌ {A = Run} (record { start = live; stop = live }) (run_of None rs)
+pub run_none : (rs : List Pool) → ◌≡◌ {A = Run} (record { start = length rs; stop = length rs }) (run_of None rs)
 unfolding run_of
-run_none rs live e =
-    let d : drop live rs ≡ [] = ap (λ (n : ℕ). drop n rs) e ∙ drop-length rs in
-    rw (none_under rs, sym e, d, add-zero live)
+run_none rs = rw (none_under rs, drop-length rs, add-zero (length rs))
 
 pub run_found : (id : ℕ) (rs : List Pool) (a b : ℕ) → a ≡ position_or_len (λ (p : Pool). eqb p.message id) rs
     → b ≡ prefix_len (λ (p : Pool). eqb p.message id) (take (length rs - a) (drop a rs))

@@ -6,9 +6,8 @@ use Prim.Native.Nat.{ℕ, ◌+◌, ◌-◌, ◌≤◌, ◌<◌}
 use native.Mathlib.Decide.{dec_lt, ℕ_discrete}
 use native.Mathlib.Omega.{arith}
 use lib.ListN.{length, get_or, take, drop, set, replicate}
-use lib.Seq.{length-take-le}
 use Rattle.std.specs.Prelude.{Option, Some, None, is_some}
-use Rattle.std.proofs.lemmas.List.{drop-take, take-take, get_or_default}
+use Rattle.std.proofs.lemmas.List.{get_or_default}
 use Rattle.lists.specs.Lists.{part, tab, keep, any, all}
 use Rattle.lists.proofs.Tables.{table_of_law, take_tab, drop_tab}
 use Rattle.lists.proofs.Tests.{clash, keep_all, keep_none}
@@ -27,7 +26,7 @@ use Rattle.book.proofs.ListLaws.{all_of_map}
 use Rattle.rows_find.specs.declared.Run.{Run}
 use Rattle.rows_find.specs.Runs.{run_of}
 use Rattle.rows_find.specs.Finding.{lists, run_records, stands_in, Finds}
-use Rattle.rows_find.proofs.Ascending.{run_rises, run_within, run_keep}
+use Rattle.rows_find.proofs.Ascending.{run_keep}
 use Rattle.rows_find.proofs.Cells.{Filled, filled_none, filled_more, any_tab_in, any_tab_out, all_kept_in, all_kept_out}
 
 -- ---- what a message lists
@@ -194,33 +193,19 @@ any_both {A} u s (x ∷ xs) = go (u x) (any_both u s xs)
     go true h = ap (λ (c : Bool). s x || c) h
     go false h = h
 
--- a part of the first n stands there whole
-part_within : (ps : List Pool) (n a k : ℕ) → a + k ≤ n → part (take n ps) a k ≡ part ps a k
-unfolding part
-part_within ps n a k h =
-    let e : a + (n - a) ≡ n = omega arith in
-    ap (λ (m : ℕ). take k (drop a (take m ps))) (sym e) ∙ ap (take k) (drop-take a (n - a) ps) ∙ take-take k (n - a) (drop a ps) (omega arith)
-
-module _ (body : List ℕ) (ps : List Pool) (live : ℕ) (l : live ≤ length ps) (o : in_order (take live ps) ≡ true) where
-  abbrev rs : List Pool
-  rs = take live ps
-
+module _ (body : List ℕ) (rs : List Pool) (o : in_order rs ≡ true) where
   abbrev run : Run
   run = run_of (target_of body) rs
 
   -- in an ordered table the records under the target are those of the run
-  pub run_records_law : run_records ps run ≡ keep (under (target_of body)) rs
-  unfolding part
-  run_records_law =
-      let m : run.start + (run.stop - run.start) ≤ live =
-      omega (arith, run_within (target_of body) rs, run_rises (target_of body) rs, length-take-le live ps l) in
-      sym (run_keep (target_of body) rs o ∙ part_within ps live run.start (run.stop - run.start) m)
+  pub run_records_law : run_records rs run ≡ keep (under (target_of body)) rs
+  run_records_law = sym (run_keep (target_of body) rs o)
 
-  stands_live : (f : Fields) → stands_in (run_records ps run) f ≡ any (λ (r : Pool). under (target_of body) r && same_fields (live_fields r) f) rs
+  stands_live : (f : Fields) → stands_in (run_records rs run) f ≡ any (λ (r : Pool). under (target_of body) r && same_fields (live_fields r) f) rs
   stands_live f =
       ap (λ (xs : List Pool). stands_in xs f) run_records_law ∙ sym (any_both (under (target_of body)) (λ (r : Pool). same_fields (live_fields r) f) rs)
 
-  pub found_live : (r : Option (List ℕ)) → Finds body ps run r → is_some r ≡ all_live (target_of body) (listed body) rs
+  pub found_live : (r : Option (List ℕ)) → Finds body rs run r → is_some r ≡ all_live (target_of body) (listed body) rs
   found_live r w =
-      w.found ∙ all_same (stands_in (run_records ps run))
+      w.found ∙ all_same (stands_in (run_records rs run))
       (λ (f : Fields). any (λ (r : Pool). under (target_of body) r && same_fields (live_fields r) f) rs) stands_live (listed body)

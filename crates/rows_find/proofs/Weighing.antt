@@ -2,56 +2,57 @@
 use mathlib.Core.Path.{◌≡◌, refl, sym, ap, ◌∙◌}
 use mathlib.Core.List.{List, [], ◌∷◌}
 use mathlib.Core.Bool.{Bool, true, false, cond, not, ◌&&◌, true≢false}
-use Prim.Native.Nat.{ℕ, suc, ◌+◌, ◌≤◌, ◌<◌}
+use Prim.Native.Nat.{ℕ, suc, ◌+◌, ◌*◌, ◌≤◌, ◌<◌}
 use native.Mathlib.Omega.{arith}
-use lib.ListN.{length, get_or, take, drop}
+use lib.ListN.{length, get_or}
 use lib.Dec.{eqb}
-use lib.Seq.{length-take-le, get_or-take}
 use borrow.Author.Tests.{eq-eqb, ne_eqb}
-use Rattle.std.proofs.lemmas.List.{drop_more, drop_all, get_or_default}
 use Rattle.lists.specs.Lists.{keep}
 use Rattle.book.specs.declared.Pool.{Pool}
+use Rattle.book.specs.Opening.{records_max, eleven_digits_max}
 use Rattle.book.specs.Records.{no_pool}
 use Rattle.rows.specs.Closed.{unmarked}
 use Rattle.rows.specs.Runs.{run_sum, weight_share}
-use Rattle.rows_find.specs.Marks.{marked}
+use Rattle.rows_find.specs.Marks.{marked, Weighable}
 
 marked_nil : (ms : List ℕ) → marked ms [] ≡ []
 marked_nil [] = refl
 marked_nil (m ∷ ms) = refl
 
--- ---- the loop: the sum, with what is left from i on, is the weight
-module _ (ps : List Pool) (ms : List ℕ) (live : ℕ) where
-  abbrev rs : List Pool
-  rs = take live ps
+-- ---- the loop: what is left to weigh, with what was weighed, makes up the weight
+-- a sum of so many faces at most, which with what is left makes up the weight
+pub record Weighed (whole : List Pool) (marks : List ℕ) (rs : List Pool) (ms : List ℕ) (sum message ordinal : ℕ) : Type 0 where
+  pub left : Weighable rs ms
+  pub small : sum + length rs * eleven_digits_max ≤ records_max * eleven_digits_max
+  pub weighed : sum + run_sum weight_share message ordinal (marked ms rs) ≡ run_sum weight_share 0 0 (marked marks whole)
 
-  abbrev left : ℕ → List Pool
-  left i = marked (drop i ms) (drop i rs)
+pub weighed_none : (rs : List Pool) (ms : List ℕ) → Weighable rs ms → Weighed rs ms rs ms 0 0 0
+weighed_none rs ms w = record { left = w; small = omega (arith, w.few); weighed = omega arith }
 
-  abbrev pub Weighed : ℕ → ℕ → ℕ → ℕ → Type 0
-  Weighed sum message ordinal i = sum + run_sum weight_share message ordinal (left i) ≡ run_sum weight_share 0 0 (marked ms rs)
+module _ (whole : List Pool) (marks ms : List ℕ) (sum message ordinal : ℕ) where
+  pub weighed_done : (rs : List Pool) → Weighed whole marks rs ms sum message ordinal → length rs ≡ 0 → sum ≡ run_sum weight_share 0 0 (marked marks whole)
+  weighed_done [] w e = omega (arith, w.weighed, ap (run_sum weight_share message ordinal) (marked_nil ms))
+  weighed_done (r ∷ rs) w e = absurd (omega (arith, e))
 
-  module _ (l : live ≤ length ps) (m : live ≤ length ms) (sum message ordinal i : ℕ) (inv : Weighed sum message ordinal i) where
-    pub weighed_done : live ≤ i → sum ≡ run_sum weight_share 0 0 (marked ms rs)
-    weighed_done h =
-        let none : left i ≡ [] = ap (marked (drop i ms)) (drop_all i rs (omega (arith, length-take-le live ps l, h))) ∙ marked_nil (drop i ms) in
-        omega (arith, inv, ap (run_sum weight_share message ordinal) none)
+module _ (whole : List Pool) (marks : List ℕ) (r : Pool) (rs : List Pool) (m : ℕ) (ms : List ℕ) (sum message ordinal : ℕ) (w : Weighed whole marks (r ∷ rs) (m ∷ ms) sum message ordinal) where
+  rest : Weighable rs ms
+  rest = record {
+    marks = omega (arith, w.left.marks);
+    few = omega (arith, w.left.few);
+    faces = λ (i : ℕ) h. w.left.faces (suc i) (omega (arith, h));
+    millions = λ (i : ℕ) h. w.left.millions (suc i) (omega (arith, h));
+  }
 
-    module _ (h : i < live) where
-      turn : left i ≡ cond (eqb (get_or ms i 0) 0) (left (i + 1)) (get_or ps i no_pool ∷ left (i + 1))
-      turn = rw (drop_more ms i 0 (omega arith), drop_more rs i no_pool (omega (arith, length-take-le live ps l)), get_or-take live ps i no_pool h)
+  pub weighed_skip : m ≡ 0 → Weighed whole marks rs ms sum message ordinal
+  weighed_skip e = record { left = rest; small = omega (arith, w.small); weighed = rw (eq-eqb m 0 e) at w.weighed }
 
-      pub weighed_skip : get_or (take live ms) i 0 ≡ 0 → Weighed sum message ordinal (i + 1)
-      weighed_skip e =
-          let t : left i ≡ left (i + 1) = turn ∙ rw (eq-eqb (get_or ms i 0) 0 (sym (get_or-take live ms i 0 h) ∙ e)) in
-          omega (arith, inv, ap (run_sum weight_share message ordinal) t)
-
-      pub weighed_more : (get_or (take live ms) i 0 ≡ 0 → ⊥) → (d p : Pool) → p ≡ get_or ps i d
-          → (s : ℕ) → s ≡ weight_share (not (eqb p.message message && eqb p.ordinal ordinal)) p → Weighed (sum + s) p.message p.ordinal (i + 1)
-      weighed_more e d p ep s is =
-          let n : eqb (get_or ms i 0) 0 ≡ false = ne_eqb (get_or ms i 0) 0 (λ z. e (get_or-take live ms i 0 h ∙ z)) in
-          let t : left i ≡ p ∷ left (i + 1) = turn ∙ rw (n, ep ∙ get_or_default ps i d no_pool (omega arith)) in
-          omega (arith, inv, ap (run_sum weight_share message ordinal) t, is)
+  pub weighed_more : (m ≡ 0 → ⊥) → (s : ℕ) → s ≡ weight_share (not (eqb r.message message && eqb r.ordinal ordinal)) r → s ≤ eleven_digits_max
+      → Weighed whole marks rs ms (sum + s) r.message r.ordinal
+  weighed_more e s is most = record {
+    left = rest;
+    small = omega (arith, w.small, most);
+    weighed = let v : sum + run_sum weight_share message ordinal (r ∷ marked ms rs) ≡ run_sum weight_share 0 0 (marked marks whole) = rw (ne_eqb m 0 e) at w.weighed in omega (arith, v, is);
+  }
 
 -- ---- marks that tell a test
 module _ (p : Pool → Bool) where

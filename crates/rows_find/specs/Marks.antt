@@ -11,10 +11,9 @@ marked [] rs = []
 marked (m ∷ ms) [] = []
 marked (m ∷ ms) (r ∷ rs) = cond (eqb m 0) (marked ms rs) (r ∷ marked ms rs)
 
--- what the weight of marked records asks: as many records and marks as are live, and faces and millions of a sound table
-pub record Weighable (ps : List Pool) (ms : List ℕ) (live : ℕ) : Type 0 where
-  pub records : live ≤ length ps
-  pub marks : live ≤ length ms
-  pub few : live ≤ records_max
-  pub faces : (i : ℕ) → i < live → (get_or ps i no_pool).current ≤ eleven_digits_max
-  pub millions : (i : ℕ) → i < live → (get_or ps i no_pool).millions ≤ millions_most
+-- what the weight of marked records asks: a mark for each live record, and faces and millions of a sound table
+pub record Weighable (rs : List Pool) (ms : List ℕ) : Type 0 where
+  pub marks : length rs ≤ length ms
+  pub few : length rs ≤ records_max
+  pub faces : (i : ℕ) → i < length rs → (get_or rs i no_pool).current ≤ eleven_digits_max
+  pub millions : (i : ℕ) → i < length rs → (get_or rs i no_pool).millions ≤ millions_most

@@ -1,10 +1,9 @@
 // Where the target's records stand in the table, where each listed pool stands among them, and what marked records weigh.
 #![tactic(auto)]
 
-ghost use Rattle.std.specs.Prelude.{◌≡◌, ◌==◌, ◌≤◌, length, take};
+ghost use Rattle.std.specs.Prelude.{◌≡◌, ◌==◌, ◌≤◌, length};
 ghost use Rattle.std.specs.List.{position_or_len, prefix_len};
 ghost use Rattle.book.specs.Messages.{target_of};
-ghost use Rattle.book.specs.Opening.{eleven_digits_max};
 ghost use Rattle.rows.specs.Runs.{run_sum, weight_share};
 ghost use Rattle.rows_find.specs.Runs.{run_of};
 ghost use Rattle.rows_find.specs.Finding.{lists, Finds};
@@ -38,19 +37,17 @@ fn leading(pools: &[Pool], id: u64) -> usize
 }
 
 // Where the target's records stand among the live ones.
-pub fn target_run(pools: &[Pool], live: usize, body: &[u8]) -> Run
-    requires { live ≤ length pools.now }
-    ensures { result ≡ run_of (target_of body.now) (take live pools.now) }
+pub fn target_run(live: &[Pool], body: &[u8]) -> Run
+    ensures { result ≡ run_of (target_of body.now) live.now }
 {
     match layout::number_in(body, layout::TARGET) {
         None => Run {
-            start: live,
-            stop: live,
+            start: live.len(),
+            stop: live.len(),
         },
         Some(id) => {
-            let records = &pools[..live];
-            let start = ahead(records, id);
-            let stop = start + leading(&records[start..], id);
+            let start = ahead(live, id);
+            let stop = start + leading(&live[start..], id);
             Run { start, stop }
         },
     }
@@ -105,33 +102,18 @@ pub fn find_places(body: &[u8], pools: &[Pool], run: Run) -> Option<[usize; layo
     if found { Some(at) } else { None }
 }
 
-// What a record adds to the weight of its lot, given whether it begins the lot.
-fn weight_share(pool: &Pool, begins: bool) -> u64
-    requires { (pool.now.current ≤ eleven_digits_max) × (pool.now.millions ≤ 99) }
-    ensures { (result ≡ weight_share begins pool.now) × (result ≤ eleven_digits_max) }
-{
-    if pool.kind != book::KIND_GOOD {
-        pool.current
-    } else if begins {
-        pool.millions * terminator::MILLION_CENTS
-    } else {
-        0
-    }
-}
-
 // What the lots of the marked live records weigh, in cents.
-pub fn weight_of_marked(pools: &[Pool], marks: &[u8], live: usize) -> u64
-    requires { Weighable pools.now marks.now live }
-    ensures { result ≡ run_sum weight_share 0 0 (marked marks.now (take live pools.now)) }
+pub fn weight_of_marked(live: &[Pool], marks: &[u8]) -> u64
+    requires { Weighable live.now marks.now }
+    ensures { result ≡ run_sum weight_share 0 0 (marked marks.now live.now) }
 {
     let mut sum = 0;
     let mut message = 0;
     let mut ordinal = 0;
-    for (i, mark) in marks[..live].iter().enumerate() {
+    for (record, mark) in live.iter().zip(marks) {
         if *mark != 0 {
-            let record = &pools[i];
             let begins = !((record.message == message) & (record.ordinal == ordinal));
-            sum += weight_share(record, begins);
+            sum += rows::weight_share(record, begins);
             message = record.message;
             ordinal = record.ordinal;
         }

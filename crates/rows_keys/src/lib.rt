@@ -20,12 +20,11 @@ const SPREAD_MOST: u64 = 536870912;
 const PRIME: u64 = 4294967311;
 
 // Whether matched fields are equal: as three words, without a branch.
+#[tactic(auto, using(rows::proofs::WordLaws::words_same))]
 pub fn same_fields(a: &Matched, b: &Matched) -> bool
     ensures { result ≡ same_fields a.now b.now }
 {
-    let x = rows::words(a);
-    let y = rows::words(b);
-    (x[0] == y[0]) & ((x[1] == y[1]) & (x[2] == y[2]))
+    rows::words(a) == rows::words(b)
 }
 
 // A number whose every bit hangs on every bit of x: the mixing of splitmix64.
@@ -66,7 +65,9 @@ pub struct Spread {
 
 impl Spread {
     // Those of a seed: which they are is nobody's business.
-    pub fn new(seed: u64) -> Spread {
+    pub fn new(seed: u64) -> Spread
+        ensures { Spreads result.numbers }
+    {
         let a = mixed(seed.wrapping_add(11400714819323198485));
         let b = mixed(seed.wrapping_add(4354685564936845354));
         let c = mixed(seed.wrapping_add(15755400384260043839));

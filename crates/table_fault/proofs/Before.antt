@@ -22,7 +22,7 @@ module _ (b : Book) (t : List Pool) (e : None ≡ table_fault b t) where
   hold : (values_fine b.values && after_values) ≡ true
   hold = sym (table_exact b t) ∙ ap is_sound (sym e)
 
-  pub few : b.values.lent.tradeCount ≤ trades_max
+  pub few : b.values.lent.trade_count ≤ trades_max
   few = few_trades b.values (and_left (values_fine b.values) after_values hold)
 
   pub short : length t ≤ records_max

@@ -3,4 +3,4 @@ use Rattle.std.specs.Prelude.{ℕ, ◌+◌, List, Bool, ◌&&◌, length, slice_
 use Rattle.book.specs.declared.Trade.{Trade}
 
 abbrev pub makes_par : List ℕ → ℕ → Trade → Bool
-makes_par weights place t = ltb place (length weights) && eqb (t.openPar + slice_index weights place) t.par
+makes_par weights place t = ltb place (length weights) && eqb (t.open_par + slice_index weights place) t.par

@@ -17,15 +17,14 @@ use fault::Fault;
 fn makes_par(t: &Trade, weights: &[u64], place: u64) -> bool
     ensures { result ≡ makes_par weights.now place t.now }
 {
-    match weights.get(place as usize) {
-        Some(weight) => check_soundness::makes_up(t.openPar, *weight, t.par),
-        None => false,
-    }
+    weights.get(place as usize).is_some_and(|weight| check_soundness::makes_up(
+        t.open_par, *weight, t.par,
+    ))
 }
 
 // 161: the first trade whose open par is not par less what its lots weigh.
 fn pars_fault(values: &Values, live: &[Pool]) -> Option<Fault>
-    requires { (values.now.lent.tradeCount ≤ trades_max) × (length live.now ≤ records_max) × (all (record_fine values.now) live.now ≡ true) × (in_order live.now ≡ true) }
+    requires { (values.now.lent.trade_count ≤ trades_max) × (length live.now ≤ records_max) × (all (record_fine values.now) live.now ≡ true) × (in_order live.now ≡ true) }
     ensures { result ≡ each (par_fault live.now) 0 (trades_of values.now) }
 {
     let weights = check_soundness::weights(live);

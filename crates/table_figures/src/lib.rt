@@ -10,50 +10,36 @@ ghost use Rattle.calls.specs.Calls.{Says};
 use book::{Book, Pool};
 use calls::Figures;
 
-// What a record adds to a trade's standing millions.
-fn share(p: &Pool, trade: u64, begins: bool) -> u64
-    ensures { result ≡ share_of trade millions_share begins p.now }
-{
-    if p.trade == trade && begins {
-        p.millions
-    } else {
-        0
-    }
-}
-
 // The lot millions of a trade's live lots, each lot once.
 fn standing(live: &[Pool], trade: u64) -> u64
     requires { (length live.now ≤ records_max) × Light live.now }
     ensures { result ≡ run_sum (share_of trade millions_share) 0 0 live.now }
 {
     let mut sum = 0;
-    let mut message = 0;
-    let mut ordinal = 0;
+    let mut before = (0, 0);
     for p in live {
-        let begins = !((p.message == message) & (p.ordinal == ordinal));
-        sum += share(p, trade, begins);
-        message = p.message;
-        ordinal = p.ordinal;
+        let lot = (p.message, p.ordinal);
+        if (p.trade == trade) & (lot != before) {
+            sum += p.millions;
+        }
+        before = lot;
     }
     sum
 }
 
 // What a book says of a trade, on any book, table and place of a trade. Only a sound book says anything.
-pub fn table_figures(book: &Book, pools: &[Pool], trade: usize, seed: u64) -> Figures
+#[tactic(auto, unfolding(calls::specs::Figures::figures_of), using(crate::proofs::Sound::live_few, crate::proofs::Sound::short, crate::proofs::Sound::all_light, crate::proofs::Sound::standing))]
+pub fn table_figures(book: &Book, pools: &[Pool], trade: usize, seed: u64) -> Option<Figures>
     ensures { Says book.now pools.now trade result }
 {
     let trades = book.values.opened_trades();
-    if trades.len() <= trade || !check_soundness::is_sound(book, pools, seed) {
-        return Figures {
-            known: false,
-            openPar: 0,
-            millions: 0,
-        };
+    let asked = trades.get(trade)?;
+    if !check_soundness::is_sound(book, pools, seed) {
+        return None;
     }
     let millions = standing(&pools[..book.live], trade as u64);
-    Figures {
-        known: true,
-        openPar: trades[trade].openPar,
+    Some(Figures {
+        open_par: asked.open_par,
         millions,
-    }
+    })
 }

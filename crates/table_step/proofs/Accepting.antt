@@ -51,17 +51,18 @@ use Rattle.check_trader.specs.declared.Decision.{Decision}
 use Rattle.check_trader.specs.Decisions.{Moves, DecidedBy}
 use Rattle.calls.specs.Calls.{Framed}
 use Rattle.table_step.proofs.Answering.{header_there}
-use Rattle.table_step.proofs.Bounds.{left_most, zeros_are}
+use Rattle.book.proofs.Zeros.{zeros_are}
+use Rattle.table_step.proofs.Bounds.{left_most}
 
 -- the trades of values in range are fine
 trades_fine_law : (v : Values) → values_fine v ≡ true → all (trade_fine (holidays_of v)) (trades_of v) ≡ true
 unfolding values_fine
 trades_fine_law v e =
     and_left (all (trade_fine (holidays_of v)) (trades_of v)) _
-    (past (leb v.connection.outbound.0 outbound_max) (past (leb v.lastMessageId eleven_digits_max) (past (limits_fine v.lent.limits)
+    (past (leb v.connection.outbound.0 outbound_max) (past (leb v.last_message_id eleven_digits_max) (past (limits_fine v.lent.limits)
     (past (account_fine v.connection.id)
     (past (account_fine v.lent.subscriber)
-    (past (all is_date (holidays_of v)) (past (leb v.lent.tradeCount trades_max && leb v.lent.holidayCount holidays_max) e)))))))
+    (past (all is_date (holidays_of v)) (past (leb v.lent.trade_count trades_max && leb v.lent.holiday_count holidays_max) e)))))))
   where
     past : (a : Bool) {b : Bool} → (a && b) ≡ true → b ≡ true
     past a {b} h = and_right a b h
@@ -83,7 +84,7 @@ module _ (b : Book) (ps : List Pool) (body : List ℕ) (caller : Caller) (out : 
   abbrev ts : List Trade
   ts = trades_of b.values
 
-  said : answer_of c ≡ Accepted (b.values.lastMessageId + 1)
+  said : answer_of c ≡ Accepted (b.values.last_message_id + 1)
   unfolding answer_of
   said = ap (answer_to c) (sym x.verdict)
 
@@ -100,8 +101,8 @@ module _ (b : Book) (ps : List Pool) (body : List ℕ) (caller : Caller) (out : 
   sure = is_sound_law b ps facts.sound
 
   -- the next ID is a number of eleven digits or one more
-  pub last_few : b.values.lastMessageId ≤ eleven_digits_max
-  last_few = leb-true b.values.lastMessageId eleven_digits_max (last_within b.values sure.values)
+  pub last_few : b.values.last_message_id ≤ eleven_digits_max
+  last_few = leb-true b.values.last_message_id eleven_digits_max (last_within b.values sure.values)
 
   -- the header is there
   pub header_fits : header_width ≤ length body
@@ -117,7 +118,7 @@ module _ (b : Book) (ps : List Pool) (body : List ℕ) (caller : Caller) (out : 
   size = length-take-le b.live ps within
 
   -- ---- the one trade of its lots
-  short : length ts ≤ b.values.lent.tradeCount
+  short : length ts ≤ b.values.lent.trade_count
   short = rw length-take (omega arith)
 
   -- every trade to which a lot is due holds what is due to it (38); a DK brings none
@@ -128,37 +129,37 @@ module _ (b : Book) (ps : List Pool) (body : List ℕ) (caller : Caller) (out : 
       go true e = facts.par_enough e
       go false e = rw (dues_none body ts rs (brought_none body e))
 
-  target_trade_law : any (under (target_of body)) rs ≡ true → target_trade body rs < b.values.lent.tradeCount
+  target_trade_law : any (under (target_of body)) rs ≡ true → target_trade body rs < b.values.lent.trade_count
   unfolding target_trade
   target_trade_law e =
       let f = keep_first (under (target_of body)) rs e in
       let l =
-      ltb-true f.0.trade b.values.lent.tradeCount (and_left (ltb f.0.trade b.values.lent.tradeCount) _ (all_out (record_fine b.values) f.1 sure.records)) in
+      ltb-true f.0.trade b.values.lent.trade_count (and_left (ltb f.0.trade b.values.lent.trade_count) _ (all_out (record_fine b.values) f.1 sure.records)) in
       rw f.3.1 l
 
-  trade_opened : trade_due body ts rs < b.values.lent.tradeCount
+  trade_opened : trade_due body ts rs < b.values.lent.trade_count
   trade_opened = go (type_of body) refl
     where
-      by_par : brings_lots (type_of body) ≡ true → trade_due body ts rs < b.values.lent.tradeCount
+      by_par : brings_lots (type_of body) ≡ true → trade_due body ts rs < b.values.lent.trade_count
       by_par o =
           let (l, (ls, e)) = some_lot (brought body) (brings_some body facts.length_fine facts.formed facts.grouped o) in
           omega (arith, short, held_range ts (taken c) (dues c) fit (due (trade_due body ts rs) l) (dues_first body ts rs l ls e))
 
-      go : (k : MessageType) → type_of body ≡ k → trade_due body ts rs < b.values.lent.tradeCount
+      go : (k : MessageType) → type_of body ≡ k → trade_due body ts rs < b.values.lent.trade_count
       go On e = by_par (ap brings_lots e)
       go Cc e = by_par (ap brings_lots e)
       go Dk e = rw e (target_trade_law (facts.target_live (ap lists_lots e)))
       go Cx e = clash (ap is_cx e) facts.not_cancel
       go Other e = clash (ap is_other e) facts.not_other
 
-  trade_known : d.trade < b.values.lent.tradeCount
+  trade_known : d.trade < b.values.lent.trade_count
   trade_known = rw moves.trade trade_opened
 
   pub trade_few : d.trade < trades_max
   trade_few = omega (arith, trade_known, few_trades b.values sure.values)
 
   there : trade_at ts d.trade ≡ get_or b.values.trades d.trade no_trade
-  there = get_or-take b.values.lent.tradeCount b.values.trades d.trade no_trade trade_known
+  there = get_or-take b.values.lent.trade_count b.values.trades d.trade no_trade trade_known
 
   off_at : trade_weight d.trade (taken c) ≡ d.off
   off_at = moves.off d.trade ∙ rw (eq-eqb d.trade d.trade refl)
@@ -167,8 +168,8 @@ module _ (b : Book) (ps : List Pool) (body : List ℕ) (caller : Caller) (out : 
   brought_at = moves.brought d.trade ∙ rw (eq-eqb d.trade d.trade refl)
 
   -- what comes is no more than what stands open and goes
-  pub par_covers : d.brought ≤ (get_or b.values.trades d.trade no_trade).openPar + d.off
-  par_covers = omega (arith, held_room ts (taken c) (dues c) fit d.trade, off_at, brought_at, ap (λ (t : Trade). t.openPar) there)
+  pub par_covers : d.brought ≤ (get_or b.values.trades d.trade no_trade).open_par + d.off
+  par_covers = omega (arith, held_room ts (taken c) (dues c) fit d.trade, off_at, brought_at, ap (λ (t : Trade). t.open_par) there)
 
   weight_few : trade_weight d.trade (taken c) ≤ records_max * eleven_digits_max
   weight_few =
@@ -178,15 +179,15 @@ module _ (b : Book) (ps : List Pool) (body : List ℕ) (caller : Caller) (out : 
       let l = sum_small d.trade 0 0 (taken c) (light b.values (few_trades b.values sure.values) (taken c) fine_ones) in
       omega (arith, w, l, keep_most taking rs, size, within, few)
 
-  left_few : (trade_at ts d.trade).openPar ≤ eleven_digits_max
+  left_few : (trade_at ts d.trade).open_par ≤ eleven_digits_max
   left_few = go (dec_lt d.trade (length ts))
     where
-      go : Dec (d.trade < length ts) → (trade_at ts d.trade).openPar ≤ eleven_digits_max
+      go : Dec (d.trade < length ts) → (trade_at ts d.trade).open_par ≤ eleven_digits_max
       go (yes h) = left_most (holidays_of b.values) 0 d.trade ts rs sure.pars (trades_fine_law b.values sure.values) h
       go (no n) = rw (past_end ts d.trade (omega (arith, n))) (omega arith)
 
-  pub par_fits : (get_or b.values.trades d.trade no_trade).openPar + d.off ≤ 9000000000000000000
-  par_fits = omega (arith, weight_few, left_few, off_at, ap (λ (t : Trade). t.openPar) there)
+  pub par_fits : (get_or b.values.trades d.trade no_trade).open_par + d.off ≤ 9000000000000000000
+  par_fits = omega (arith, weight_few, left_few, off_at, ap (λ (t : Trade). t.open_par) there)
 
   -- ---- the table
   pub movable : length d.marks ≡ records_max → Movable body ps b.live d.marks
@@ -199,7 +200,7 @@ module _ (b : Book) (ps : List Pool) (body : List ℕ) (caller : Caller) (out : 
       }
 
   abbrev after : List Pool
-  after = remaining body rs ++ bringing body (b.values.lastMessageId + 1) d.trade
+  after = remaining body rs ++ bringing body (b.values.last_message_id + 1) d.trade
 
   live_is : live_moved c ≡ after
   unfolding live_moved dues_by
@@ -210,7 +211,7 @@ module _ (b : Book) (ps : List Pool) (body : List ℕ) (caller : Caller) (out : 
 
   -- ---- all that it leaves
   moved_is : set b.values.trades d.trade
-      (with_open_par (get_or b.values.trades d.trade no_trade) (((get_or b.values.trades d.trade no_trade).openPar + d.off) - d.brought))
+      (with_open_par (get_or b.values.trades d.trade no_trade) (((get_or b.values.trades d.trade no_trade).open_par + d.off) - d.brought))
       ≡ trades_moved c
   unfolding trades_moved
   moved_is = moved_one (taken c) (dues c) d.trade d.off d.brought moves.off moves.brought b.values.trades
@@ -220,10 +221,10 @@ module _ (b : Book) (ps : List Pool) (body : List ℕ) (caller : Caller) (out : 
   filled_is = rw live_is
 
   abbrev counted_as : Book
-  counted_as = with_counters b body (Accepted (b.values.lastMessageId + 1))
+  counted_as = with_counters b body (Accepted (b.values.last_message_id + 1))
 
   pub accepted_frame : (counted : Book) (n : ℕ) (ps' : List Pool) (out' : List ℕ) → counted ≡ counted_as → n ≡ length after → ps' ≡ filled (length ps) after
-      → out' ≡ output_for b body (Accepted (b.values.lastMessageId + 1)) caller out
+      → out' ≡ output_for b body (Accepted (b.values.last_message_id + 1)) caller out
       → Framed b ps body caller out
       (record {
         book =
@@ -233,14 +234,14 @@ module _ (b : Book) (ps : List Pool) (body : List ℕ) (caller : Caller) (out : 
                     trades =
                         set counted.values.trades d.trade
                         (with_open_par (get_or counted.values.trades d.trade no_trade)
-                        (((get_or b.values.trades d.trade no_trade).openPar + d.off) - d.brought));
+                        (((get_or b.values.trades d.trade no_trade).open_par + d.off) - d.brought));
                     lent = counted.values.lent;
-                    lastMessageId = b.values.lastMessageId + 1;
+                    last_message_id = b.values.last_message_id + 1;
                     connection = counted.values.connection;
                   };
               live = n;
             };
-        answer = Accepted (b.values.lastMessageId + 1);
+        answer = Accepted (b.values.last_message_id + 1);
       })
       ps' out'
   unfolding book_after table_after output_after with_counters

@@ -1,4 +1,4 @@
--- Bounds that a sound book gives: its weights and open pars fit their words, and zeros follow the live records.
+-- Bounds that a sound book gives: its weights and open pars fit their words.
 use Prim.Native.Nat.{ℕ, zero, suc, ◌+◌, ◌≤◌, ◌<◌}
 use native.Mathlib.Omega.{arith}
 use mathlib.Core.Path.{◌≡◌, refl, ap, ◌∙◌}
@@ -34,48 +34,12 @@ par_most holidays t e =
 
 pub left_most : (holidays : List ℕ) (i n : ℕ) (ts : List Trade) (rs : List Pool) → pars_from i ts rs ≡ true → all (trade_fine holidays) ts ≡ true
     → n < length ts
-    → (trade_at ts n).openPar ≤ eleven_digits_max
+    → (trade_at ts n).open_par ≤ eleven_digits_max
 left_most holidays i n [] rs p f h = absurd (omega (arith, h))
 left_most holidays i zero (t ∷ ts) rs p f h =
-    let e = eqb-true (t.openPar + trade_weight i rs) t.par (and_left (eqb (t.openPar + trade_weight i rs) t.par) (pars_from (i + 1) ts rs) p) in
+    let e = eqb-true (t.open_par + trade_weight i rs) t.par (and_left (eqb (t.open_par + trade_weight i rs) t.par) (pars_from (i + 1) ts rs) p) in
     let m = par_most holidays t (and_left (trade_fine holidays t) (all (trade_fine holidays) ts) f) in
     omega (arith, e, m)
 left_most holidays i (suc n) (t ∷ ts) rs p f h =
-    left_most holidays (i + 1) n ts rs (and_right (eqb (t.openPar + trade_weight i rs) t.par) (pars_from (i + 1) ts rs) p)
+    left_most holidays (i + 1) n ts rs (and_right (eqb (t.open_par + trade_weight i rs) t.par) (pars_from (i + 1) ts rs) p)
     (and_right (trade_fine holidays t) (all (trade_fine holidays) ts) f) (omega (arith, h))
-
--- zeros are the empty record
-none_is : (r : Pool) → is_none r ≡ true → r ≡ no_pool
-none_is r e =
-    let e₁ = and_right (eqb r.message 0) _ e in
-    let e₂ = and_right (eqb r.ordinal 0) _ e₁ in
-    let e₃ = and_right (eqb r.trade 0) _ e₂ in
-    let e₄ = and_right (same r.matched.lot no_pool.matched.lot) _ e₃ in
-    let e₅ = and_right (same r.matched.pool no_pool.matched.pool) _ e₄ in
-    let e₆ = and_right (same r.matched.original no_pool.matched.original) _ e₅ in
-    let e₇ = and_right (eqb r.current 0) _ e₆ in
-    fields r (eqb-true r.message 0 (and_left (eqb r.message 0) _ e)) (eqb-true r.ordinal 0 (and_left (eqb r.ordinal 0) _ e₁))
-    (eqb-true r.trade 0 (and_left (eqb r.trade 0) _ e₂)) (same_equal r.matched.lot no_pool.matched.lot (and_left (same r.matched.lot no_pool.matched.lot) _ e₃))
-    (same_equal r.matched.pool no_pool.matched.pool (and_left (same r.matched.pool no_pool.matched.pool) _ e₄))
-    (same_equal r.matched.original no_pool.matched.original (and_left (same r.matched.original no_pool.matched.original) _ e₅))
-    (eqb-true r.current 0 (and_left (eqb r.current 0) _ e₆)) (eqb-true r.kind 0 (and_left (eqb r.kind 0) (eqb r.millions 0) e₇))
-    (eqb-true r.millions 0 (and_right (eqb r.kind 0) (eqb r.millions 0) e₇))
-  where
-    fields : (r : Pool) → r.message ≡ 0 → r.ordinal ≡ 0 → r.trade ≡ 0 → r.matched.lot ≡ no_pool.matched.lot → r.matched.pool ≡ no_pool.matched.pool
-        → r.matched.original ≡ no_pool.matched.original → r.current ≡ 0 → r.kind ≡ 0 → r.millions ≡ 0 → r ≡ no_pool
-    fields r a b c d e f g h i =
-        λ j. record {
-          message = a j;
-          ordinal = b j;
-          trade = c j;
-          matched = record { lot = d j; pool = e j; original = f j };
-          current = g j;
-          kind = h j;
-          millions = i j;
-        }
-
-pub zeros_are : (rs : List Pool) (n : ℕ) → length rs ≡ n → all is_none rs ≡ true → rs ≡ replicate n no_pool
-zeros_are [] n l e = ap (λ (k : ℕ). replicate k no_pool) l
-zeros_are (r ∷ rs) n l e =
-    (λ i. none_is r (and_left (is_none r) (all is_none rs) e) i ∷ zeros_are rs (length rs) refl (and_right (is_none r) (all is_none rs) e) i)
-    ∙ ap (λ (k : ℕ). replicate k no_pool) l

@@ -64,9 +64,9 @@ fn accept(
     ensures framed { Framed book pools.old body.now caller out.old result pools.new out.new }
 {
     let number = header::arrived(body);
-    let message = book.values.lastMessageId + 1;
+    let message = book.values.last_message_id + 1;
     let trade = decision.trade;
-    let par = book.values.trades[trade].openPar + decision.off - decision.brought;
+    let par = book.values.trades[trade].open_par + decision.off - decision.brought;
     let answer = Answer::Accepted(message);
     reply::put_reply(&book, body, number, answer, caller, out);
     let mut after = reply::with_counters(book, number, answer);
@@ -78,8 +78,8 @@ fn accept(
         message,
         trade as u64,
     );
-    after.values.lastMessageId = message;
-    after.values.trades[trade].openPar = par;
+    after.values.last_message_id = message;
+    after.values.trades[trade].open_par = par;
     Stepped {
         book: after,
         answer,

@@ -1,4 +1,4 @@
--- The code's form of a terminator, a lot and a CC's groups: what functions hand over, in the words of Terminators, Lots and Groups.
+-- What functions hand over of a lot and of a CC's groups, in the words of Terminators, Lots and Groups.
 use Rattle.std.specs.Prelude.{ℕ, Option, Some, None, ◌+◌, List, [], ◌∷◌, length}
 use Rattle.lists.specs.Lists.{sum_of}
 use Rattle.layout.specs.declared.Detail.{Detail}

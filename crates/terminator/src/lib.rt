@@ -137,13 +137,15 @@ pub fn positions_two_to_four(n: u64) -> Terminator
 }
 
 // What a terminator says after its position one.
-#[tactic(auto, unfolding(crate::specs::Terminators::terminator_of))]
-pub fn terminator_of(terminator: [u8; 4]) -> Terminator
-    ensures { result ≡ terminator_of terminator }
-{
-    match fields::read_number(&terminator, 1, 3) {
-        Some(n) => positions_two_to_four(n),
-        None => Terminator::Wrong,
+impl From<[u8; 4]> for Terminator {
+    ghost from_gives = { λ bytes t. t ≡ terminator_of bytes };
+
+    #[tactic(auto, unfolding(crate::specs::Terminators::terminator_of))]
+    fn from(bytes: [u8; 4]) -> Terminator {
+        match fields::read_number(&bytes, 1, 3) {
+            Some(n) => positions_two_to_four(n),
+            None => Terminator::Wrong,
+        }
     }
 }
 
@@ -181,7 +183,7 @@ pub fn current_cents(d: Detail) -> u64
 pub fn lot_ended(d: Detail, first: usize, last: usize, faces: u64) -> LotHead
     ensures { result ≡ lot_ended d first last faces }
 {
-    let t = terminator_of(d.terminator);
+    let t = Terminator::from(d.terminator);
     LotHead {
         one: d.terminator[0],
         kind: t.kind(),

@@ -1,3 +1,2 @@
 mod Marks
 mod Runs
-pub mod Found

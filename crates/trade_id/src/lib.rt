@@ -32,17 +32,11 @@ fn mark_at(special: &[u8], at: usize) -> bool
 }
 
 // Finds the first "TRID=".
-#[tactic(auto, using(crate::proofs::Marks::turn), unfolding(crate::specs::SpecialInstructions::mark_in))]
 fn find_mark(special: &[u8]) -> Option<usize>
     ensures first { result ≡ mark_in special.now }
     ensures room { IfSome result (λ at. at + length mark ≤ length special.now) }
 {
-    for at in 0..special.len() {
-        if mark_at(special, at) {
-            return Some(at);
-        }
-    }
-    None
+    (0..special.len()).find(|at| mark_at(special, *at))
 }
 
 // How many bytes stand before the first "=" from start on. It looks at no more bytes than the longest ID and its "=".

@@ -7,9 +7,9 @@ use Rattle.check_listed.proofs.alike_pool.Goals as goal
 pub returns-then-is_end : goal.returns-then-is_end
 returns-then-is_end c =
     alike_end c.args.s _ _ _ _ c.ordinal_in-ordinal.ensures c.unwrap_or-begun.ensures _ (c.is_end.ensures
-    ∙ ap is_end c.terminator_of.ensures) c.if-is_end.true _
+    ∙ ap is_end c.from.ensures) c.if-is_end.true _
     c.last_fits.ensures
 
 pub returns-else-is_end : goal.returns-else-is_end
 returns-else-is_end c =
-    alike_on c.args.s _ _ _ _ c.ordinal_in-ordinal.ensures c.unwrap_or-begun.ensures _ (c.is_end.ensures ∙ ap is_end c.terminator_of.ensures) c.if-is_end.false
+    alike_on c.args.s _ _ _ _ c.ordinal_in-ordinal.ensures c.unwrap_or-begun.ensures _ (c.is_end.ensures ∙ ap is_end c.from.ensures) c.if-is_end.false

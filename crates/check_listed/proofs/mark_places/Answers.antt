@@ -1,42 +1,43 @@
--- A listed pool marks its record, another none; at the end all pools are passed.
-use mathlib.Core.Path.{sym, ap, ◌∙◌}
-use mathlib.Core.Bool.{Bool, not, ◌||◌}
-use native.Mathlib.Omega.{arith}
+-- A listed pool marks its record, another none.
+use Rattle.std.proofs.Common.{sym, ap, ◌∙◌, inl, inr, rules, arith, Bool, not, ◌||◌}
+use Rattle.lists.specs.Lists.{fold}
 use lib.ListN.{length-set}
-use Rattle.check_listed.proofs.Passes.{mark_more, mark_pass, mark_done, number_most}
+use Rattle.check_listed.proofs.Passes.{each_cell, none_left, marking_done, number_most}
 use Rattle.check_listed.proofs.mark_places.Goals as goal
 use Rattle.check_listed.proofs.mark_places.Goals.{then-cc-is_canceled, else-cc-is_canceled}
 
-pub loop-i-preserved : goal.loop-i-preserved
-loop-i-preserved c =
+pub loop-d-init : goal.loop-d-init
+loop-d-init c =
+    let z = c.zip-d-items.ensures in
+    record {
+      few = rw (c.into_iter-d-iterator.ensures.into_iter_gives, z.first) (omega (arith, c.pools.ensures.few));
+      size = search rules;
+      fits = rw (c.into_iter-d-iterator.ensures.into_iter_gives, z.first, z.second.0, c.pools.ensures.all) (each_cell _ _ _ c.requires);
+      same = search rules;
+    }
+
+pub loop-d-preserved : goal.loop-d-preserved
+loop-d-preserved c =
     let a = c.args in
-    let l = c.loop-i in
-    let few = number_most a.cc l.lot c.pool_at-d.result in
+    let l = c.loop-d in
+    let s = (c.in-Some.ensures).steps in
+    let i = rw (s.0.0, s.1) at l.invariant in
+    let most = number_most a.cc l.lot c.in-Some.d in
+    let listed = ap (λ (b : Bool). not a.cc || b) (sym c.is_canceled.ensures) in
     elim c.if-cc-is_canceled.branch [
       | then-cc-is_canceled w ↦
-          rw (w.marks-is, w.fine-is)
-          (record {
-            few = omega (arith, l.invariant.few, c.number_after-lot.ensures, few);
-            size = simp length-set l.invariant.size;
-            left =
-                mark_more a.cc a.body.now a.at.now _ a.marks.now l.fine l.marks l.lot l.i l.invariant.left
-                (omega arith) c.pool_count-i-end.ensures _ c.pool_at-d.ensures _
-                c.number_after-lot.ensures (ap (λ (b : Bool). not a.cc || b) (sym c.is_canceled.ensures) ∙ w.if-cc-is_canceled.true);
-          })
+          let same = rw (listed ∙ w.if-cc-is_canceled.true, fold) at i.same in
+          rw (w.marks-is, w.fine-is, c.number_after-lot.ensures)
+          (record { few = omega (arith, i.few, most); size = simp length-set i.size; fits = i.fits.1; same = same })
       | else-cc-is_canceled w ↦
-          rw (w.marks-is, w.fine-is)
-          (record {
-            few = omega (arith, l.invariant.few, c.number_after-lot.ensures, few);
-            size = l.invariant.size;
-            left =
-                mark_pass a.cc a.body.now a.at.now _ a.marks.now l.fine l.marks l.lot l.i l.invariant.left
-                (omega arith) c.pool_count-i-end.ensures _ c.pool_at-d.ensures _
-                c.number_after-lot.ensures (ap (λ (b : Bool). not a.cc || b) (sym c.is_canceled.ensures) ∙ w.if-cc-is_canceled.false);
-          })
+          let same = rw (listed ∙ w.if-cc-is_canceled.false, fold) at i.same in
+          rw (w.marks-is, w.fine-is, c.number_after-lot.ensures) (record { few = omega (arith, i.few, most); size = i.size; fits = i.fits.1; same = same })
     ]
 
 pub returns : goal.returns
 returns c =
-    let a = c.args in
-    let l = c.loop-i in
-    mark_done a.cc a.body.now a.at.now _ a.marks.now l.fine l.marks l.lot l.i l.invariant.left (omega arith) c.pool_count-i-end.ensures
+    let left = none_left _ _ (elim (c.in-None.ensures).steps [
+      | inl s ↦ inl s.1.0.0
+      | inr s ↦ inr s.1.0
+    ]) in
+    λ place h. rw left at c.loop-d.invariant.same ∙ marking_done c.args.cc place _ _ _ c.told-at h

@@ -17,9 +17,9 @@ returns c =
     let v = c.args.values.now in
     let rs = c.args.live.now in
     let p = c.requires in
-    let few : length (take v.lent.tradeCount v.trades) ≤ 64 = omega (arith, length-take v.lent.tradeCount v.trades) in
+    let few : length (take v.lent.trade_count v.trades) ≤ 64 = omega (arith, length-take v.lent.trade_count v.trades) in
     let long : length c.weights.result ≡ 64 = search rules in
     c.all_make_up.ensures
     ∙ ap (λ (ts : List Trade). all makes_up (zip ts c.weights.result)) c.opened_trades.ensures
-    ∙ pars_zip (take v.lent.tradeCount v.trades) c.weights.result rs 0 (omega arith)
+    ∙ pars_zip (take v.lent.trade_count v.trades) c.weights.result rs 0 (omega arith)
     (λ k h. c.weights.ensures k (omega arith) ∙ trade_weight_runs v rs p.3 p.2 k ∙ ap (λ (n : ℕ). trade_weight n rs) (omega arith))

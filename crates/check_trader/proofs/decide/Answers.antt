@@ -2,8 +2,14 @@
 use mathlib.Core.Path.{sym, ◌∙◌}
 use borrow.Author.Rules.{rules}
 use Rattle.book.specs.Checks.{call}
-use Rattle.check_trader.proofs.Deciding.{target_decides, new_decides, moves_decide}
+use Rattle.check_trader.proofs.Deciding.{size, live_few, ordered, target_decides, new_decides, moves_decide}
 use Rattle.check_trader.proofs.decide.Goals as goal
+
+pub slice_bounds-target_trade-end : goal.slice_bounds-target_trade-end
+slice_bounds-target_trade-end c = sym (size c.args.book.now c.args.pools.now c.args.body.now c.requires)
+
+pub target_trade-target-requires : goal.target_trade-target-requires
+target_trade-target-requires c = (live_few c.args.book.now c.args.pools.now c.args.body.now c.requires, ordered c.args.book.now c.args.pools.now c.args.body.now c.requires)
 
 pub decide_moves-requires : goal.decide_moves-requires
 decide_moves-requires c = record { ready = c.requires; target_value = sym (c.target_trade-target.ensures).trade ∙ sym c.unwrap_or.ensures }

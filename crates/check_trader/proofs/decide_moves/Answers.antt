@@ -1,8 +1,12 @@
 -- Each of 37, 38 and 40 that fails gives its reason; where none does, what moves is what the message takes off and brings.
+use mathlib.Core.Path.{sym}
 use native.Mathlib.Omega.{arith}
 use borrow.Author.Rules.{rules}
-use Rattle.check_trader.proofs.Deciding.{within, few, findable, weighable, listed_fails, par_fails, table_fails, all_pass}
+use Rattle.check_trader.proofs.Deciding.{within, few, size, findable, weighable, listed_fails, par_fails, table_fails, all_pass}
 use Rattle.check_trader.proofs.decide_moves.Goals as goal
+
+pub slice_bounds-live-end : goal.slice_bounds-live-end
+slice_bounds-live-end c = sym (size c.args.book.now c.args.pools.now c.args.body.now c.requires.ready)
 
 pub find_listed-requires : goal.find_listed-requires
 find_listed-requires c = findable c.args.book.now c.args.pools.now c.args.body.now c.requires.ready

@@ -1,7 +1,6 @@
 -- The iterator's first frame is the one that is put to the book.
-use Rattle.std.proofs.Common.{rules, ◌≡◌, refl, sym, ap, ◌∙◌, ◌∷◌, arith}
+use Rattle.std.proofs.Common.{rules}
 use Rattle.lists.specs.Lists.{part}
-use Rattle.framing.specs.Following.{left}
 use Rattle.day.proofs.Turning.{begins, accepted_on, refused_on}
 use Rattle.day.proofs.run_day.Goals as goal
 

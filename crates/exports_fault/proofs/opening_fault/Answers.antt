@@ -1,14 +1,10 @@
--- Whether the words lend values, then what these break.
-use Rattle.std.proofs.Common.{◌≡◌, rules}
-use Rattle.fault.specs.Rules.{or_else}
-use Rattle.fault.specs.Faults.{opening_fault}
-use Rattle.image_reading.proofs.Whole.{lent_fine, lent_whole}
-use Rattle.exports_fault.proofs.Telling.{lent_told}
+-- Words that lend nothing break their own rule, others what their values break.
+use Rattle.std.proofs.Common.{sym, ◌∙◌}
+use Rattle.exports_fault.proofs.Telling.{lent_none, lent_some}
 use Rattle.exports_fault.proofs.opening_fault.Goals as goal
 
+pub returns-in_default : goal.returns-in_default
+returns-in_default c = c.tested.ensures ∙ lent_none c.args.image.now c.args.records (sym c.read_lent.ensures ∙ c.in_default.is)
+
 pub returns : goal.returns
-returns c =
-    let ws = c.args.image.now in
-    let read = c.read_lent-read.ensures in
-    let told : c.or_else.result ≡ or_else c.tested.result (opening_fault c.read_lent-read.result.values c.args.records) = search rules in
-    rw (told, c.tested.ensures) (lent_told ws c.args.records _ _ (lent_fine ws _ read) (lent_whole ws _ read))
+returns c = c.opening_fault.ensures ∙ lent_some c.args.image.now c.args.records _ (sym c.read_lent.ensures ∙ c.in-Some.is)

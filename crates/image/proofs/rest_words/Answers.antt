@@ -1,12 +1,16 @@
--- The words of the parts are those of all of a book but its trades.
-use mathlib.Core.Path.{◌∙◌}
-use Rattle.image.proofs.Joining.{rest_made}
+-- The parts of the row, end to end, are the words of all of a book but its trades.
+use Rattle.std.proofs.Common.{refl}
+use Rattle.acknowledgment.proofs.Building.{first, filled}
+use Rattle.image.specs.Images.{rest_image}
+use Rattle.image.proofs.Joining.{more}
 use Rattle.image.proofs.rest_words.Goals as goal
 
 pub returns : goal.returns
+unfolding rest_image
 returns c =
-    let v = c.args.book.values in
-    let good = c.well_formed.0.1.1.0.1.1 in
-    c.rest_row.ensures
-    ∙ rest_made c.args.book _ _ c.account_words-accounts.result c.flag_of-flag.ensures c.last_of-last.ensures good.1.0.1.1.1.0.1.0.1
-    good.1.0.1.1.1.1.1.0.1.0.1 good.1.1.1.0.1.1.0.1.0.1 c.account_words-accounts.ensures
+    let count = first 1 c.put.ensures refl refl in
+    let holidays = more 32 count c.put-2.ensures c.date_words.ensures c.date_words.type_inv.1.0.1 in
+    let days = more 1 holidays c.put-3.ensures refl refl in
+    let subscriber = more 4 days c.put-4.ensures c.words_of.ensures c.words_of.type_inv.1.0.1 in
+    let connection = more 4 subscriber c.put-5.ensures c.words_of-2.ensures c.words_of-2.type_inv.1.0.1 in
+    filled (more 10 connection c.put-6.ensures (rw (c.from.ensures, c.flag_of.ensures, c.last_of.ensures, c.from-2.ensures)) refl) refl

@@ -1,5 +1,5 @@
 -- A slice that is too short has no room for the image. In any other the trades' words and then those of the rest are the image.
-use Rattle.image.proofs.Sized.{too_short}
+use Rattle.image.proofs.Sized.{trades_length, too_short}
 use Rattle.image.proofs.Joining.{image_written}
 use Rattle.image.proofs.write_book.Goals as goal
 
@@ -8,6 +8,6 @@ returns-then-words-lt-BOOK_WORDS c = too_short c.args.book _ c.well_formed.1.0 c
 
 pub returns : goal.returns
 returns c =
-    let p = c.put_trades.ensures in
-    let r = c.rest_words-rest in
-    image_written c.args.book c.args.words.now _ _ _ c.if-words-lt-BOOK_WORDS.false p.0 p.1 r.ensures r.type_inv.1.0.1 c.put_words.ensures
+    let long = trades_length c.args.book _ c.well_formed.1.0 in
+    let rest = c.rest_words in
+    image_written c.args.book c.args.words.now _ _ _ c.if-words-lt-BOOK_WORDS.false c.put_trades.ensures long rest.ensures rest.type_inv.1.0.1 c.put.ensures

@@ -1,14 +1,10 @@
--- The trades so far, and those of the rows that are left, are all of them; past them zeros stand still.
-use mathlib.Core.Path.{◌≡◌}
-use Prim.Native.Nat.{◌≤◌, ◌-◌}
-use lib.ListN.{length, drop, replicate}
-use Rattle.image.specs.Images.{blank}
-use Rattle.image_reading.specs.Reading.{first_trades}
-use Rattle.image_reading.proofs.Filling.{Filling}
+-- The trades so far are those of the words.
+use Rattle.std.proofs.Common.{◌≡◌, ℕ, ◌<◌, length, get_or}
+use Rattle.image.specs.Images.{row_in, count_in, trade_in, blank}
 use Rattle.image_reading.proofs.read_trades.Given as goal
 
 abbrev pub invariant-loop-i : goal.invariant-loop-i
-invariant-loop-i l = (l.i ≤ l.n) × (length l.trades ≡ 64) × Filling (first_trades l.words l.n) l.trades l.i × (drop l.i l.trades ≡ replicate (64 - l.i) blank)
-
-abbrev pub decreases-loop-i : goal.decreases-loop-i
-decreases-loop-i l = l.n - l.i
+invariant-loop-i l = record {
+  long : length l.t-items ≡ 64;
+  read : (k : ℕ) → k < l.i → get_or l.t-items k blank ≡ trade_in (row_in l.words (count_in l.words) k);
+}

@@ -12,7 +12,8 @@ sum-requires-clause-fits c =
     let left = ap lots_left c.filter.ensures.source ∙ ap (lots_after 0 0) c.lots_of.ensures.all in
     fits_by_from_yields_list sum_weight (new_sums (details c.args.body.now)) c.map.result _
     (YieldsList-from_map _ sum_weight
-    (YieldsList-at c.map.ensures.source (YieldsList-from_filter _ (λ s. s.new) (YieldsList-from_first (λ x. x) lots_left _ left) c.filter.ensures.closure (λ x r q k. search rules)))
+    (YieldsList-at c.map.ensures.source
+    (YieldsList-from_filter _ (λ s. s.new) (YieldsList-from_first (λ x. x) lots_left _ left) c.filter.ensures.closure (λ x r q k. search rules)))
     c.map.ensures.closure (λ x r q k. search rules))
     (weights_fit c.args.body.now)
 
@@ -21,6 +22,7 @@ returns c =
     let left = ap lots_left c.filter.ensures.source ∙ ap (lots_after 0 0) c.lots_of.ensures.all in
     sum_by_from_yields_List sum_weight (new_sums (details c.args.body.now)) c.map.result _ c.sum.ensures.ran
     (YieldsList-from_map _ sum_weight
-    (YieldsList-at c.map.ensures.source (YieldsList-from_filter _ (λ s. s.new) (YieldsList-from_first (λ x. x) lots_left _ left) c.filter.ensures.closure (λ x r q k. search rules)))
+    (YieldsList-at c.map.ensures.source
+    (YieldsList-from_filter _ (λ s. s.new) (YieldsList-from_first (λ x. x) lots_left _ left) c.filter.ensures.closure (λ x r q k. search rules)))
     c.map.ensures.closure (λ x r q k. search rules))
     ∙ weights_are (details c.args.body.now)

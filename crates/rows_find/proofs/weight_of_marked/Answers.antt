@@ -1,40 +1,22 @@
--- A marked record adds its share; another adds nothing.
-use mathlib.Core.Path.{refl}
-use native.Mathlib.Omega.{arith}
-use lib.Seq.{length-take-le}
+-- A marked record adds its share; another adds nothing; where either list is at its end nothing is left.
+use Rattle.std.proofs.Common.{arith, inl, inr}
 use Rattle.rows_find.proofs.Weighing.{weighed_more, weighed_skip, weighed_done}
 use Rattle.rows_find.proofs.weight_of_marked.Goals as goal
-use Rattle.rows_find.proofs.weight_of_marked.Goals.{then-mark-ne0, else-mark-ne0}
 
-pub loop-i-preserved : goal.loop-i-preserved
-loop-i-preserved c =
-    let a = c.args in
-    let l = c.loop-i in
-    let q = c.requires in
-    elim c.if-mark-ne0.branch [
-      | then-mark-ne0 w ↦
-          rw (w.sum-is, w.message-is, w.ordinal-is)
-          (record {
-            small = omega (arith, l.invariant.small, w.weight_share-sum.ensures.1);
-            weighed =
-                weighed_more a.pools.now a.marks.now a.live q.records q.marks l.sum l.message l.ordinal l.i l.invariant.weighed
-                (omega (arith, length-take-le a.live a.marks.now q.marks, c.loop-i-test.true))
-                w.if-mark-ne0.true _ _ refl _ w.weight_share-sum.ensures.0;
-          })
-      | else-mark-ne0 w ↦ rw (w.sum-is, w.message-is, w.ordinal-is)
-          (record {
-            small = omega (arith, l.invariant.small);
-            weighed =
-                weighed_skip a.pools.now a.marks.now a.live q.records q.marks l.sum l.message l.ordinal l.i l.invariant.weighed
-                (omega (arith, length-take-le a.live a.marks.now q.marks, c.loop-i-test.true))
-                w.if-mark-ne0.false;
-          })
-    ]
+pub loop-record-preserved-then-mark-ne0 : goal.loop-record-preserved-then-mark-ne0
+loop-record-preserved-then-mark-ne0 c =
+    let s = (c.in-Some.ensures).steps in
+    weighed_more _ _ _ _ _ _ _ _ _ (rw (s.0, s.1) at c.loop-record.invariant) c.if-mark-ne0.true _ c.weight_share-sum.ensures.0 c.weight_share-sum.ensures.1
+
+pub loop-record-preserved : goal.loop-record-preserved
+loop-record-preserved c =
+    let s = (c.in-Some.ensures).steps in
+    weighed_skip _ _ _ _ _ _ _ _ _ (rw (s.0, s.1) at c.loop-record.invariant) c.if-mark-ne0.false
 
 pub returns : goal.returns
 returns c =
-    let a = c.args in
-    let l = c.loop-i in
-    let q = c.requires in
-    weighed_done a.pools.now a.marks.now a.live q.records q.marks l.sum l.message l.ordinal l.i l.invariant.weighed
-    (omega (arith, length-take-le a.live a.marks.now q.marks, c.loop-i-test.false))
+    let w = c.loop-record.invariant in
+    weighed_done _ _ _ _ _ _ _ w (elim (c.in-None.ensures).steps [
+      | inl s ↦ s.1.0
+      | inr s ↦ omega (arith, s.1.0, w.left.marks)
+    ])

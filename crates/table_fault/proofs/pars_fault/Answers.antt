@@ -14,7 +14,7 @@ returns c =
     let rs = c.args.live.now in
     let p = c.requires in
     let long : length c.weights-weights.result ≡ 64 = search rules in
-    let few : length (take v.lent.tradeCount v.trades) ≤ 64 = omega (arith, length-take v.lent.tradeCount v.trades) in
+    let few : length (take v.lent.trade_count v.trades) ≤ 64 = omega (arith, length-take v.lent.trade_count v.trades) in
     walked
     ∙ rw c.opened_trades.ensures
     (pars_by_place c.weights-weights.result rs (λ k h. c.weights-weights.ensures k (omega arith) ∙ trade_weight_runs v rs p.3 p.2 k) 0 (trades_of v) (omega arith))
