@@ -34,15 +34,6 @@ fn products() -> Numbers {
     text("rhoikandra/rhoikandra.h").lines().filter_map(product).collect()
 }
 
-/// The header's numbers that are written as one numeral, by their names without the library's.
-fn numerals() -> Numbers {
-    let numeral = |line: &str| {
-        let (name, number) = line.strip_prefix("#define RHOIKANDRA_")?.split_once(' ')?;
-        Some((name.to_string(), number.parse().ok()?))
-    };
-    text("rhoikandra/rhoikandra.h").lines().filter_map(numeral).collect()
-}
-
 /// The engine's constants: the places of words, and the sizes of what a book holds.
 fn engine() -> Numbers {
     let crates = ["book", "trade_id", "acknowledgment", "tally", "image", "layout"];
@@ -74,59 +65,6 @@ fn the_header_has_the_engines_table() {
     // The stack is measured, and no number of the engine's.
     assert!(products.remove("STACK_BYTES").is_some());
     hold("rhoikandra.h", &products, &[("RECORDS_MAX", &["RECORDS_MAX"])]);
-}
-
-/// The words of a book and where each value stands among them, the length of an output, and the rows of a tally.
-#[test]
-fn the_header_has_the_engines_places() {
-    hold(
-        "rhoikandra.h",
-        &numerals(),
-        &[
-            ("BOOK_WORDS", &["BOOK_WORDS"]),
-            ("TRADE_WORDS", &["TRADE_WORDS"]),
-            ("TRADE_LENGTH", &["LENGTH"]),
-            ("TRADE_SELLER", &["SELLER"]),
-            ("TRADE_BUYER", &["BUYER"]),
-            ("TRADE_CONTRA", &["CONTRA"]),
-            ("TRADE_CUSIP", &["CUSIP"]),
-            ("TRADE_SETTLEMENT", &["SETTLEMENT"]),
-            ("TRADE_PRICE", &["PRICE"]),
-            ("TRADE_PAR", &["PAR"]),
-            ("TRADE_OPEN_PAR", &["OPEN_PAR"]),
-            ("COUNT", &["REST", "TRADE_COUNT"]),
-            ("HOLIDAYS", &["REST", "HOLIDAYS"]),
-            ("DAYS", &["REST", "HOLIDAY_COUNT"]),
-            ("SUBSCRIBER", &["REST", "SUBSCRIBER"]),
-            ("CONNECTION", &["REST", "CONNECTION"]),
-            ("LIMITS", &["REST", "CEILING"]),
-            ("LAST", &["REST", "LAST_MESSAGE_ID"]),
-            ("OUTBOUND", &["REST", "OUTBOUND"]),
-            ("LIVE", &["REST", "LIVE"]),
-            ("OUTPUT_LENGTH", &["TX_LENGTH", "AA_LENGTH"]),
-            ("TALLY_ROWS", &["TYPES"]),
-        ],
-    );
-}
-
-/// What the wrapper knows of words and outputs.
-#[test]
-fn the_wrapper_has_the_engines_places() {
-    hold(
-        "the wrapper",
-        &constants("rhoikandra/src/lib.rs"),
-        &[("OUTPUT_LENGTH", &["TX_LENGTH", "AA_LENGTH"]), ("BOOK_WORDS", &["BOOK_WORDS"])],
-    );
-    hold(
-        "the wrapper's opening",
-        &constants("rhoikandra/src/opening.rs"),
-        &[
-            ("TRADES_MAX", &["TRADES_MAX"]),
-            ("TRADE_WORDS", &["TRADE_WORDS"]),
-            ("HOLIDAYS_MAX", &["HOLIDAYS_MAX"]),
-            ("ID_MAX", &["ID_LENGTH_MAX"]),
-        ],
-    );
 }
 
 #[test]
