@@ -24,8 +24,8 @@
 extern "C" {
 #endif
 
-/* The stack of a thread that calls: rhoikandra_step takes 90 KiB of it at most, rhoikandra_open 70, rhoikandra_book_fault 45,
-   rhoikandra_figures 40, rhoikandra_opening_fault 30 and the others under 1; the rest is for the thread itself and for whoever calls. */
+/* The stack of a thread that calls: rhoikandra_step takes 90 KiB of it at most, rhoikandra_book_fault 45, rhoikandra_open 41,
+   rhoikandra_figures 40, rhoikandra_opening_fault 27 and the others under 1; the rest is for the thread itself and for whoever calls. */
 #define RHOIKANDRA_STACK_BYTES (128 * 1024)
 
 /* A book is kept as words: 42 for each of 64 trades (ID 16, its length, seller 4, buyer 4, contra 4, CUSIP 9, settlement, price,
@@ -62,8 +62,8 @@ extern "C" {
 
 /* A record of the table: the message ID that brought the pool, its lot's ordinal there, its trade, the matched fields as bytes, its
    current face in cents, its lot's kind (1 good, 2 odd, 3 bad) and millions. A record that is not used is zeros. spare is no part of
-   a record: no call reads it; an accepted opening clears it, and where it is zeros a frame call leaves zeros, so that memory can be saved
-   as it lies. */
+   a record: no call reads it; an accepted opening clears it, and no frame call moves it (an accepted ON leaves zeros in the records that
+   it stores, a CC or DK in all that were live too), so that memory can be saved as it lies. */
 typedef struct {
     uint64_t message;
     uint64_t ordinal;

@@ -73,3 +73,39 @@ fn spare_bytes() {
     assert_eq!(refused.open(), Err(41));
     assert!(refused.pools.iter().all(|pool| *pool == spent && pool.spare == spent.spare));
 }
+
+/// Where a client filled them, a frame call moves none of them with a record: an accepted ON leaves zeros in the records that it
+/// stores, an accepted CC or DK in all that were live too, and every frame leaves the others as they were.
+#[test]
+fn spare_bytes_that_a_client_filled() {
+    let opening = kept_day::opening();
+    let mut book = opening.open(8).unwrap();
+
+    let lot = kept_day::lot;
+    let on = Message::on(&opening, 0).number(GDMM, 2);
+    let on = on.pool(&lot(b"AA00001", b"0001")).pool(&lot(b"AA00002", b"0001"));
+    let cc = Message::cc(&opening, 0).number(TARGET, 1).number(NUMBER_OF_POOLS, 1);
+    let cc = cc.pool(&lot(b"AA00001", b"6001")).pool(&lot(b"AA00003", b"7001"));
+    let dk = Message::dk(&opening, 0).number(TARGET, 2).number(REASON, 1);
+    let dk = dk.pool(&lot(b"AA00003", b"0001"));
+    // The CC moves the pool that stays to the front and stores the new one behind it; the DK leaves that pool there, and the second
+    // DK finds nothing.
+    let calls = [
+        (on, Answer::Accepted(1), 0..2),
+        (cc, Answer::Accepted(2), 0..2),
+        (dk.clone(), Answer::Accepted(3), 0..2),
+        (dk, Answer::Rejected(30), 0..0),
+    ];
+    for (sequence, (message, answer, written)) in (1..).zip(calls) {
+        let filled = |place: usize| [place as u8 + 1; 2];
+        for (place, pool) in book.raw_mut().pools.iter_mut().enumerate() {
+            pool.spare = filled(place);
+        }
+        let body = message.number(SEQUENCE, sequence).body();
+        assert_eq!(book.step(&body, b"093000").answer, answer);
+        for (place, pool) in book.raw().pools.iter().enumerate() {
+            let expected = if written.contains(&place) { [0; 2] } else { filled(place) };
+            assert_eq!(pool.spare, expected, "record {place} after {answer:?}");
+        }
+    }
+}

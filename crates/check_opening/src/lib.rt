@@ -38,6 +38,8 @@ pub const VARIANCE_MAX: u64 = 1000000;
 
 pub const POOLS_A_MILLION_MAX: u64 = 250;
 
+pub const CUSIP_LENGTH: usize = 9;
+
 // Over the ten digits, and small enough that the mark of 16 bytes fits.
 const MARK_BASE: u64 = 13;
 
@@ -216,16 +218,10 @@ fn at_par(t: Trade) -> Trade
 pub fn opened_book(v: Values) -> Book
     ensures { result ≡ opened v }
 {
-    let connection = Connection {
-        line: Line::start(),
-        ..v.connection
-    };
-    Book {
-        values: Values {
-            trades: v.trades.map(at_par),
-            connection,
-            ..v
-        },
-        live: 0,
+    let mut values = v;
+    for t in values.trades.iter_mut() {
+        *t = at_par(*t);
     }
+    values.connection.line = Line::start();
+    Book { values, live: 0 }
 }

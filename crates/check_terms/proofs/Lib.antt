@@ -1,2 +1,3 @@
 pub mod Agreeing
+mod Columns
 pub mod Searching

@@ -1,8 +1,9 @@
 // Trades' terms: whether a message's agree with them, which trade an ID names and where an ON goes, and checks 31 and 32.
 #![tactic(auto)]
 
-ghost use Rattle.std.specs.Prelude.{◌≡◌, ◌&&◌, cond, ℕ, leb};
-ghost use Rattle.lists.specs.Lists.{any};
+ghost use Rattle.std.specs.Prelude.{◌≡◌, ◌≤◌, ◌&&◌, cond, ℕ, leb, length};
+ghost use Rattle.lists.specs.Lists.{any, same};
+ghost use Rattle.layout.specs.Columns.{bytes_in};
 ghost use Rattle.book.specs.declared.Trade.{Trade};
 ghost use Rattle.book.specs.Trades.{trades_of, side_of, number_is, price_is, agrees, first_trade, brought_weight, open_pars, is_named_by, trade_of_on};
 ghost use Rattle.check_terms.specs.Reading.{stated_of};
@@ -14,6 +15,7 @@ ghost use Rattle.book.specs.Messages.{id_in};
 ghost use Rattle.book.specs.Checks.{named_trade, id_fails, terms_fail};
 
 use book::{Reason, Trade, Values, Verdict};
+use layout::Column;
 use message_type::MessageType;
 use trade_id::TradeId;
 
@@ -58,6 +60,15 @@ fn read_terms(body: &[u8]) -> Stated
     }
 }
 
+// Whether a column holds these bytes, of which there are as many as it is wide.
+#[tactic(auto, using(crate::proofs::Columns::column_same))]
+fn column_is(body: &[u8], column: Column, bytes: &[u8]) -> bool
+    requires { (length bytes.now ≡ column.width) × (1 ≤ column.width) }
+    ensures { result ≡ same (bytes_in body.now column) bytes.now }
+{
+    fields::same_part(body, column.at, bytes, 0, column.width)
+}
+
 // Whether a message's terms agree with a trade's, by what it states.
 #[tactic(auto, unfolding(book::specs::Trades::agrees), using(crate::proofs::Agreeing::last_fail, crate::proofs::Agreeing::last_pass))]
 fn agrees_as(body: &[u8], s: Stated, t: &Trade) -> bool
@@ -67,9 +78,8 @@ fn agrees_as(body: &[u8], s: Stated, t: &Trade) -> bool
     if !(number_is(s.settlement, t.settlement) & price_is(s.price, t.price)) {
         return false;
     }
-    layout::column_is(body, layout::SUBMITTER, side_of(s.message, t))
-        & (layout::column_is(body, layout::CONTRA, &t.contra)
-            & layout::column_is(body, layout::CUSIP, &t.cusip))
+    column_is(body, layout::SUBMITTER, side_of(s.message, t))
+        & (column_is(body, layout::CONTRA, &t.contra) & column_is(body, layout::CUSIP, &t.cusip))
 }
 
 // Whether a message's terms agree with a trade's.

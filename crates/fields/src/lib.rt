@@ -12,6 +12,8 @@ pub const BLANK: u8 = b' ';
 
 pub const ZERO: u8 = b'0';
 
+pub const NINE: u8 = b'9';
+
 pub const VISIBLE_FIRST: u8 = 33;
 
 pub const VISIBLE_LAST: u8 = 126;

@@ -3,7 +3,7 @@ use Prim.Native.Nat.{ℕ, ◌+◌, ◌-◌, ◌≤◌}
 use native.Mathlib.Omega.{arith}
 use mathlib.Core.Path.{◌≡◌, refl, sym, ap, ◌∙◌}
 use mathlib.Core.List.{List, [], ◌++◌, map, append_assoc}
-use mathlib.Core.Bool.{true, not, and-false, false≢true}
+use mathlib.Core.Bool.{true, false, not, and-false, false≢true}
 use lib.ListN.{length, take, drop, replicate, take-append-drop, length-append, length-drop, length-replicate}
 use lib.Seq.{length-take-le, take_at, drop-append_seam, drop-drop}
 use borrow.Author.Tests.{leb-true}
@@ -56,6 +56,10 @@ module _ (c : Call) where
       (ap (λ (rs : List Pool). rs ++ new)
       (keep_all (λ (r : Pool). not (is_taken (target_of c.body) [] r)) (live c) (λ r i. ap not (and-false (under (target_of c.body) r)))))
 
+  pub refused_table : accepted c ≡ false → table_after c ≡ c.table
+  unfolding table_after
+  refused_table e = rw e
+
   module _ (ok : accepted c ≡ true) where
     sound : Sound c.book c.table
     sound = is_sound_law c.book c.table (fine c ok).sound
@@ -76,6 +80,9 @@ module _ (c : Call) where
     pub live_after : (book_after c).live ≡ count
     unfolding book_after
     live_after = rw ok
+
+    pub after_within : (book_after c).live ≤ length c.table
+    after_within = omega (arith, live_after, fits)
 
     pub length_after : length (table_after c) ≡ length c.table
     length_after =

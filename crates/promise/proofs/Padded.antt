@@ -1,6 +1,6 @@
 -- A call on a table with zeros after its first records is the call on those records alone, with the zeros after them, where they have room for what the message
 -- can bring; and a question for a trade's figures gives the same. So a table may be longer than a book needs.
-use Prim.Native.Nat.{ℕ, ◌+◌, ◌-◌, ◌/◌, ◌≤◌}
+use Prim.Native.Nat.{ℕ, ◌+◌, ◌-◌, ◌/◌, ◌≤◌, ◌<◌}
 use native.Mathlib.Omega.{arith}
 use native.Mathlib.Nat.{le-div_iff_mul-le, div-mul-le_self}
 use mathlib.Core.Logic.{◌⊎◌, inl, inr}
@@ -9,9 +9,9 @@ use mathlib.Core.List.{List, ◌++◌, append_assoc}
 use mathlib.Core.Bool.{Bool, true, false, cond, not, ◌&&◌}
 use lib.ListN.{length, take, drop, replicate, take-append-drop, length-drop, replicate-append-replicate}
 use lib.Seq.{length-take-le, take_all, take-take, drop-append-le}
-use borrow.Author.Tests.{le-leb}
+use borrow.Author.Tests.{le-leb, leb-true}
 use Rattle.lists.specs.Lists.{all}
-use Rattle.lists.proofs.Tests.{all_append}
+use Rattle.lists.proofs.Tests.{all_append, all_right, clash, un_true}
 use Rattle.layout.specs.Columns.{header_width, detail_width}
 use Rattle.layout.specs.Details.{pools, length_fits, pool_count, details}
 use Rattle.layout.proofs.Reader.{length_details}
@@ -21,7 +21,7 @@ use Rattle.book.specs.declared.Pool.{Pool}
 use Rattle.book.specs.Records.{no_pool}
 use Rattle.book.specs.Opening.{records_max}
 use Rattle.book.specs.Messages.{listed}
-use Rattle.book.specs.Soundness.{live_of, is_none, held_in, is_sound}
+use Rattle.book.specs.Soundness.{live_of, is_none, held_in, Sound, is_sound}
 use Rattle.book.specs.Checks.{Call, call, table_fine, soundness_checks, sender_checks, terms_checks, moves_checks, checks, answer_of, Asked}
 use Rattle.book.specs.Step.{live_moved, table_moved, accepted, book_after, table_after, output_after}
 use Rattle.book.proofs.ListLaws.{length_keep}
@@ -86,6 +86,18 @@ module _ (b : Book) (t : List Pool) (m n : ℕ) (p : Padded b t m n) where
             same_live,
             zeros_same (omega arith),
           )
+
+-- ---- tables that 42 refuses
+module _ (b : Book) (t : List Pool) where
+  not_sound : (Sound b t → ⊥) → is_sound b t ≡ false
+  not_sound n = un_true (is_sound b t) (λ e. n (is_sound_law b t e))
+
+  pub too_long : records_max < length t → is_sound b t ≡ false
+  too_long h = not_sound (λ s. omega (arith, leb-true (length t) records_max s.table_short))
+
+  -- something other than zeros after the first m records, of which the live ones are some
+  pub not_zeros : (m : ℕ) → b.live ≤ m → m ≤ length t → all is_none (drop m t) ≡ false → is_sound b t ≡ false
+  not_zeros m h l e = not_sound (λ s. clash (all_right is_none (drop b.live (take m t)) (drop m t) (sym (ap (all is_none) (rest_parts b.live m t h l)) ∙ s.zeros)) e)
 
 -- ---- a frame call
 -- a message brings at most as many pools as it has room for

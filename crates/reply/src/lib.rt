@@ -17,8 +17,22 @@ fn acknowledge(body: &[u8], answer: Answer, caller: Caller) -> Acknowledged
     requires { header_width ≤ length body.now }
     ensures { result ≡ acknowledged body.now answer caller }
 {
-    let internal = layout::bytes_at(body, layout::INTERNAL_ID.at);
-    let original = layout::bytes_at(body, layout::SEQUENCE.at);
+    let mut internal = [0; layout::INTERNAL_ID.width];
+    let mut original = [0; layout::SEQUENCE.width];
+    output::put_part(
+        &mut internal,
+        0,
+        body,
+        layout::INTERNAL_ID.at,
+        layout::INTERNAL_ID.width,
+    );
+    output::put_part(
+        &mut original,
+        0,
+        body,
+        layout::SEQUENCE.at,
+        layout::SEQUENCE.width,
+    );
     let time = caller.time;
     Acknowledged {
         internal,

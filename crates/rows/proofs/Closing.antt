@@ -2,7 +2,7 @@
 use Rattle.std.proofs.Common.{◌≡◌, ◌≢◌, ℕ, zero, suc, ◌+◌, ◌-◌, ◌<◌, ◌≤◌, Bool, true, false, cond, eqb, List, [], ◌∷◌, ◌++◌, length, get_or, take, drop, set, replicate, sym, refl, ap, ◌∙◌, arith, eq-eqb, ne_eqb, add-one, append-nil}
 use Rattle.std.proofs.lemmas.List.{get_or_default}
 use borrow.Rule.Slice.PartMut.{put_mid}
-use lib.Seq.{drop-set-lt, take-suc-set, take-suc, length-take-le, drop-drop, get_or-drop}
+use lib.Seq.{drop-set-lt, take-suc-set, length-take-le, drop-drop, get_or-drop}
 use Rattle.book.specs.declared.Pool.{Pool}
 use Rattle.book.specs.Records.{no_pool}
 use Rattle.rows.specs.Closed.{unmarked, closed_up}
@@ -59,24 +59,14 @@ module _ (ms : List ℕ) (t₀ : List Pool) where
           rest = next t refl;
         }
 
-    -- the record is moved to the place after those that were kept
-    pub closing_moved : (u : List Pool) (d : Pool) → w < r → u ≡ set t w (get_or t r d) → get_or ms r 0 ≡ 0 → Closing u (r + 1) (w + 1)
-    closing_moved u d k q e =
+    -- the record is put into the place after those that were kept
+    pub closing_moved : (u : List Pool) (d : Pool) → u ≡ set t w (get_or t r d) → get_or ms r 0 ≡ 0 → Closing u (r + 1) (w + 1)
+    closing_moved u d q e =
         let p : u ≡ set t w (get_or t r no_pool) = q ∙ ap (set t w) (get_or_default t r d no_pool (omega arith)) in
         record {
-          within = omega arith;
-          kept = ap (take (w + 1)) p ∙ ap (λ (k : ℕ). take k (set t w (get_or t r no_pool))) (add-one w) ∙ take-suc-set t w (get_or t r no_pool) (omega arith) ∙ sym (more ∙ rw (eq-eqb (get_or ms r 0) 0 e));
-          rest = next u (rw p (drop-set-lt (r + 1) t w (get_or t r no_pool) (omega arith)));
-        }
-
-    -- or it stands there
-    pub closing_stays : (u : List Pool) → r ≤ w → u ≡ t → get_or ms r 0 ≡ 0 → Closing u (r + 1) (w + 1)
-    closing_stays u k q e =
-        let s : r ≡ w = omega (arith, inv.within) in
-        record {
-          within = omega arith;
-          kept = ap (take (w + 1)) q ∙ ap (λ (k : ℕ). take k t) (add-one w) ∙ take-suc t w no_pool (omega arith) ∙ ap (λ (i : ℕ). take w t ++ (get_or t i no_pool ∷ [])) (sym s) ∙ sym (more ∙ rw (eq-eqb (get_or ms r 0) 0 e));
-          rest = next u (ap (drop (r + 1)) q);
+          within = omega (arith, inv.within);
+          kept = ap (take (w + 1)) p ∙ ap (λ (k : ℕ). take k (set t w (get_or t r no_pool))) (add-one w) ∙ take-suc-set t w (get_or t r no_pool) (omega (arith, inv.within)) ∙ sym (more ∙ rw (eq-eqb (get_or ms r 0) 0 e));
+          rest = next u (rw p (drop-set-lt (r + 1) t w (get_or t r no_pool) (omega (arith, inv.within))));
         }
 
   pub closed : (t : List Pool) (live w : ℕ) (zs : List Pool) → Closing t live w → w ≤ length t → zs ≡ replicate (live - w) no_pool

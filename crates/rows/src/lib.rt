@@ -115,7 +115,21 @@ pub fn weight_share(p: &Pool, begins: bool) -> u64
     }
 }
 
-// Takes the marked records out of the live ones, and gives the number of those that are left. A record that stays where it is is not copied.
+// Puts a record into the place of another: its fields, into a record of zeros. What the layout leaves after the matched fields does not go with them.
+pub fn put(place: &mut Pool, p: &Pool)
+    ensures { place.new ≡ p.now }
+{
+    *place = none();
+    place.message = p.message;
+    place.ordinal = p.ordinal;
+    place.trade = p.trade;
+    place.matched = p.matched;
+    place.current = p.current;
+    place.kind = p.kind;
+    place.millions = p.millions;
+}
+
+// Takes the marked records out of the live ones, and gives the number of those that are left.
 pub fn close_up(pools: &mut [Pool], live: usize, marks: &[u8]) -> usize
     requires { (live ≤ length pools.old) × (live ≤ length marks.now) }
     ensures { (result ≡ length (unmarked marks.now (take live pools.old))) × (pools.new ≡ closed_up marks.now live pools.old) }
@@ -124,9 +138,8 @@ pub fn close_up(pools: &mut [Pool], live: usize, marks: &[u8]) -> usize
     for (i, mark) in marks[..live].iter().enumerate() {
         let marked = *mark != 0;
         if !marked {
-            if kept < i {
-                pools[kept] = pools[i];
-            }
+            let p = pools[i];
+            put(&mut pools[kept], &p);
             kept += 1;
         }
     }

@@ -59,7 +59,7 @@ fn shares(x: u64, y: u64, word: u64) -> u64
 // The six numbers that matched fields are spread by.
 #[derive(Clone, Copy)]
 pub struct Spread {
-    numbers: [u64; 6],
+    pub numbers: [u64; 6],
     pub ghost small: { Spreads numbers },
 }
 

@@ -1,9 +1,9 @@
 -- A record with no mark is kept, behind those that were.
-use Rattle.std.proofs.Common.{◌<◌, ◌≡◌, take, get_or, length, rules, ◌∙◌, sym}
+use Rattle.std.proofs.Common.{◌<◌, ◌≡◌, take, get_or, set, length, rules, ap, ◌∙◌, sym}
 use lib.Seq.{get_or-take}
-use Rattle.rows.proofs.Closing.{closing_none, closing_gone, closing_moved, closing_stays, closed}
+use Rattle.rows.proofs.Closing.{closing_none, closing_gone, closing_moved, closed}
 use Rattle.rows.proofs.close_up.Goals as goal
-use Rattle.rows.proofs.close_up.Goals.{then-not-marked, then-kept-i, else-kept-i, else-not-marked}
+use Rattle.rows.proofs.close_up.Goals.{then-not-marked, else-not-marked}
 
 pub loop-i-init : goal.loop-i-init
 loop-i-init c = closing_none _ _
@@ -19,12 +19,8 @@ loop-i-preserved c =
     let k : l.i < length c.args.pools.now = search rules in
     elim c.if-not-marked.branch [
       | then-not-marked w ↦
-          let z = sym same ∙ w.if-not-marked.true in
           rw w.kept-is
-          (elim w.if-kept-i.branch [
-            | then-kept-i v ↦ closing_moved ms ps l.pools l.i l.kept l.invariant h k l.auto.pools _ _ v.if-kept-i.true (w.pools-is ∙ v.pools-is) z
-            | else-kept-i v ↦ closing_stays ms ps l.pools l.i l.kept l.invariant h k l.auto.pools _ v.if-kept-i.false (w.pools-is ∙ v.pools-is) z
-          ])
+          (closing_moved ms ps l.pools l.i l.kept l.invariant h k l.auto.pools _ _ (w.pools-is ∙ ap (set l.pools l.kept) w.put.ensures) (sym same ∙ w.if-not-marked.true))
       | else-not-marked w ↦ rw (w.kept-is, w.pools-is) (closing_gone ms ps l.pools l.i l.kept l.invariant h k l.auto.pools (search rules))
     ]
 
